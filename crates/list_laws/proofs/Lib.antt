@@ -1,0 +1,9 @@
+-- The laws.
+pub mod BoolLaws
+pub mod SignedLaws
+pub mod ProductLaws
+pub mod BelowLaws
+pub mod FirstLaws
+pub mod FillLaws
+pub mod PatchLaws
+pub mod PartLaws

@@ -1,0 +1,4 @@
+-- The definitions.
+pub mod Lists
+pub mod Patch
+pub mod Signed
