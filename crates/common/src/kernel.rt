@@ -9,7 +9,7 @@ ghost use Rattle.list_laws.specs.Lists.{at};
 ghost use Rattle.list_laws.specs.Signed.{eqZ, isNat, isBelow, isBetween, within, remEuclid};
 ghost use Rattle.ieee_laws.specs.Magnitude.{absolute};
 ghost use Rattle.common.specs.Matrix.{isLatticeEntry, isLatticeRow, isLattice, isVector, rowTimes, matvecOf};
-ghost use Rattle.common.specs.Mesh.{meshOf};
+ghost use Rattle.common.specs.Mesh.{meshOf, countOf, MeshWithin};
 use crate::Mesh;
 
 // ---- signed numbers
@@ -143,6 +143,14 @@ pub fn mesh_of(d_diag: [i64; 3]) -> Mesh
         d1: mesh_number(d_diag, 1),
         d2: mesh_number(d_diag, 2),
     }
+}
+
+// N, the product of the mesh numbers.
+pub fn mesh_count(m: Mesh) -> usize
+    requires { ⌜ MeshWithin 256 m ⌝ }
+    ensures { λ r. ⌜ r ≡ countOf m ⌝ }
+{
+    m.d2 * (m.d0 * m.d1)
 }
 
 // ---- floats
