@@ -1,2 +1,3 @@
 -- The laws.
 pub mod DiagonalLaws
+pub mod WholeDiagonalLaws

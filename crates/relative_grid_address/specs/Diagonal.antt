@@ -18,6 +18,7 @@ mainDiagonals =
 
 -- `norm_squared`: the sum of the three squares, added from the left, each operation rounded once
 unfoldable pub normSquared : List Float → Float
+unfolding add mul
 normSquared a =
     add binary64
     (add binary64 (mul binary64 (getD a 0 nan) (getD a 0 nan)) (mul binary64 (getD a 1 nan) (getD a 1 nan)))
@@ -25,11 +26,12 @@ normSquared a =
 
 -- the squared length of main diagonal i in the lattice
 unfoldable pub lengthOf : List (List Float) → ℕ → Float
-unfolding mainDiagonals
+unfolding normSquared matvecOf mainDiagonals
 lengthOf a i = normSquared (matvecOf a (getD mainDiagonals i []))
 
 -- of the lengths 0, 1, .., n the least, the first on a tie: a later one is taken only where it is less
 unfoldable pub leastUpTo : (ℕ → Float) → ℕ → ℕ
+unfolding lt
 leastUpTo length zero = 0
 leastUpTo length (suc n) = pick (lt (length (suc n)) (length (leastUpTo length n))) (suc n) (leastUpTo length n)
 

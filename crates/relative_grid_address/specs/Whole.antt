@@ -34,8 +34,8 @@ squaredLength l k = (square (c 0) + square (c 1)) + square (c 2)
     c : ℕ → ℤ
     c i = component l (getD mainDiagonals k []) i
 
--- k is the first of the shortest of four: none is shorter, and each before it is longer
-pub record FirstShortest (length : ℕ → ℕ) (k : ℕ) : Type 0 where
-  pub one-of-four : k < 4
-  pub shortest : (j : ℕ) → j < 4 → length k ≤ length j
+-- of the first `count` lengths, k is the first of the shortest: none is shorter, and each before it is longer
+pub record FirstShortest (count : ℕ) (length : ℕ → ℕ) (k : ℕ) : Type 0 where
+  pub counted : k < count
+  pub shortest : (j : ℕ) → j < count → length k ≤ length j
   pub first : (j : ℕ) → j < k → length k < length j

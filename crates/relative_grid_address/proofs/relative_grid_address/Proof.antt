@@ -1,3 +1,4 @@
+-- Question 2, and then the table of the diagonal that is picked. Assumes nothing.
 use mathlib.Core.Path.{_≡_, refl}
 use Rattle.list_laws.proofs.BoolLaws.{yes-of, no-of}
 use Rattle.relative_grid_address.specs.Answer.{tableAnswer}
@@ -5,35 +6,24 @@ use Rattle.relative_grid_address.proofs.DiagonalLaws.{main-diagonal-lt}
 use borrow.Author.Needs.{needs}
 use Rattle.relative_grid_address.proofs.relative_grid_address.Statement.{statement}
 use Rattle.relative_grid_address.proofs.relative_grid_address.Tie as tie
-use Rattle.relative_grid_address.proofs.relative_grid_address.Reads as reads
-use Rattle.relative_grid_address.proofs.relative_grid_address.Lts as lts
-use Rattle.common.proofs.kernel.lattice_ok.Reads as lattice-ok-reads
-use Rattle.relative_grid_address.proofs.diagonal.get_main_diagonal.Reads as get-main-diagonal-reads
-use Rattle.tetrahedron_tables.proofs.kernel.copy_table.Reads as copy-table-reads
 
--- src/lib.rt:19:9
 lattice-ok-requires : tie.Need-lattice-ok-requires
 lattice-ok-requires c κs = search needs
 
--- src/lib.rt:20:9
 returns : tie.Need-returns
 unfolding tableAnswer
 returns c = rw (no-of (c .before .lattice-ok .ensures) (c .if1 .taken))
 
--- src/lib.rt:26:9
 get-main-diagonal-requires : tie.Need-get-main-diagonal-requires
 get-main-diagonal-requires c κs = search needs
 
--- src/lib.rt:27:51
 slice-aggregate-copy-table : tie.Need-slice-aggregate-copy-table
 slice-aggregate-copy-table c = search needs
 
--- src/lib.rt:27:5
 copy-table-requires : tie.Need-copy-table-requires
 copy-table-requires c κs =
     (rw (c .before .get-main-diagonal .ensures) (main-diagonal-lt (c .before .before .before .before .args .rec-lattice)), refl)
 
--- src/lib.rt:15:1
 returns-2 : tie.Need-returns-2
 unfolding tableAnswer
 returns-2 c =

@@ -1,3 +1,4 @@
+-- The loop fills one table after another. Assumes nothing.
 use mathlib.Core.Path.{_≡_, refl, sym, _∙_, ap}
 use Prim.Native.Nat.{_+_, _-_, _*_, _≤_}
 use native.Mathlib.Omega.{arith}
@@ -9,56 +10,43 @@ use Rattle.tetrahedron_tables.specs.Tables.{tableOf, flat}
 use Rattle.relative_grid_address.specs.Answer.{allTables}
 use Rattle.relative_grid_address.proofs.diagonal.copy_all.Statement.{statement}
 use Rattle.relative_grid_address.proofs.diagonal.copy_all.Tie as tie
-use Rattle.relative_grid_address.proofs.diagonal.copy_all.Reads as reads
-use Rattle.relative_grid_address.proofs.diagonal.copy_all.Lts as lts
-use Rattle.tetrahedron_tables.proofs.kernel.copy_table.Reads as copy-table-reads
 
 abbrev Inv-loop : tie.InvT-loop
-Inv-loop out₀ t₀ start₀ out t start = 
+Inv-loop out₀ t₀ start₀ out t start =
     (t ≤ 4) × (length out ≡ 1152) × (start ≡ t * 288) × (take start out ≡ rows t (λ i. flat (tableOf i)))
 
 abbrev μ-loop : tie.MeasureT-loop
 μ-loop out₀ t₀ start₀ out t start = 4 - t
 
--- src/diagonal.rt:55:5
 loop-holds : tie.Need-loop-holds Inv-loop μ-loop
 loop-holds c = (omega arith, c .pre, refl, rows-none _ (c .args .out .now))
 
--- src/diagonal.rt:56:19
 add-end : tie.Need-add-end Inv-loop μ-loop
 add-end c = omega arith
 
--- src/diagonal.rt:57:51
 mul-copy-table : tie.Need-mul-copy-table Inv-loop μ-loop
 mul-copy-table c = omega arith
 
--- src/diagonal.rt:57:51
 sub-copy-table : tie.Need-sub-copy-table Inv-loop μ-loop
 sub-copy-table c = omega arith
 
--- src/diagonal.rt:57:51
 part-copy-table-start : tie.Need-part-copy-table-start Inv-loop μ-loop
 part-copy-table-start c = omega arith
 
--- src/diagonal.rt:57:51
 part-copy-table-end : tie.Need-part-copy-table-end Inv-loop μ-loop
 part-copy-table-end c = omega arith
 
--- src/diagonal.rt:57:9
 copy-table-requires : tie.Need-copy-table-requires Inv-loop μ-loop
 copy-table-requires c κs = (omega arith, part-length (c .before .before .loop .out) (c .before .before .loop .start) 288 (omega arith))
 
--- src/diagonal.rt:59:9
 add-t : tie.Need-add-t Inv-loop μ-loop
 add-t c = omega arith
 
--- src/diagonal.rt:55:5
 loop-less : tie.Need-loop-less Inv-loop μ-loop
 loop-less c = omega arith
 
--- src/diagonal.rt:55:5
 loop-again : tie.Need-loop-again Inv-loop μ-loop
-loop-again c = 
+loop-again c =
     let l : _ = c .before .before .before .before .loop in
     let f : _ = c .before .copy-table in (
       omega arith,
@@ -67,11 +55,9 @@ loop-again c =
       rows-next _ (l .out) (f .last .1 .0) (l .start) 288 (l .t) (omega arith) (f .kept .1 .0 ∙ part-length (l .out) (l .start) 288 (omega arith)) (l .inv .3) (f .ensures),
     )
 
--- src/diagonal.rt:49:1
 same-length : tie.Need-same-length Inv-loop μ-loop
 same-length c = c .before .loop .inv .1 ∙ sym (c .before .before .pre)
 
--- src/diagonal.rt:49:1
 returns : tie.Need-returns Inv-loop μ-loop
 unfolding allTables
 returns c = rows-end _ (c .before .loop .out) (c .before .loop .start) (c .before .loop .t) 4 (c .before .loop .inv .3) (omega arith) (omega arith)

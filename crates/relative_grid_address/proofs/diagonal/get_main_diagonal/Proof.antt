@@ -1,3 +1,4 @@
+-- The loop keeps the least of the lengths passed and its number, the first on a tie. Assumes nothing.
 use mathlib.Core.Path.{_≡_, refl, sym, _∙_, ap}
 use mathlib.Core.Logic.{⊎-elim}
 use Prim.Native.Nat.{_-_, _≤_}
@@ -6,61 +7,51 @@ use Rattle.relative_grid_address.specs.Diagonal.{lengthOf, leastUpTo, ma
 use Rattle.relative_grid_address.proofs.DiagonalLaws.{least-none, least-take, least-keep}
 use Rattle.relative_grid_address.proofs.diagonal.get_main_diagonal.Statement.{statement}
 use Rattle.relative_grid_address.proofs.diagonal.get_main_diagonal.Tie as tie
-use Rattle.relative_grid_address.proofs.diagonal.get_main_diagonal.Reads as reads
-use Rattle.relative_grid_address.proofs.diagonal.get_main_diagonal.Lts as lts
-use Rattle.relative_grid_address.proofs.diagonal.length_of.Reads as length-of-reads
 
 abbrev Inv-loop : tie.InvT-loop
-Inv-loop rec-lattice shortest₀ min-length₀ i₀ shortest min-length i = 
+Inv-loop rec-lattice shortest₀ min-length₀ i₀ shortest min-length i =
     (1 ≤ i) × (i ≤ 4) × (shortest ≡ leastUpTo (lengthOf rec-lattice) (i - 1)) × (min-length ≡ lengthOf rec-lattice shortest)
 
 abbrev μ-loop : tie.MeasureT-loop
 μ-loop rec-lattice shortest₀ min-length₀ i₀ shortest min-length i = 4 - i
 
--- src/diagonal.rt:37:9
 length-of-requires : tie.Need-length-of-requires Inv-loop μ-loop
 length-of-requires c κs = omega arith
 
--- src/diagonal.rt:38:5
 loop-holds : tie.Need-loop-holds Inv-loop μ-loop
 loop-holds c = (omega arith, omega arith, least-none (lengthOf (c .before .args .rec-lattice)), c .length-of .ensures)
 
--- src/diagonal.rt:39:13
 length-of-requires-2 : tie.Need-length-of-requires-2 Inv-loop μ-loop
 length-of-requires-2 c κs = omega arith
 
--- src/diagonal.rt:38:9
 add-i : tie.Need-add-i Inv-loop μ-loop
 add-i c = omega arith
 
--- src/diagonal.rt:38:5
 loop-less : tie.Need-loop-less Inv-loop μ-loop
 loop-less c = omega arith
 
--- src/diagonal.rt:38:5
 loop-again : tie.Need-loop-again Inv-loop μ-loop
-loop-again c = 
+loop-again c =
     let l : _ = c .before .before .before .loop in
     let a : _ = c .before .before .before .before .before .args .rec-lattice in
     ⊎-elim
     (λ w. (
-        omega arith,
-        omega arith,
-        w .1 ∙ least-take (lengthOf a) (l .i) (l .shortest) (l .inv .0) (l .inv .2) (rw (c .before .length-of2 .ensures, l .inv .3) at (w .0 .taken)),
-        w .2 ∙ c .before .length-of2 .ensures ∙ ap (lengthOf a) (sym (w .1)),
-      ))
+      omega arith,
+      omega arith,
+      w .1 ∙ least-take (lengthOf a) (l .i) (l .shortest) (l .inv .0) (l .inv .2) (rw (c .before .length-of2 .ensures, l .inv .3) at (w .0 .taken)),
+      w .2 ∙ c .before .length-of2 .ensures ∙ ap (lengthOf a) (sym (w .1)),
+    ))
     (λ w. (
-        omega arith,
-        omega arith,
-        w .1 ∙ least-keep (lengthOf a) (l .i) (l .shortest) (l .inv .0) (l .inv .2) (rw (c .before .length-of2 .ensures, l .inv .3) at (w .0 .left)),
-        w .2 ∙ l .inv .3 ∙ ap (lengthOf a) (sym (w .1)),
-      ))
+      omega arith,
+      omega arith,
+      w .1 ∙ least-keep (lengthOf a) (l .i) (l .shortest) (l .inv .0) (l .inv .2) (rw (c .before .length-of2 .ensures, l .inv .3) at (w .0 .left)),
+      w .2 ∙ l .inv .3 ∙ ap (lengthOf a) (sym (w .1)),
+    ))
     (c .if1 .came)
 
--- src/diagonal.rt:33:1
 returns : tie.Need-returns Inv-loop μ-loop
 unfolding mainDiagonalOf
-returns c = 
+returns c =
     let e : c .before .loop .i - 1 ≡ 3 = omega arith in
     c .before .loop .inv .2 ∙ ap (leastUpTo (lengthOf (c .before .before .before .args .rec-lattice))) e
 
