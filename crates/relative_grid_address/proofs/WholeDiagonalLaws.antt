@@ -1,7 +1,7 @@
 -- A lattice of whole entries up to 2^20 in magnitude: the four float lengths are the exact whole squares, and the main diagonal that is picked is the truly shortest, the first on a tie. Assumes nothing.
-use mathlib.Core.Path.{_≡_, refl, sym, ap, _∙_, subst}
-use mathlib.Core.Bool.{Bool, true, false, _&&_}
-use mathlib.Core.List.{List, [], _∷_}
+use mathlib.Core.Path.{_≡_, refl, ap}
+use mathlib.Core.Bool.{true, false, _&&_}
+use mathlib.Core.List.{[], _∷_}
 use mathlib.Core.Logic.{_⊎_, ⊎-elim}
 use Prim.Native.Nat.{ℕ, zero, suc, _+_, _*_, _^_, _≤_, _<_}
 use native.Mathlib.Omega.{arith}
@@ -10,8 +10,7 @@ use borrow.Author.Tests.{lt-ltb, le-ltb}
 use lib.Dec.{ltb}
 use lib.IntN.{ℤ, pos, negsuc, natAbs, _+ℤ_, _*ℤ_}
 use lib.ListN.{getD}
-use lib.Ieee.{Float, Format, binary64, prec, fin, ofBits, ofInt, add, mul, lt}
-use lib.Ieee.Exact.{HasValue}
+use lib.Ieee.{Float, binary64, prec, fin, ofBits, ofInt, add, mul, lt}
 use Rattle.list_laws.specs.Lists.{at}
 use Rattle.list_laws.specs.Patch.{pick}
 use Rattle.list_laws.proofs.BoolLaws.{lt-or-le, lt-eq-gt, and-both}
@@ -21,7 +20,6 @@ use Rattle.ieee_laws.proofs.WholeLaws.{whole-of, whole-mul, whole-add, whole-lt
 use Rattle.common.specs.Matrix.{rowTimes, matvecOf, isLattice, isLatticeRow, isLatticeEntry}
 use Rattle.relative_grid_address.specs.Diagonal.{mainDiagonals, normSquared, lengthOf, leastUpTo, mainDiagonalOf}
 use Rattle.relative_grid_address.specs.Answer.{tableAnswer}
-use Rattle.relative_grid_address.specs.declared.TableAnswer.{TableAnswer}
 use Rattle.relative_grid_address.specs.Whole.{UpTo20, floats, component, squaredLength, square, FirstShortest}
 
 three : (x y z : ℤ) → natAbs x ≡ 1 → natAbs y ≡ 1 → natAbs z ≡ 1 → (j : ℕ) → j < 3 → natAbs (at (x ∷ y ∷ z ∷ []) j) ≡ 1

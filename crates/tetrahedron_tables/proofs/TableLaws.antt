@@ -1,10 +1,9 @@
 -- The rule of the tables: corner 0 of each row is 0, 0, 0 and the other three span determinant 1 or -1. It is one test that is computed over all rows. And a table as one flat list. Assumes nothing.
-use mathlib.Core.Path.{_≡_, refl, sym}
-use mathlib.Core.Bool.{Bool, true, false, _&&_}
-use mathlib.Core.List.{List, [], _∷_, flatten}
+use mathlib.Core.Path.{_≡_, refl}
+use mathlib.Core.Bool.{true}
+use mathlib.Core.List.{[], flatten}
 use Prim.Native.Nat.{ℕ, zero, suc, _<_, _/_, _%_}
-use lib.ListN.{length, getD}
-use lib.IntN.{ℤ}
+use lib.ListN.{getD}
 use Rattle.list_laws.specs.Lists.{allBelow, tabulate}
 use Rattle.list_laws.proofs.BelowLaws.{below-at}
 use Rattle.tetrahedron_tables.specs.Tables.{table0, table1, table2, table3, tableOf, component, flat, rowOk, det}

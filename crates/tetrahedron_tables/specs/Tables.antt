@@ -1,5 +1,5 @@
 -- The neighbour tables of the tetrahedron method, one for each main diagonal: 24 rows (tetrahedra) by four corners of three whole numbers, in the source's row and corner order, and the rule that they keep.
-use mathlib.Core.Bool.{Bool, true, _&&_, _||_}
+use mathlib.Core.Bool.{Bool, _&&_, _||_}
 use mathlib.Core.List.{List, [], _∷_, flatten}
 use Prim.Native.Nat.{ℕ, zero, suc}
 use lib.IntN.{ℤ, pos, negsuc, _+ℤ_, _-ℤ_, _*ℤ_}

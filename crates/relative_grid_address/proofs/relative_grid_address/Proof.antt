@@ -1,5 +1,5 @@
 -- Question 2, and then the table of the diagonal that is picked. Assumes nothing.
-use mathlib.Core.Path.{_≡_, refl}
+use mathlib.Core.Path.{refl}
 use Rattle.list_laws.proofs.BoolLaws.{yes-of, no-of}
 use Rattle.relative_grid_address.specs.Answer.{tableAnswer}
 use Rattle.relative_grid_address.proofs.DiagonalLaws.{main-diagonal-lt}

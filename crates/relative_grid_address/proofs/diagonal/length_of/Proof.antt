@@ -1,6 +1,5 @@
 -- A main diagonal is a small vector, so its product may be made. Assumes nothing.
-use mathlib.Core.Path.{_≡_}
-use Rattle.relative_grid_address.specs.Diagonal.{normSquared, lengthOf}
+use Rattle.relative_grid_address.specs.Diagonal.{lengthOf}
 use Rattle.relative_grid_address.proofs.DiagonalLaws.{diagonal-small}
 use borrow.Author.Needs.{needs}
 use Rattle.relative_grid_address.proofs.diagonal.length_of.Statement.{statement}

@@ -1,9 +1,7 @@
 -- Entry i of a table written flat: its row, corner and component. Assumes nothing.
-use mathlib.Core.Path.{_≡_, _∙_}
+use mathlib.Core.Path.{_∙_}
 use native.Mathlib.Omega.{arith}
-use lib.Signed.{mag}
 use mir.Syntax.{w8, w64}
-use mir.Val.{SFits}
 use mir.ValLaws.{toZ-ofZ}
 use borrow.Author.Needs.{needs}
 use Rattle.tetrahedron_tables.proofs.kernel.number.Statement.{statement}
