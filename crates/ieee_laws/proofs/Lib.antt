@@ -1,2 +1,4 @@
 -- The laws.
 pub mod MagnitudeLaws
+pub mod NanLaws
+pub mod OrderLaws
