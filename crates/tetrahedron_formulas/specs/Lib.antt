@@ -1,0 +1,5 @@
+-- The definitions.
+pub mod Binary64
+pub mod Fraction
+pub mod Density
+pub mod States
