@@ -1,2 +1,3 @@
 -- The laws.
+pub mod ChoiceLaws
 pub mod FractionLaws

@@ -3,3 +3,4 @@ pub mod Binary64
 pub mod Fraction
 pub mod Density
 pub mod States
+pub mod Choice

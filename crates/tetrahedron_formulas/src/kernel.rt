@@ -2,6 +2,7 @@
 ghost use mathlib.Core.Path.{_≡_};
 ghost use Rattle.tetrahedron_formulas.specs.Fraction.{isSmall, fraction, guarded};
 
+pub mod choice;
 pub mod density;
 pub mod states;
 
