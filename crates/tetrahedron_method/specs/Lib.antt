@@ -1,0 +1,3 @@
+-- The definitions.
+pub mod Weight
+pub mod Sorted
