@@ -1,4 +1,5 @@
 -- The laws.
 pub mod MagnitudeLaws
+pub mod CastLaws
 pub mod NanLaws
 pub mod OrderLaws
