@@ -1,6 +1,6 @@
 -- What the test x != x tells of x: it holds of a NaN alone. Assumes nothing.
 use mathlib.Core.Path.{_≡_, refl, sym, _∙_, subst}
-use mathlib.Core.Bool.{Bool, true, false, true≢false}
+use mathlib.Core.Bool.{true, false, true≢false}
 use lib.Dec.{T}
 use lib.Ieee.{Float, nan, inf, fin, ne, isNan}
 use lib.Ieee.Compare.{differs-from-itself, nan-differs}

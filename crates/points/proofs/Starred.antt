@@ -1,5 +1,5 @@
 -- Every starred point holds of the definitions: antt computes each. Assumes nothing.
-use mathlib.Core.Path.{_≡_, refl}
+use mathlib.Core.Path.{refl}
 use lib.Ieee.{ofBits, ofInt, lt, eq, le, ne, add, sub, mul, div}
 use Rattle.ieee_laws.specs.Magnitude.{absolute}
 use Rattle.list_laws.specs.Lists.{allBelow}

@@ -1,7 +1,6 @@
 -- Question 11: the ranges of frequencies, of frequency points and of vertices.
 use mathlib.Core.Bool.{Bool, _&&_, _||_}
 use mathlib.Core.List.{List}
-use Prim.Native.Nat.{ℕ}
 use lib.Ieee.{Float, nan, binary64, ofBits, eq, le}
 use lib.ListN.{getD, length}
 use Rattle.ieee_laws.specs.Magnitude.{absolute}

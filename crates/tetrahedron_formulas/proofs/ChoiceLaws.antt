@@ -1,5 +1,5 @@
 -- What the last arm of a match on a place picks, and the shares of a vertex where omega is outside its tetrahedron. Assumes nothing.
-use mathlib.Core.Path.{_≡_, refl, sym, ap}
+use mathlib.Core.Path.{_≡_, refl, ap}
 use mathlib.Core.List.{List}
 use Prim.Native.Nat.{ℕ, zero, suc}
 use lib.Ieee.{Float, ofBits, mul}

@@ -1,7 +1,7 @@
 -- A sorted row by its four values, and what a row adds: never a NaN. Assumes nothing.
-use mathlib.Core.Path.{_≡_, refl, sym, _∙_}
+use mathlib.Core.Path.{_≡_, refl}
 use mathlib.Core.Bool.{Bool, true, false, cond}
-use mathlib.Core.List.{List, [], _∷_}
+use mathlib.Core.List.{List}
 use lib.ListN.{getD}
 use lib.Ieee.{Float, nan, ne, isNan, ofBits}
 use Rattle.ieee_laws.proofs.NanLaws.{no-nan}

@@ -6,7 +6,7 @@ use Prim.Native.Nat.{ℕ, _+_, _<_}
 use native.Mathlib.Omega.{arith}
 use lib.ListN.{getD}
 use lib.Ieee.{Float, nan, lt, isNan}
-use Rattle.tetrahedron_sort.specs.Sort.{low2, high2, sorted4, placeBy, place4, sortedOf, placeOf, sorted-omegas, sortOf}
+use Rattle.tetrahedron_sort.specs.Sort.{low2, high2, sorted4, placeBy, sortedOf, placeOf, sorted-omegas, sortOf}
 use Rattle.ieee_laws.proofs.OrderLaws.{lt-asym, lt-irrefl, not-above-trans}
 
 -- the struct that the sort gives, by its two parts

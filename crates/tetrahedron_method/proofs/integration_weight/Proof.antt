@@ -1,3 +1,4 @@
+-- `tetrahedron_method::integration_weight` meets its contract. Assumes nothing.
 use Rattle.questions.proofs.RowsLaws.{rows-in}
 use Rattle.questions.specs.Ask.{firstNo}
 use Rattle.list_laws.proofs.BoolLaws.{yes-of, no-of}
@@ -8,49 +9,35 @@ use native.Mathlib.Omega.{arith}
 use borrow.Author.Needs.{needs}
 use Rattle.tetrahedron_method.proofs.integration_weight.Statement.{statement}
 use Rattle.tetrahedron_method.proofs.integration_weight.Tie as tie
-use Rattle.tetrahedron_method.proofs.integration_weight.Reads as reads
-use Rattle.tetrahedron_method.proofs.integration_weight.Lts as lts
-use Rattle.questions.proofs.kernel.frequencies.point_ok.Reads as point-ok-reads
-use Rattle.questions.proofs.kernel.frequencies.points_ok.Reads as points-ok-reads
-use Rattle.questions.proofs.kernel.rows.vertices_ok.Reads as vertices-ok-reads
-use Rattle.tetrahedron_method.proofs.kernel.weight.get_integration_weight.Reads as get-integration-weight-reads
 
--- src/lib.rt:27:9
 vertices-ok-requires : tie.Need-vertices-ok-requires
 vertices-ok-requires c κs = search needs
 
--- src/lib.rt:28:9
 returns : tie.Need-returns
 unfolding firstNo
 returns c =
     simp (no-of (c .before .vertices-ok .ensures) (c .if1 .taken))
 
--- src/lib.rt:30:9
 points-ok-requires : tie.Need-points-ok-requires
 points-ok-requires c κs = search needs
 
--- src/lib.rt:31:9
 returns-2 : tie.Need-returns-2
 unfolding firstNo
 returns-2 c =
     simp (yes-of (c .before .before .before .vertices-ok .ensures) (c .before .before .if1 .left), no-of (c .before .points-ok .ensures) (c .if2 .taken))
 
--- src/lib.rt:33:9
 point-ok-requires : tie.Need-point-ok-requires
 point-ok-requires c κs = search needs
 
--- src/lib.rt:34:9
 returns-3 : tie.Need-returns-3
 unfolding firstNo
 returns-3 c =
     simp (yes-of (c .before .before .before .before .before .vertices-ok .ensures) (c .before .before .before .before .if1 .left), yes-of (c .before .before .before .points-ok .ensures) (c .before .before .if2 .left), no-of (c .before .point-ok .ensures) (c .if3 .taken))
 
--- src/lib.rt:37:26
 get-integration-weight-requires : tie.Need-get-integration-weight-requires
 get-integration-weight-requires c κs =
     let h : (rows : ℕ) × ((rows ≤ 96) × (length (c .before .before .before .before .before .before .before .args .tetrahedra-omegas .now) ≡ rows * 4)) = rows-in 4 (length (c .before .before .before .before .before .before .before .args .tetrahedra-omegas .now)) (yes-of (c .before .before .before .before .before .vertices-ok .ensures) (c .before .before .before .before .if1 .left)) in (omega (arith, h .1 .0, h .1 .1), omega (arith, h .1 .1))
 
--- src/lib.rt:20:1
 returns-4 : tie.Need-returns-4
 unfolding firstNo
 returns-4 c =

@@ -1,54 +1,40 @@
+-- `tetrahedron_sort::kernel::sort_omegas` meets its contract. Assumes nothing.
 use Rattle.tetrahedron_sort.proofs.SortLaws.{sort-is}
 use Rattle.tetrahedron_sort.specs.Sort.{sortedOf, placeOf}
 use borrow.Author.Needs.{needs}
 use Rattle.tetrahedron_sort.proofs.kernel.sort_omegas.Statement.{statement}
 use Rattle.tetrahedron_sort.proofs.kernel.sort_omegas.Tie as tie
-use Rattle.tetrahedron_sort.proofs.kernel.sort_omegas.Reads as reads
-use Rattle.tetrahedron_sort.proofs.kernel.sort_omegas.Lts as lts
-use Rattle.tetrahedron_sort.proofs.kernel.ordered.Reads as ordered-reads
-use Rattle.tetrahedron_sort.proofs.kernel.place_of_first.Reads as place-of-first-reads
 
--- src/kernel.rt:54:25
 array-read-ordered : tie.Need-array-read-ordered
 array-read-ordered c = search needs
 
--- src/kernel.rt:54:31
 array-read-ordered-2 : tie.Need-array-read-ordered-2
 array-read-ordered-2 c = search needs
 
--- src/kernel.rt:54:9
 ordered-requires : tie.Need-ordered-requires
 ordered-requires c κs = search needs
 
--- src/kernel.rt:55:26
 array-read-ordered-3 : tie.Need-array-read-ordered-3
 array-read-ordered-3 c = search needs
 
--- src/kernel.rt:55:32
 array-read-ordered-4 : tie.Need-array-read-ordered-4
 array-read-ordered-4 c = search needs
 
--- src/kernel.rt:55:9
 ordered-requires-2 : tie.Need-ordered-requires-2
 ordered-requires-2 c κs = search needs
 
--- src/kernel.rt:56:9
 ordered-requires-3 : tie.Need-ordered-requires-3
 ordered-requires-3 c κs = search needs
 
--- src/kernel.rt:57:9
 ordered-requires-4 : tie.Need-ordered-requires-4
 ordered-requires-4 c κs = search needs
 
--- src/kernel.rt:58:9
 ordered-requires-5 : tie.Need-ordered-requires-5
 ordered-requires-5 c κs = search needs
 
--- src/kernel.rt:59:9
 place-of-first-requires : tie.Need-place-of-first-requires
 place-of-first-requires c κs = search needs
 
--- src/kernel.rt:51:1
 returns : tie.Need-returns
 unfolding sortedOf placeOf
 returns c =

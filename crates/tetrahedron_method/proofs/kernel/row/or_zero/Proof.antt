@@ -1,16 +1,13 @@
+-- `tetrahedron_method::kernel::row::or_zero` meets its contract. Assumes nothing.
 use Rattle.tetrahedron_method.specs.Weight.{orZero}
 use Rattle.tetrahedron_method.proofs.kernel.row.or_zero.Statement.{statement}
 use Rattle.tetrahedron_method.proofs.kernel.row.or_zero.Tie as tie
-use Rattle.tetrahedron_method.proofs.kernel.row.or_zero.Reads as reads
-use Rattle.tetrahedron_method.proofs.kernel.row.or_zero.Lts as lts
 
--- src/kernel/row.rt:8:1
 returns : tie.Need-returns
 unfolding orZero
 returns c =
     simp (c .if1 .taken)
 
--- src/kernel/row.rt:8:1
 returns-2 : tie.Need-returns-2
 unfolding orZero
 returns-2 c =

@@ -1,38 +1,28 @@
+-- `tetrahedron_method::kernel::row::row_weight` meets its contract. Assumes nothing.
 use Rattle.tetrahedron_method.proofs.RowLaws.{four-values}
 use Rattle.tetrahedron_method.specs.Weight.{rowWeight}
 use borrow.Author.Needs.{needs}
 use Rattle.tetrahedron_method.proofs.kernel.row.row_weight.Statement.{statement}
 use Rattle.tetrahedron_method.proofs.kernel.row.row_weight.Tie as tie
-use Rattle.tetrahedron_method.proofs.kernel.row.row_weight.Reads as reads
-use Rattle.tetrahedron_method.proofs.kernel.row.row_weight.Lts as lts
-use Rattle.tetrahedron_method.proofs.kernel.row.sorted_row_weight.Reads as sorted-row-weight-reads
-use Rattle.tetrahedron_sort.proofs.kernel.sort_omegas.Reads as sort-omegas-reads
 
--- src/kernel/row.rt:56:9
 sort-omegas-requires : tie.Need-sort-omegas-requires
 sort-omegas-requires c κs = search needs
 
--- src/kernel/row.rt:58:54
 array-read-sorted-row-weight : tie.Need-array-read-sorted-row-weight
 array-read-sorted-row-weight c = search needs
 
--- src/kernel/row.rt:58:60
 array-read-sorted-row-weight-2 : tie.Need-array-read-sorted-row-weight-2
 array-read-sorted-row-weight-2 c = search needs
 
--- src/kernel/row.rt:58:66
 array-read-sorted-row-weight-3 : tie.Need-array-read-sorted-row-weight-3
 array-read-sorted-row-weight-3 c = search needs
 
--- src/kernel/row.rt:58:72
 array-read-sorted-row-weight-4 : tie.Need-array-read-sorted-row-weight-4
 array-read-sorted-row-weight-4 c = search needs
 
--- src/kernel/row.rt:58:5
 sorted-row-weight-requires : tie.Need-sorted-row-weight-requires
 sorted-row-weight-requires c κs = search needs
 
--- src/kernel/row.rt:53:1
 returns : tie.Need-returns
 unfolding rowWeight
 returns c =

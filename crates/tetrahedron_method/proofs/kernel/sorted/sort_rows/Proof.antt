@@ -1,19 +1,13 @@
+-- `tetrahedron_method::kernel::sorted::sort_rows` meets its contract. Assumes nothing.
 use Rattle.tetrahedron_method.proofs.SortedLaws.{Turned, turned-none, turned-next}
-use Rattle.tetrahedron_method.specs.Sorted.{withRow}
 use Rattle.tetrahedron_sort.specs.declared.SortedOmegas.{SortedOmegas}
-use Rattle.tetrahedron_sort.specs.Sort.{sortedOf, placeOf, sortOf}
-use lib.ListN.{getD, length}
-use Prim.Native.Nat.{ℕ, _+_, _-_, _^_, _*_, _<_, _≤_, zero-le}
-use mathlib.Core.Path.{_≡_, refl, sym, _∙_, ap}
+use Rattle.tetrahedron_sort.specs.Sort.{sortedOf, placeOf}
+use Prim.Native.Nat.{_-_, _≤_, zero-le}
+use mathlib.Core.Path.{_≡_, _∙_, ap}
 use borrow.Author.Needs.{needs}
 use native.Mathlib.Omega.{arith}
 use Rattle.tetrahedron_method.proofs.kernel.sorted.sort_rows.Statement.{statement}
 use Rattle.tetrahedron_method.proofs.kernel.sorted.sort_rows.Tie as tie
-use Rattle.tetrahedron_method.proofs.kernel.sorted.sort_rows.Reads as reads
-use Rattle.tetrahedron_method.proofs.kernel.sorted.sort_rows.Lts as lts
-use Rattle.tetrahedron_method.proofs.kernel.sorted.put_row.Reads as put-row-reads
-use Rattle.tetrahedron_method.proofs.kernel.sorted.row_at.Reads as row-at-reads
-use Rattle.tetrahedron_sort.proofs.kernel.sort_omegas.Reads as sort-omegas-reads
 
 abbrev Inv-loop : tie.InvT-loop
 Inv-loop area₀ places₀ rows k₀ area places k = (k ≤ rows) × Turned area₀ k area places
@@ -21,46 +15,36 @@ Inv-loop area₀ places₀ rows k₀ area places k = (k ≤ rows) × Turned area
 abbrev μ-loop : tie.MeasureT-loop
 μ-loop area₀ places₀ rows k₀ area places k = rows - k
 
--- src/kernel/sorted.rt:35:5
 loop-holds : tie.Need-loop-holds Inv-loop μ-loop
 loop-holds c =
     (zero-le, turned-none (c .args .area .now) (c .args .places .now) (c .pre .1) (c .pre .2))
 
--- src/kernel/sorted.rt:36:60
 row-at-requires : tie.Need-row-at-requires Inv-loop μ-loop
 row-at-requires c κs = search needs
 
--- src/kernel/sorted.rt:36:13
 sort-omegas-requires : tie.Need-sort-omegas-requires Inv-loop μ-loop
 sort-omegas-requires c κs = search needs
 
--- src/kernel/sorted.rt:38:9
 put-row-requires : tie.Need-put-row-requires Inv-loop μ-loop
 put-row-requires c κs = search needs
 
--- src/kernel/sorted.rt:39:9
 mul-places : tie.Need-mul-places Inv-loop μ-loop
 mul-places c = search needs
 
--- src/kernel/sorted.rt:39:9
 element-write-places : tie.Need-element-write-places Inv-loop μ-loop
 element-write-places c =
     omega arith
 
--- src/kernel/sorted.rt:35:9
 add-k : tie.Need-add-k Inv-loop μ-loop
 add-k c = search needs
 
--- src/kernel/sorted.rt:35:5
 loop-less : tie.Need-loop-less Inv-loop μ-loop
 loop-less c = search needs
 
--- src/kernel/sorted.rt:35:5
 loop-again : tie.Need-loop-again Inv-loop μ-loop
 loop-again c =
     let l : _ = c .before .before .before .before .before .before .before .loop in (search needs, rw (c .put-row .ensures) (turned-next (c .before .before .before .before .before .before .before .before .args .area .now) (l .area) (l .places) (l .k) (omega arith) (l .inv .1) (c .before .before .before .sort-omegas .result .omegas) (c .before .before .before .sort-omegas .result .place) (ap (λ (x : SortedOmegas). x .omegas) (c .before .before .before .sort-omegas .ensures) ∙ ap sortedOf (c .before .before .before .before .row-at .ensures)) (ap (λ (x : SortedOmegas). x .place) (c .before .before .before .sort-omegas .ensures) ∙ ap placeOf (c .before .before .before .before .row-at .ensures))))
 
--- src/kernel/sorted.rt:31:1
 returns : tie.Need-returns Inv-loop μ-loop
 returns c =
     let end : c .before .loop .k ≡ c .before .before .args .rows = omega arith in record { size = c .before .loop .inv .1 .size; count = c .before .loop .inv .1 .count; sorted = rw end at (c .before .loop .inv .1 .done) }

@@ -1,16 +1,14 @@
+-- `tetrahedron_method::kernel::sorted::sorted_weight` meets its contract. Assumes nothing.
 use Rattle.tetrahedron_method.specs.Sorted.{sortedSum, sortedWeight}
-use lib.Dec.{T, le→leb}
+use lib.Dec.{le→leb}
 use lib.Ieee.{inFloat}
 use native.Mathlib.Numerals.{add-one}
-use Prim.Native.Nat.{ℕ, _+_, _-_, _^_, _*_, _<_, _≤_, zero-le}
-use mathlib.Core.Path.{_≡_, refl, sym, _∙_, ap}
+use Prim.Native.Nat.{_-_, _^_, _≤_, zero-le}
+use mathlib.Core.Path.{_≡_, refl}
 use borrow.Author.Needs.{needs}
 use native.Mathlib.Omega.{arith}
 use Rattle.tetrahedron_method.proofs.kernel.sorted.sorted_weight.Statement.{statement}
 use Rattle.tetrahedron_method.proofs.kernel.sorted.sorted_weight.Tie as tie
-use Rattle.tetrahedron_method.proofs.kernel.sorted.sorted_weight.Reads as reads
-use Rattle.tetrahedron_method.proofs.kernel.sorted.sorted_weight.Lts as lts
-use Rattle.tetrahedron_method.proofs.kernel.sorted.sorted_row_at.Reads as sorted-row-at-reads
 
 abbrev Inv-loop : tie.InvT-loop
 Inv-loop function omega area places rows sum₀ k₀ sum k = (k ≤ rows) × (sum ≡ sortedSum function omega area places k)
@@ -18,37 +16,30 @@ Inv-loop function omega area places rows sum₀ k₀ sum k = (k ≤ rows) × (su
 abbrev μ-loop : tie.MeasureT-loop
 μ-loop function omega area places rows sum₀ k₀ sum k = rows - k
 
--- src/kernel/sorted.rt:78:5
 loop-holds : tie.Need-loop-holds Inv-loop μ-loop
 unfolding sortedSum
 loop-holds c =
     (zero-le, refl)
 
--- src/kernel/sorted.rt:79:21
 sorted-row-at-requires : tie.Need-sorted-row-at-requires Inv-loop μ-loop
 sorted-row-at-requires c κs = search needs
 
--- src/kernel/sorted.rt:78:9
 add-k : tie.Need-add-k Inv-loop μ-loop
 add-k c = search needs
 
--- src/kernel/sorted.rt:78:5
 loop-less : tie.Need-loop-less Inv-loop μ-loop
 loop-less c = search needs
 
--- src/kernel/sorted.rt:78:5
 loop-again : tie.Need-loop-again Inv-loop μ-loop
 unfolding sortedSum
 loop-again c =
     (search needs, simp (add-one, c .before .before .loop .inv .1, c .sorted-row-at .ensures))
 
--- src/kernel/sorted.rt:81:12
 int-to-float-result : tie.Need-int-to-float-result Inv-loop μ-loop
 unfolding inFloat
 int-to-float-result c =
     le→leb (c .before .before .before .args .rows) (2 ^ 53) (omega arith)
 
--- src/kernel/sorted.rt:67:1
 returns : tie.Need-returns Inv-loop μ-loop
 unfolding sortedWeight
 returns c =

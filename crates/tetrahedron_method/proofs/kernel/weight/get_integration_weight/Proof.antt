@@ -1,19 +1,16 @@
+-- `tetrahedron_method::kernel::weight::get_integration_weight` meets its contract. Assumes nothing.
 use Rattle.tetrahedron_method.specs.Weight.{sumOf, weightOf}
-use lib.Dec.{T, le→leb}
+use lib.Dec.{le→leb}
 use lib.Ieee.{inFloat}
 use native.Mathlib.Numerals.{add-one}
-use Prim.Native.Nat.{ℕ, _+_, _-_, _^_, _*_, _<_, _≤_, zero-le}
-use mathlib.Core.Path.{_≡_, refl, sym, _∙_, ap}
+use Prim.Native.Nat.{_-_, _^_, _≤_, zero-le}
+use mathlib.Core.Path.{_≡_, refl}
 use borrow.Author.Needs.{needs}
 use native.Mathlib.Omega.{arith}
 use Rattle.tetrahedron_method.proofs.kernel.weight.get_integration_weight.Statement.{
   statement,
 }
 use Rattle.tetrahedron_method.proofs.kernel.weight.get_integration_weight.Tie as tie
-use Rattle.tetrahedron_method.proofs.kernel.weight.get_integration_weight.Reads as reads
-use Rattle.tetrahedron_method.proofs.kernel.weight.get_integration_weight.Lts as lts
-use Rattle.tetrahedron_method.proofs.kernel.row.row_weight.Reads as row-weight-reads
-use Rattle.tetrahedron_method.proofs.kernel.weight.row_of.Reads as row-of-reads
 
 abbrev Inv-loop : tie.InvT-loop
 Inv-loop function omega omegas rows sum₀ k₀ sum k = (k ≤ rows) × (sum ≡ sumOf function omega omegas k)
@@ -21,41 +18,33 @@ Inv-loop function omega omegas rows sum₀ k₀ sum k = (k ≤ rows) × (sum ≡
 abbrev μ-loop : tie.MeasureT-loop
 μ-loop function omega omegas rows sum₀ k₀ sum k = rows - k
 
--- src/kernel/weight.rt:29:5
 loop-holds : tie.Need-loop-holds Inv-loop μ-loop
 unfolding sumOf
 loop-holds c =
     (zero-le, refl)
 
--- src/kernel/weight.rt:30:49
 row-of-requires : tie.Need-row-of-requires Inv-loop μ-loop
 row-of-requires c κs = search needs
 
--- src/kernel/weight.rt:30:21
 row-weight-requires : tie.Need-row-weight-requires Inv-loop μ-loop
 row-weight-requires c κs = search needs
 
--- src/kernel/weight.rt:29:9
 add-k : tie.Need-add-k Inv-loop μ-loop
 add-k c = search needs
 
--- src/kernel/weight.rt:29:5
 loop-less : tie.Need-loop-less Inv-loop μ-loop
 loop-less c = search needs
 
--- src/kernel/weight.rt:29:5
 loop-again : tie.Need-loop-again Inv-loop μ-loop
 unfolding sumOf
 loop-again c =
     (search needs, simp (add-one, c .before .before .before .loop .inv .1, c .row-weight .ensures, c .before .row-of .ensures))
 
--- src/kernel/weight.rt:32:12
 int-to-float-result : tie.Need-int-to-float-result Inv-loop μ-loop
 unfolding inFloat
 int-to-float-result c =
     le→leb (c .before .before .before .before .args .rows) (2 ^ 53) (omega arith)
 
--- src/kernel/weight.rt:19:1
 returns : tie.Need-returns Inv-loop μ-loop
 unfolding weightOf
 returns c =
