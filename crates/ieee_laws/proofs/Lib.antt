@@ -1,3 +1,5 @@
 -- The laws.
 pub mod MagnitudeLaws
 pub mod CastLaws
+pub mod RoundLaws
+pub mod ZeroLaws
