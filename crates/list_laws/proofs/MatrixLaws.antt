@@ -147,6 +147,10 @@ module _ {A : Type 0} (len : ℕ) where
   pub part-len : (k n : ℕ) (l : List A) → k < n → n * len ≤ length l → length (part (k * len) len l) ≡ len
   part-len k n l h g = length-take-le len (drop (k * len) l) (omega (arith, length-drop (k * len) l, row-le len h))
 
+-- m is l with its first k parts made: what a loop that lends one part after another has so far
+abbrev pub Made : {A : Type 0} → ℕ → (List A → List A) → ℕ → List A → List A → Type 0
+Made len f k l m = m ≡ eachPart len f k l ++ drop (k * len) l
+
 module _ {A : Type 0} (len : ℕ) (f : List A → List A) (keeps : (l : List A) → length (f l) ≡ len) where
   pub each-length : (n : ℕ) (l : List A) → length (eachPart len f n l) ≡ n * len
   unfolding eachPart
@@ -163,21 +167,17 @@ module _ {A : Type 0} (len : ℕ) (f : List A → List A) (keeps : (l : List A) 
       sym (getD-take len (drop (k * len) (eachPart len f n l)) j d g ∙ getD-drop (k * len) (eachPart len f n l) j d)
       ∙ ap (λ (x : List A). getD x j d) (each-part n k l h)
 
-  -- what a loop that lends one matrix after another has made so far
-  abbrev pub Made : ℕ → List A → List A → Type 0
-  Made k l m = m ≡ eachPart len f k l ++ drop (k * len) l
-
-  pub made-none : (l : List A) → Made 0 l l
+  pub made-none : (l : List A) → Made len f 0 l l
   unfolding eachPart rows
   made-none l = ap (λ (k : ℕ). drop k l) {x = 0} {y = 0 * len} (omega (arith, zero-mul len))
 
-  pub made-length : (k : ℕ) (l m : List A) → Made k l m → k * len ≤ length l → length m ≡ length l
+  pub made-length : (k : ℕ) (l m : List A) → Made len f k l m → k * len ≤ length l → length m ≡ length l
   made-length k l m e h =
       ap length e ∙ length-append (eachPart len f k l) (drop (k * len) l)
       ∙ omega (arith, each-length k l, length-drop (k * len) l)
 
-  pub made-next : (k start : ℕ) (l m ys : List A) → start ≡ k * len → Made k l m → ys ≡ f (take (start + len - start) (drop start m))
-      → Made (k + 1) l (putMid start (start + len - start) m ys)
+  pub made-next : (k start : ℕ) (l m ys : List A) → start ≡ k * len → Made len f k l m → ys ≡ f (take (start + len - start) (drop start m))
+      → Made len f (k + 1) l (putMid start (start + len - start) m ys)
   unfolding eachPart rows
   made-next k start l m ys s e y =
       let z : start + len - start ≡ len = omega arith in
@@ -189,7 +189,7 @@ module _ {A : Type 0} (len : ℕ) (f : List A → List A) (keeps : (l : List A) 
       rw (z, s, front, mine, here, drop-drop len (k * len) l, next, add-one)
       (sym (append-assoc done (f (part (k * len) len l)) (drop (suc k * len) l)))
 
-  pub made-all : (k n : ℕ) (l m : List A) → Made k l m → k ≡ n → length l ≡ n * len → m ≡ eachPart len f n l
+  pub made-all : (k n : ℕ) (l m : List A) → Made len f k l m → k ≡ n → length l ≡ n * len → m ≡ eachPart len f n l
   made-all k n l m e h g =
       e ∙ rw (h, ← g, drop-length l) (append-nil (eachPart len f n l))
 
