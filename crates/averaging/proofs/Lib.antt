@@ -5,3 +5,7 @@ pub mod WalkLaws
 pub mod WeightLaws
 pub mod FlagLaws
 pub mod AnswerLaws
+pub mod PointLaws
+pub mod IdLaws
+pub mod StartLaws
+pub mod SingleLaws

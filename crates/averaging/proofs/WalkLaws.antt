@@ -3,22 +3,15 @@ use mathlib.Core.Path.{_≡_, refl, sym, ap, _∙_, subst}
 use mathlib.Core.Logic.{_⊎_, inl, inr, ⊎-elim}
 use mathlib.Core.Bool.{Bool}
 use mathlib.Core.List.{List}
-use Prim.Native.Nat.{ℕ, zero, suc, _+_, _*_, _/_, _%_, _≤_, _<_}
-use native.Mathlib.Nat.{div-add-mod', mod-lt, div-lt-iff-lt-mul}
+use Prim.Native.Nat.{ℕ, _+_, _*_, _/_, _%_, _≤_, _<_}
 use native.Mathlib.Omega.{arith}
 use lib.ListN.{length, getD}
-use lib.Seq.{ext-getD}
 use Rattle.list_laws.specs.Lists.{tabulate}
 use Rattle.list_laws.specs.Matrix.{Block, block, Replaced, InBlock, InRows}
 use Rattle.list_laws.proofs.BoolLaws.{lt-or-le}
-use Rattle.list_laws.proofs.FillLaws.{length-tabulate, tabulate-at}
-use Rattle.list_laws.proofs.MatrixLaws.{replaced-join}
+use Rattle.list_laws.proofs.MatrixLaws.{replaced-join, square-is}
 use Rattle.averaging.specs.Sets.{startOf, endOf, blockOf}
 use Rattle.averaging.proofs.SetLaws.{Ends, ends, end-same, start-same, start-le}
-
-square-pos : (n k : ℕ) → k < n * n → 0 < n
-square-pos zero k h = absurd (omega arith)
-square-pos (suc n) k h = omega arith
 
 module _ {A : Type 0} (d : A) (n : ℕ) (rule : Block → List A → ℕ → ℕ → A) where
   -- the rows from top to bottom are done in the columns before `left`
@@ -118,11 +111,4 @@ module _ {A : Type 0} (d : A) (n : ℕ) (rule : Block → List A → ℕ → ℕ
   pub rows-all : (p q : ℕ → Bool) (top : ℕ) (m₀ m : List A) → RowsDone d n rule p q top m₀ m → n ≤ top → length m₀ ≡ n * n
       → m ≡ tabulate (n * n) (λ k. rule (blockOf p q n (k / n) (k % n)) m₀ (k / n) (k % n))
   rows-all p q top m₀ m R h len =
-      let f : ℕ → A = λ k. rule (blockOf p q n (k / n) (k % n)) m₀ (k / n) (k % n) in
-      ext-getD d m (tabulate (n * n) f) (R .same-length ∙ len ∙ sym (length-tabulate (n * n) f))
-      (λ k l.
-      let l' : k < n * n = omega (arith, R .same-length) in
-      let pos : 0 < n = square-pos n k l' in
-      ap (λ (j : ℕ). getD m j d) (sym (div-add-mod' k n))
-      ∙ R .inside (k / n) (k % n) (mod-lt k pos) (omega (arith, div-lt-iff-lt-mul {k = n} {x = k} {y = n} pos .1 l'))
-      ∙ sym (tabulate-at (n * n) f d k l'))
+      square-is d n (λ r c. rule (blockOf p q n r c) m₀ r c) m (R .same-length ∙ len) (λ r c l g. R .inside r c g (omega arith))

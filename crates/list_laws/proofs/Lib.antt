@@ -8,3 +8,4 @@ pub mod FillLaws
 pub mod PatchLaws
 pub mod PartLaws
 pub mod MatrixLaws
+pub mod EqualLaws

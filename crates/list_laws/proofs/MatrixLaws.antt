@@ -2,18 +2,18 @@
 use mathlib.Core.Path.{_≡_, refl, sym, ap, _∙_, subst}
 use mathlib.Core.Logic.{_⊎_, inl, inr, ⊎-elim}
 use mathlib.Core.List.{List, _++_, append-assoc, append-nil}
-use Prim.Native.Nat.{ℕ, zero, suc, _+_, _-_, _*_, _≤_, _<_}
-use native.Mathlib.Nat.{suc-mul, zero-mul}
+use Prim.Native.Nat.{ℕ, zero, suc, _+_, _-_, _*_, _/_, _%_, _≤_, _<_}
+use native.Mathlib.Nat.{suc-mul, zero-mul, div-add-mod', mod-lt, mod-eq-of-lt, div-eq-of-lt, div-lt-iff-lt-mul, mul-add-div-right, mul-add-mod-self-right}
 use native.Mathlib.Numerals.{add-one}
 use native.Mathlib.Omega.{arith}
 use borrow.Rule.Slice.PartMut.{putMid}
 use lib.ListN.{length, getD, set, take, drop, length-set, length-append, length-drop}
-use lib.Seq.{getD-set-same, getD-set-other, getD-take, getD-drop, take-append-le, drop-append-le, take-all, take-at, drop-at, take-add, take-length, drop-length, drop-drop, length-take-le}
-use Rattle.list_laws.specs.Lists.{rows, part}
+use lib.Seq.{getD-set-same, getD-set-other, getD-take, getD-drop, take-append-le, drop-append-le, take-all, take-at, drop-at, take-add, take-length, drop-length, drop-drop, length-take-le, ext-getD}
+use Rattle.list_laws.specs.Lists.{rows, part, tabulate}
 use Rattle.list_laws.specs.Matrix.{block, Filled, Replaced, InBlock, eachPart}
 use Rattle.list_laws.proofs.BoolLaws.{lt-eq-gt, lt-or-le}
-use Rattle.list_laws.proofs.ProductLaws.{row-le, row-next}
-use Rattle.list_laws.proofs.FillLaws.{length-rows}
+use Rattle.list_laws.proofs.ProductLaws.{row-le, row-next, digit-lt}
+use Rattle.list_laws.proofs.FillLaws.{length-rows, length-tabulate, tabulate-at}
 
 -- ---- a row that is filled with one value
 
@@ -205,3 +205,37 @@ fronts len f (suc k) l same =
 pub each-same : {A : Type 0} (len : ℕ) (f : List A → List A) (n : ℕ) (l : List A) → length l ≡ n * len
     → ((k : ℕ) → k < n → f (part (k * len) len l) ≡ part (k * len) len l) → eachPart len f n l ≡ l
 each-same len f n l h same = fronts len f n l same ∙ rw (← h) (take-length l)
+
+-- two rules that agree on each part
+pub each-ext : {A : Type 0} (len : ℕ) (f g : List A → List A) (n : ℕ) (l : List A)
+    → ((k : ℕ) → k < n → f (part (k * len) len l) ≡ g (part (k * len) len l)) → eachPart len f n l ≡ eachPart len g n l
+unfolding eachPart rows
+each-ext len f g zero l same = refl
+each-ext len f g (suc n) l same = rw (each-ext len f g n l (λ k h. same k (omega arith)), same n (omega arith))
+
+-- ---- a square matrix that is made from a function of row and column
+
+square-pos : (n k : ℕ) → k < n * n → 0 < n
+square-pos zero k h = absurd (omega arith)
+square-pos (suc n) k h = omega arith
+
+module _ {A : Type 0} (d : A) (n : ℕ) (f : ℕ → ℕ → A) where
+  pub square-at : (r c : ℕ) → r < n → c < n → getD (tabulate (n * n) (λ k. f (k / n) (k % n))) (r * n + c) d ≡ f r c
+  square-at r c h l =
+      let some : 0 < n = omega arith in
+      let row : (r * n + c) / n ≡ r = mul-add-div-right some r c ∙ omega (arith, div-eq-of-lt l) in
+      let column : (r * n + c) % n ≡ c = mul-add-mod-self-right r n c ∙ mod-eq-of-lt l in
+      tabulate-at (n * n) (λ k. f (k / n) (k % n)) d (r * n + c) (digit-lt r n c n h l) ∙ (λ i. f (row i) (column i))
+
+  -- a list with these entries is that matrix
+  pub square-is : (m : List A) → length m ≡ n * n → ((r c : ℕ) → r < n → c < n → getD m (r * n + c) d ≡ f r c)
+      → m ≡ tabulate (n * n) (λ k. f (k / n) (k % n))
+  square-is m len same =
+      let g : ℕ → A = λ k. f (k / n) (k % n) in
+      ext-getD d m (tabulate (n * n) g) (len ∙ sym (length-tabulate (n * n) g))
+      (λ k l.
+      let l' : k < n * n = omega arith in
+      let some : 0 < n = square-pos n k l' in
+      ap (λ (j : ℕ). getD m j d) (sym (div-add-mod' k n))
+      ∙ same (k / n) (k % n) (div-lt-iff-lt-mul {k = n} {x = k} {y = n} some .1 l') (mod-lt k some)
+      ∙ sym (tabulate-at (n * n) g d k l'))
