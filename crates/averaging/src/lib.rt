@@ -84,7 +84,7 @@ pub fn average_weights_over_degenerate_sets(
     let bands = magnitude(num_band);
     let points = magnitude(num_band0);
     let all_points = channels_of(tp_type) * points;
-    kernel::average_points(iw, degenerate_ids1, degenerate_ids2, bands, all_points);
-    kernel::average_flag_points(iw_zero, degenerate_ids1, degenerate_ids2, bands, points);
+    kernel::weights::average_points(iw, degenerate_ids1, degenerate_ids2, bands, all_points);
+    kernel::flags::average_points(iw_zero, degenerate_ids1, degenerate_ids2, bands, points);
     AveragingAnswer::Averaged
 }

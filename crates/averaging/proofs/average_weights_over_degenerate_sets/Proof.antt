@@ -86,8 +86,8 @@ average-points-requires c κs =
     let b = bands-are (c .before .before .before) in
     ((f .weights ∙ sym (λ i. channels-are (c .before) i * points-are (c .before .before) i * (b i * b i)), omega (arith, b, f .counts)), (f .rows ∙ sym b, f .columns ∙ sym b))
 
-average-flag-points-requires : tie.Need-average-flag-points-requires
-average-flag-points-requires c κs =
+average-points-requires-2 : tie.Need-average-points-requires-2
+average-points-requires-2 c κs =
     let f = facts (c .before .before .before .before .before .before .before .before) in
     let b = bands-are (c .before .before .before .before .before .before .before) in
     ((f .flags ∙ sym (λ i. points-are (c .before .before .before .before .before .before) i * (b i * b i)), omega (arith, b, f .counts)), (f .rows ∙ sym b, f .columns ∙ sym b))
@@ -111,7 +111,7 @@ returns-2 c =
         c .before .before .before .before .before .average-points .ensures
             ∙ (λ i. averagedPoints (b i) (args .degenerate-ids1 .now) (args .degenerate-ids2 .now) (k i * p i) (args .iw .now))
             ∙ after-done no _ _ e,
-        c .before .average-flag-points .ensures
+        c .before .average-points2 .ensures
             ∙ (λ i. averagedFlagPoints (b i) (args .degenerate-ids1 .now) (args .degenerate-ids2 .now) (p i) (args .iw-zero .now))
             ∙ after-done no _ _ e,
       ),
@@ -130,7 +130,7 @@ average-weights-over-degenerate-sets-spec =
     channels-of-requires
     mul-all-points
     average-points-requires
-    average-flag-points-requires
+    average-points-requires-2
     same-length-3
     same-length-4
     returns-2)

@@ -6,7 +6,7 @@ ghost use lib.ListN.{length};
 ghost use lib.IntN.{pos};
 ghost use Rattle.averaging.specs.Sets.{startsAt, startOf, endOf};
 ghost use Rattle.list_laws.specs.Matrix.{block, Filled, Replaced, InRows, InBlock};
-ghost use Rattle.averaging.specs.Flags.{rowHasZero, rowsHaveZero, flagIn, averagedFlags};
+ghost use Rattle.averaging.specs.Flags.{rowHasZero, rowsHaveZero, flagIn, averagedFlags, averagedFlagPoints};
 
 // Whether one of n flags from `from` on is 0.
 fn row_has_zero(m: &[i8], from: usize, n: usize) -> bool
@@ -97,7 +97,7 @@ fn average_rows(m: &mut [i8], ids2: &[i64], n: usize, top: usize, bottom: usize)
 }
 
 // Averages a square matrix of flags, n rows of n, over the blocks of two id lists.
-pub fn average_matrix(m: &mut [i8], ids1: &[i64], ids2: &[i64], n: usize)
+fn average_matrix(m: &mut [i8], ids1: &[i64], ids2: &[i64], n: usize)
     requires { ⌜ (length (now m) ≡ n * n) × (n ≤ 64) ⌝ }
     requires { ⌜ (length (now ids1) ≡ n) × (length (now ids2) ≡ n) ⌝ }
     ensures { λ _. ⌜ now (m .exit) ≡ averagedFlags n (now (ids1 .entry)) (now (ids2 .entry)) (now (m .entry)) ⌝ }
@@ -107,5 +107,22 @@ pub fn average_matrix(m: &mut [i8], ids1: &[i64], ids2: &[i64], n: usize)
         let bottom = set_end(ids1, n, top);
         average_rows(m, ids2, n, top, bottom);
         top = bottom;
+    }
+}
+
+// The flags: each of `points` matrices of bands by bands.
+pub fn average_points(flags: &mut [i8], ids1: &[i64], ids2: &[i64], bands: usize, points: usize)
+    requires { ⌜ (length (now flags) ≡ points * (bands * bands)) × (bands ≤ 64) ⌝ }
+    requires { ⌜ (length (now ids1) ≡ bands) × (length (now ids2) ≡ bands) ⌝ }
+    ensures { λ _. ⌜ now (flags .exit) ≡ averagedFlagPoints bands (now (ids1 .entry)) (now (ids2 .entry)) points (now (flags .entry)) ⌝ }
+{
+    let size = bands * bands;
+    let mut start = 0;
+    let mut k = 0;
+    while k < points {
+        let end = start + size;
+        average_matrix(&mut flags[start..end], ids1, ids2, bands);
+        start = end;
+        k += 1;
     }
 }

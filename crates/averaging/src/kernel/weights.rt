@@ -7,7 +7,7 @@ ghost use lib.Ieee.{nan};
 ghost use Rattle.averaging.specs.Sets.{startsAt, startOf, endOf};
 ghost use Rattle.list_laws.specs.Matrix.{block, Filled, Replaced, InRows, InBlock};
 ghost use Rattle.ieee_laws.specs.Zeros.{plusZero};
-ghost use Rattle.averaging.specs.Weights.{rowSum, blockSum, averagedIn, averaged};
+ghost use Rattle.averaging.specs.Weights.{rowSum, blockSum, averagedIn, averaged, averagedPoints};
 
 // The sum of n weights from `from` on, left to right.
 fn row_sum(m: &[f64], from: usize, n: usize) -> f64
@@ -101,7 +101,7 @@ fn average_rows(m: &mut [f64], ids2: &[i64], n: usize, top: usize, bottom: usize
 }
 
 // Averages a square matrix of weights, n rows of n, over the blocks of two id lists.
-pub fn average_matrix(m: &mut [f64], ids1: &[i64], ids2: &[i64], n: usize)
+fn average_matrix(m: &mut [f64], ids1: &[i64], ids2: &[i64], n: usize)
     requires { ⌜ (length (now m) ≡ n * n) × (n ≤ 64) ⌝ }
     requires { ⌜ (length (now ids1) ≡ n) × (length (now ids2) ≡ n) ⌝ }
     ensures { λ _. ⌜ now (m .exit) ≡ averaged n (now (ids1 .entry)) (now (ids2 .entry)) (now (m .entry)) ⌝ }
@@ -111,5 +111,22 @@ pub fn average_matrix(m: &mut [f64], ids1: &[i64], ids2: &[i64], n: usize)
         let bottom = set_end(ids1, n, top);
         average_rows(m, ids2, n, top, bottom);
         top = bottom;
+    }
+}
+
+// The weights of one channel: each of `points` matrices of bands by bands.
+pub fn average_points(w: &mut [f64], ids1: &[i64], ids2: &[i64], bands: usize, points: usize)
+    requires { ⌜ (length (now w) ≡ points * (bands * bands)) × (bands ≤ 64) ⌝ }
+    requires { ⌜ (length (now ids1) ≡ bands) × (length (now ids2) ≡ bands) ⌝ }
+    ensures { λ _. ⌜ now (w .exit) ≡ averagedPoints bands (now (ids1 .entry)) (now (ids2 .entry)) points (now (w .entry)) ⌝ }
+{
+    let size = bands * bands;
+    let mut start = 0;
+    let mut k = 0;
+    while k < points {
+        let end = start + size;
+        average_matrix(&mut w[start..end], ids1, ids2, bands);
+        start = end;
+        k += 1;
     }
 }

@@ -1,4 +1,4 @@
--- `averaging::kernel::average_flag_points` meets its contract: at each turn the matrices of the first k points are done. Assumes nothing.
+-- `averaging::kernel::flags::average_points` meets its contract: at each turn the matrices of the first k points are done. Assumes nothing.
 use mathlib.Core.Path.{_≡_, refl, sym, ap, _∙_}
 use Prim.Native.Nat.{ℕ, _≤_, _-_, _+_, _*_}
 use native.Mathlib.Omega.{arith}
@@ -9,8 +9,8 @@ use Rattle.list_laws.proofs.ProductLaws.{row-le, row-next}
 use Rattle.averaging.specs.Flags.{averagedFlags, averagedFlagPoints}
 use Rattle.averaging.proofs.SizeLaws.{square-le}
 use Rattle.averaging.proofs.FlagLaws.{flags-length}
-use Rattle.averaging.proofs.kernel.average_flag_points.Statement.{statement}
-use Rattle.averaging.proofs.kernel.average_flag_points.Tie as tie
+use Rattle.averaging.proofs.kernel.flags.average_points.Statement.{statement}
+use Rattle.averaging.proofs.kernel.flags.average_points.Tie as tie
 
 abbrev Inv-loop : tie.InvT-loop
 Inv-loop flags₀ ids1 ids2 bands points size start₀ k₀ flags start k =
@@ -85,8 +85,8 @@ returns c =
     let at = c .before .loop in
     made-all (args .bands * args .bands) (averagedFlags (args .bands) (args .ids1 .now) (args .ids2 .now)) (flags-length (args .bands) (args .ids1 .now) (args .ids2 .now)) (at .k) (args .points) (args .flags .now) (at .flags) (at .inv .2) (omega arith) (omega arith)
 
-pub average-flag-points-spec : {M : Type 1} → statement M
-average-flag-points-spec =
+pub average-points-spec : {M : Type 1} → statement M
+average-points-spec =
     tie.close
     (tie.spec
     Inv-loop

@@ -1,4 +1,4 @@
--- `averaging::kernel::average_points` meets its contract: at each turn the matrices of the first k points are done. Assumes nothing.
+-- `averaging::kernel::weights::average_points` meets its contract: at each turn the matrices of the first k points are done. Assumes nothing.
 use mathlib.Core.Path.{_≡_, refl, sym, ap, _∙_}
 use Prim.Native.Nat.{ℕ, _≤_, _-_, _+_, _*_}
 use native.Mathlib.Omega.{arith}
@@ -10,8 +10,8 @@ use Rattle.ieee_laws.specs.Zeros.{plusZero}
 use Rattle.averaging.specs.Weights.{averaged, averagedPoints}
 use Rattle.averaging.proofs.SizeLaws.{square-le}
 use Rattle.averaging.proofs.WeightLaws.{averaged-length}
-use Rattle.averaging.proofs.kernel.average_points.Statement.{statement}
-use Rattle.averaging.proofs.kernel.average_points.Tie as tie
+use Rattle.averaging.proofs.kernel.weights.average_points.Statement.{statement}
+use Rattle.averaging.proofs.kernel.weights.average_points.Tie as tie
 
 abbrev Inv-loop : tie.InvT-loop
 Inv-loop w₀ ids1 ids2 bands points size start₀ k₀ w start k =
