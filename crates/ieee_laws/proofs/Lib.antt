@@ -1,2 +1,3 @@
 -- The laws.
 pub mod MagnitudeLaws
+pub mod PatternLaws
