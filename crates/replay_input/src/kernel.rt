@@ -1,4 +1,6 @@
 // The readers.
+pub mod report;
+
 ghost use Prim.Native.Nat.{_≤_};
 ghost use mathlib.Core.Path.{_≡_};
 ghost use lib.ListN.{length, take};
@@ -166,6 +168,13 @@ fn at_most(n: u64, most: usize) -> usize
     ensures { λ r. ⌜ r ≤ most ⌝ }
 {
     if n < most as u64 { n as usize } else { most }
+}
+
+// How much of a buffer a count takes: the count, or all of the buffer where that is shorter.
+pub fn part_of(n: u64, buf: &[i64]) -> usize
+    ensures { λ r. ⌜ (r ≤ length (now (buf .entry))) × (r ≡ length (take r (now (buf .entry)))) ⌝ }
+{
+    at_most(n, buf.len())
 }
 
 // A list of whole numbers, to the start of out.
