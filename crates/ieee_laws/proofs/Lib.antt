@@ -1,3 +1,4 @@
 -- The laws.
 pub mod MagnitudeLaws
+pub mod CastLaws
 pub mod PatternLaws

@@ -45,7 +45,7 @@ module _ {A : Type 0} where
   patch-patch o₁ n₁ o₂ n₂ o₃ n₃ (x ∷ xs) h =
       λ k. h zero (zero-lt-suc (length xs)) x k
       ∷ patch-patch (λ i. o₁ (suc i)) (λ i. n₁ (suc i)) (λ i. o₂ (suc i)) (λ i. n₂ (suc i)) (λ i. o₃ (suc i)) (λ i. n₃ (suc i)) xs
-          (λ i b. h (suc i) (suc-le-suc b)) k
+      (λ i b. h (suc i) (suc-le-suc b)) k
 
   -- two patches of one list agree where their entries do
   pub patch-ext : (o₁ : ℕ → Bool) (n₁ : ℕ → A) (o₂ : ℕ → Bool) (n₂ : ℕ → A) (l : List A)
@@ -64,8 +64,8 @@ module _ {A : Type 0} where
   patch-more own own′ new [] j v e o h = refl
   patch-more own own′ new (x ∷ xs) zero v e o h =
       let t : patch (λ i. own (suc i)) (λ i. new (suc i)) xs ≡ patch (λ i. own′ (suc i)) (λ i. new (suc i)) xs
-            = patch-ext (λ i. own (suc i)) (λ i. new (suc i)) (λ i. own′ (suc i)) (λ i. new (suc i)) xs
-                (λ i b y. rw (h (suc i) (suc-le-suc b) (λ z. omega arith))) in
+      = patch-ext (λ i. own (suc i)) (λ i. new (suc i)) (λ i. own′ (suc i)) (λ i. new (suc i)) xs
+      (λ i b y. rw (h (suc i) (suc-le-suc b) (λ z. omega arith))) in
       rw (o, e, t)
   patch-more own own′ new (x ∷ xs) (suc j) v e o h =
       let t : pick (own′ zero) (new zero) x ≡ pick (own zero) (new zero) x = rw (h zero (zero-lt-suc (length xs)) (λ z. omega arith)) in

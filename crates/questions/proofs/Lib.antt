@@ -1,0 +1,4 @@
+-- Laws that several proofs cite.
+pub mod AskLaws
+pub mod GridLaws
+pub mod StepLaws

@@ -1,0 +1,22 @@
+-- Questions 9 and 12: counts, and lengths of lent buffers.
+use mathlib.Core.Bool.{Bool, _&&_}
+use Prim.Native.Nat.{ℕ, _*_}
+use lib.Dec.{leb, eqb}
+use lib.IntN.{ℤ}
+use Rattle.list_laws.specs.Signed.{isBetween}
+
+-- Question 9: "band counts 1 to 64"
+unfoldable pub isBandCount : ℤ → Bool
+isBandCount n = isBetween 1 64 n
+
+-- Question 9: "frequency points 1 to 1,024"
+abbrev pub isPointCount : ℕ → Bool
+isPointCount n = leb 1 n && leb n 1024
+
+-- Question 9: "triplets or grid points at most 65,536 (0 allowed)"
+abbrev pub isTripletCount : ℕ → Bool
+isTripletCount n = leb n 65536
+
+-- Question 12: "Is each lent buffer exactly as long as its record?", the record being so many rows of one size
+unfoldable pub isProduct : ℕ → ℕ → ℕ → Bool
+isProduct rows size length = eqb length (rows * size)

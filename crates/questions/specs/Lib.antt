@@ -1,0 +1,5 @@
+-- The definitions that the contracts cite.
+pub mod Ask
+pub mod Grids
+pub mod Steps
+pub mod Counts
