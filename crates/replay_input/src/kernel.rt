@@ -1,4 +1,5 @@
 // The readers.
+pub mod compare;
 pub mod report;
 
 ghost use Prim.Native.Nat.{_≤_};
