@@ -1,4 +1,5 @@
 -- The laws.
 pub mod MagnitudeLaws
 pub mod CastLaws
+pub mod WholeLaws
 pub mod PatternLaws

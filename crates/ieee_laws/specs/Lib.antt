@@ -1,2 +1,3 @@
 -- The definitions.
 pub mod Magnitude
+pub mod Whole

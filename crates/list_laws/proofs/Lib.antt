@@ -7,3 +7,4 @@ pub mod FirstLaws
 pub mod FillLaws
 pub mod PatchLaws
 pub mod PartLaws
+pub mod SizeLaws
