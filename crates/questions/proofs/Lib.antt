@@ -2,3 +2,4 @@
 pub mod AskLaws
 pub mod GridLaws
 pub mod StepLaws
+pub mod RowsLaws

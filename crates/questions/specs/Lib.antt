@@ -3,3 +3,5 @@ pub mod Ask
 pub mod Grids
 pub mod Steps
 pub mod Counts
+pub mod Frequencies
+pub mod Rows

@@ -1,4 +1,6 @@
 // The tests, by what they are about.
 pub mod counts;
+pub mod frequencies;
 pub mod grid;
+pub mod rows;
 pub mod steps;
