@@ -3,3 +3,7 @@ pub mod MagnitudeLaws
 pub mod CastLaws
 pub mod RoundLaws
 pub mod ZeroLaws
+pub mod NanLaws
+pub mod OrderLaws
+pub mod WholeLaws
+pub mod PatternLaws

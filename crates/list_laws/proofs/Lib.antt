@@ -9,3 +9,4 @@ pub mod PatchLaws
 pub mod PartLaws
 pub mod MatrixLaws
 pub mod EqualLaws
+pub mod SizeLaws

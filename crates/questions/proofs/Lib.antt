@@ -3,3 +3,4 @@ pub mod AskLaws
 pub mod GridLaws
 pub mod StepLaws
 pub mod AverageLaws
+pub mod RowsLaws

@@ -5,3 +5,5 @@ pub mod Steps
 pub mod Counts
 pub mod TpTypes
 pub mod Averages
+pub mod Frequencies
+pub mod Rows

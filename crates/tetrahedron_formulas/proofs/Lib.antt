@@ -1,0 +1,3 @@
+-- The laws.
+pub mod ChoiceLaws
+pub mod FractionLaws

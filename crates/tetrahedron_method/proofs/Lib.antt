@@ -1,0 +1,3 @@
+-- The laws.
+pub mod RowLaws
+pub mod SortedLaws

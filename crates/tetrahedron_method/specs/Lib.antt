@@ -1,0 +1,4 @@
+-- The definitions.
+pub mod Weight
+pub mod Sorted
+pub mod Answer
