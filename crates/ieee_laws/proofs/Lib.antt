@@ -4,3 +4,9 @@ pub mod CastLaws
 pub mod WholeLaws
 pub mod NanLaws
 pub mod OrderLaws
+pub mod RoundLaws
+pub mod ZeroLaws
+pub mod NanLaws
+pub mod OrderLaws
+pub mod WholeLaws
+pub mod PatternLaws
