@@ -1,0 +1,48 @@
+-- From "every answer is yes" to a sound grid, and the answer by its number. Assumes nothing.
+use mathlib.Core.Path.{_≡_, refl, sym, _∙_, ap}
+use mathlib.Core.Bool.{Bool, true, false, cond}
+use mathlib.Core.List.{List}
+use Prim.Native.Nat.{ℕ, zero, suc}
+use native.Mathlib.Omega.{arith}
+use lib.IntN.{ℤ}
+use Rattle.list_laws.specs.Patch.{pick}
+use Rattle.list_laws.specs.Signed.{isNat}
+use Rattle.common.specs.Mesh.{countOf, meshOf}
+use Rattle.questions.specs.Ask.{asks, firstNo, afterCall, AllYes, Numbered}
+use Rattle.questions.specs.Grids.{gridQuestions, triplesIn, isMap, isSparseMap, isDenseMap}
+use Rattle.questions.proofs.AskLaws.{all-yes, after-refused}
+use Rattle.questions.proofs.GridLaws.{mesh-within}
+use Rattle.bzgrid.specs.declared.GridKind.the-variants.{Sparse, Dense}
+use Rattle.bzgrid.specs.declared.NeighbourAnswer.the-variants.{Filled, Refused}
+use Rattle.bzgrid.specs.Neighbours.{kindOf, gridOf, mapFits, SoundGrid}
+use Rattle.bzgrid.specs.Calls.{neighbourAnswer}
+
+fits-by : (b : Bool) (n p : ℕ) (map : List ℤ) → cond b (isSparseMap n p map) (isDenseMap n p map) ≡ true → mapFits (pick b Sparse Dense) n p map ≡ true
+fits-by true n p map e = e
+fits-by false n p map e = e
+
+module _ (kind : ℤ) (diag addresses map : List ℤ) where
+  pub grid-numbered : Numbered (gridQuestions kind diag addresses map)
+  grid-numbered = (omega arith, (omega arith, (omega arith, (omega arith, tt))))
+
+  pub sound-grid : firstNo (gridQuestions kind diag addresses map) ≡ 0 → SoundGrid (gridOf kind diag) addresses map
+  unfolding gridOf kindOf isMap
+  sound-grid e =
+      let y : AllYes (gridQuestions kind diag addresses map) = all-yes (gridQuestions kind diag addresses map) grid-numbered e in
+      record {
+        mesh = mesh-within 128 diag (y .1 .0);
+        addressed = y .1 .1 .0;
+        mapped = fits-by (isNat kind 1) (countOf (meshOf diag)) (triplesIn addresses) map (y .1 .1 .1 .0);
+      }
+
+pub filled-is : (n : ℕ) → n ≡ 0 → Filled ≡ neighbourAnswer n
+filled-is zero e = refl
+filled-is (suc n) e = absurd (omega arith)
+
+pub refused-is : (n m : ℕ) → m ≡ n → (n ≡ 0 → ⊥) → Refused n ≡ neighbourAnswer m
+refused-is zero m e h = absurd (h refl)
+refused-is (suc n) m e h = rw e
+
+-- a refused call leaves what was there
+pub kept : {A : Type 0} (n m : ℕ) (new old : A) → m ≡ n → (n ≡ 0 → ⊥) → old ≡ afterCall m new old
+kept n m new old e h = after-refused m new old (λ z. h (sym e ∙ z))

@@ -1,0 +1,74 @@
+-- Every neighbour of a sound grid is the number of one of its addresses. Assumes nothing.
+use mathlib.Core.Path.{_≡_, refl, sym, _∙_, ap}
+use mathlib.Core.Bool.{Bool, true, false, cond}
+use mathlib.Core.List.{List}
+use Prim.Native.Nat.{ℕ, _+_, _-_, _*_, _<_, _≤_}
+use native.Mathlib.Omega.{arith}
+use lib.Dec.{ltb, eqb}
+use lib.IntN.{ℤ, pos}
+use lib.ListN.{length}
+use lib.Signed.{mag}
+use Rattle.list_laws.specs.Lists.{at, firstAt, tabulate}
+use Rattle.list_laws.proofs.BoolLaws.{cond-lt}
+use Rattle.list_laws.proofs.FirstLaws.{first-lt}
+use Rattle.list_laws.proofs.FillLaws.{length-tabulate}
+use Rattle.list_laws.proofs.SignedLaws.{below-or-nat}
+use Rattle.common.specs.declared.Address.{Address}
+use Rattle.common.specs.declared.Mesh.{Mesh}
+use Rattle.common.specs.Mesh.{countOf, doubledMesh, MeshWithin}
+use Rattle.common.proofs.MeshLaws.{doubled, count-le, count-doubled}
+use Rattle.grgrid.specs.Index.{gridIndex}
+use Rattle.grgrid.proofs.IndexLaws.{index-lt}
+use Rattle.questions.specs.Grids.{triplesIn, isPlace, isSparseMap, isDenseMap}
+use Rattle.questions.proofs.GridLaws.{addresses-low, addresses-high, sparse-at, dense-step, dense-top}
+use Rattle.bzgrid.specs.declared.GridKind.{GridKind}
+use Rattle.bzgrid.specs.declared.GridKind.the-variants.{Sparse, Dense}
+use Rattle.bzgrid.specs.declared.BzGrid.{BzGrid}
+use Rattle.bzgrid.specs.Neighbours.{isAddress, mapOnDoubled, sparseNeighbour, inGroup, denseNeighbour, byKind, neighbourOf, neighboursOf, mapFits, SoundGrid}
+
+-- an index on the doubled mesh is below 8N
+pub doubled-below : {m : Mesh} → MeshWithin 128 m → (w : Address) → gridIndex w (doubledMesh m) < 8 * countOf m
+doubled-below {m} h w = omega (arith, index-lt (doubled h) w, count-doubled m)
+
+module _ (m : Mesh) (h : MeshWithin 128 m) (addresses map : List ℤ) (low : countOf m ≤ triplesIn addresses) (w : Address) where
+  sparse-lt : isSparseMap (countOf m) (triplesIn addresses) map ≡ true → sparseNeighbour m map w < triplesIn addresses
+  unfolding sparseNeighbour mapOnDoubled isPlace
+  sparse-lt q =
+      let g : ℕ = gridIndex w (doubledMesh m) in
+      cond-lt (eqb (mag (at map g)) (8 * countOf m)) (gridIndex w m) (mag (at map g)) (triplesIn addresses)
+      (λ e. omega (arith, index-lt h w))
+      (λ e. below-or-nat (at map g) (triplesIn addresses) (8 * countOf m) (sparse-at (countOf m) (triplesIn addresses) map q g (doubled-below h w)) e)
+
+  dense-lt : isDenseMap (countOf m) (triplesIn addresses) map ≡ true → denseNeighbour m addresses map w < triplesIn addresses
+  unfolding denseNeighbour inGroup
+  dense-lt q =
+      let n : ℕ = countOf m in
+      let p : ℕ = triplesIn addresses in
+      let g : ℕ = gridIndex w m in
+      let b : g < n = index-lt h w in
+      let lo : ℕ = mag (at map g) in
+      let hi : ℕ = mag (at map (g + 1)) in
+      let s : lo < hi = dense-step n p map q g b in
+      let t : hi ≤ p = dense-top n p map q (g + 1) (omega arith) in
+      cond-lt (ltb 1 (hi - lo)) (firstAt (isAddress addresses w) lo (hi - lo) lo) lo p
+      (λ e. first-lt (isAddress addresses w) lo (hi - lo) lo p (omega arith) (omega arith))
+      (λ e. omega arith)
+
+by-kind : (k : GridKind) (m : Mesh) (addresses map : List ℤ) → MeshWithin 128 m → countOf m ≤ triplesIn addresses
+    → mapFits k (countOf m) (triplesIn addresses) map ≡ true → (w : Address)
+    → byKind k (sparseNeighbour m map w) (denseNeighbour m addresses map w) < triplesIn addresses
+by-kind Sparse m addresses map h low q w = sparse-lt m h addresses map low w q
+by-kind Dense m addresses map h low q w = dense-lt m h addresses map low w q
+
+module _ (grid : BzGrid) (addresses map : List ℤ) (s : SoundGrid grid addresses map) where
+  pub neighbour-lt : (w : Address) → neighbourOf grid addresses map w < triplesIn addresses
+  unfolding neighbourOf
+  neighbour-lt w = by-kind (grid .kind) (grid .mesh) addresses map (s .mesh) (addresses-low (countOf (grid .mesh)) addresses (s .addressed)) (s .mapped) w
+
+  -- P is at most 8 * 128 * 128 * 128
+  pub addresses-small : triplesIn addresses ≤ 16777216
+  addresses-small = omega (arith, addresses-high (countOf (grid .mesh)) addresses (s .addressed), count-le (s .mesh))
+
+  pub length-neighbours : (steps : List ℤ) (g : ℕ) → length (neighboursOf grid addresses map steps g) ≡ triplesIn steps
+  unfolding neighboursOf
+  length-neighbours steps g = length-tabulate (triplesIn steps) _

@@ -1,0 +1,89 @@
+-- The neighbours of a grid point, on grids of both kinds.
+use mathlib.Core.Path.{_≡_}
+use mathlib.Core.Bool.{Bool, true, _&&_, cond}
+use mathlib.Core.List.{List}
+use Prim.Native.Nat.{ℕ, _+_, _-_, _*_}
+use lib.Dec.{ltb, eqb}
+use lib.IntN.{ℤ, pos, _+ℤ_}
+use lib.ListN.{length}
+use lib.Signed.{mag}
+use Rattle.list_laws.specs.Lists.{at, firstAt, tabulate, rows}
+use Rattle.list_laws.specs.Patch.{pick}
+use Rattle.list_laws.specs.Signed.{eqZ, isNat}
+use Rattle.common.specs.declared.Address.{Address}
+use Rattle.common.specs.declared.Mesh.{Mesh}
+use Rattle.common.specs.Mesh.{countOf, meshOf, doubledMesh, MeshWithin}
+use Rattle.grgrid.specs.Index.{gridIndex}
+use Rattle.questions.specs.Grids.{areAddresses, isSparseMap, isDenseMap, triplesIn}
+use Rattle.bzgrid.specs.declared.GridKind.{GridKind}
+use Rattle.bzgrid.specs.declared.GridKind.the-variants.{Sparse, Dense}
+use Rattle.bzgrid.specs.declared.BzGrid.{BzGrid}
+
+-- the kind that a tested number names: 1 or 2
+unfoldable pub kindOf : ℤ → GridKind
+kindOf kind = pick (isNat kind 1) Sparse Dense
+
+-- the grid that tested numbers name
+unfoldable pub gridOf : ℤ → List ℤ → BzGrid
+gridOf kind diag = record { kind = kindOf kind; mesh = meshOf diag }
+
+-- address number j is w
+unfoldable pub isAddress : List ℤ → Address → ℕ → Bool
+isAddress addresses w j =
+    (eqZ (at addresses (3 * j)) (w .x) && eqZ (at addresses (3 * j + 1)) (w .y)) && eqZ (at addresses (3 * j + 2)) (w .z)
+
+-- what the map of kind 1 holds at an address "on the doubled mesh"
+unfoldable pub mapOnDoubled : Mesh → List ℤ → Address → ℕ
+mapOnDoubled m map w = mag (at map (gridIndex w (doubledMesh m)))
+
+-- "Kind 1: look up the address in the map on the doubled mesh. The value 8N means missing; then the number is the grid index on D."
+unfoldable pub sparseNeighbour : Mesh → List ℤ → Address → ℕ
+sparseNeighbour m map w = cond (eqb (mapOnDoubled m map w) (8 * countOf m)) (gridIndex w m) (mapOnDoubled m map w)
+
+-- "In a group of more than one, the first address equal to the wanted one ends the search; without a match the number is lo."
+unfoldable pub inGroup : List ℤ → Address → ℕ → ℕ → ℕ
+inGroup addresses w lo hi = cond (ltb 1 (hi - lo)) (firstAt (isAddress addresses w) lo (hi - lo) lo) lo
+
+-- "Kind 2: lo and hi are the map at the index and one after."
+unfoldable pub denseNeighbour : Mesh → List ℤ → List ℤ → Address → ℕ
+denseNeighbour m addresses map w = inGroup addresses w (mag (at map (gridIndex w m))) (mag (at map (gridIndex w m + 1)))
+
+-- one of two numbers, by the kind
+abbrev pub byKind : GridKind → ℕ → ℕ → ℕ
+byKind Sparse a b = a
+byKind Dense a b = b
+
+-- the number of the grid point that stands for the address w
+unfoldable pub neighbourOf : BzGrid → List ℤ → List ℤ → Address → ℕ
+neighbourOf grid addresses map w =
+    byKind (grid .kind) (sparseNeighbour (grid .mesh) map w) (denseNeighbour (grid .mesh) addresses map w)
+
+-- component i of the address of point g, moved by step j
+abbrev pub moved : List ℤ → List ℤ → ℕ → ℕ → ℕ → ℤ
+moved addresses steps g j i = at addresses (3 * g + i) +ℤ at steps (3 * j + i)
+
+-- the wanted address: that of point g, moved by step j
+unfoldable pub wantedAddress : List ℤ → List ℤ → ℕ → ℕ → Address
+wantedAddress addresses steps g j =
+    record { x = moved addresses steps g j 0; y = moved addresses steps g j 1; z = moved addresses steps g j 2 }
+
+-- the neighbours of point g, one for each step
+unfoldable pub neighboursOf : BzGrid → List ℤ → List ℤ → List ℤ → ℕ → List ℤ
+neighboursOf grid addresses map steps g =
+    tabulate (triplesIn steps) (λ j. pos (neighbourOf grid addresses map (wantedAddress addresses steps g j)))
+
+-- the neighbours of each of the points in turn
+unfoldable pub neighboursOfAll : BzGrid → List ℤ → List ℤ → List ℤ → List ℤ → List ℤ
+neighboursOfAll grid addresses map steps points =
+    rows (length points) (λ i. neighboursOf grid addresses map steps (mag (at points i)))
+
+-- question 6 of a map, by the kind
+abbrev pub mapFits : GridKind → ℕ → ℕ → List ℤ → Bool
+mapFits Sparse n p map = isSparseMap n p map
+mapFits Dense n p map = isDenseMap n p map
+
+-- questions 4 to 6 are answered yes
+pub record SoundGrid (grid : BzGrid) (addresses map : List ℤ) : Type 0 where
+  pub mesh : MeshWithin 128 (grid .mesh)
+  pub addressed : areAddresses (countOf (grid .mesh)) addresses ≡ true
+  pub mapped : mapFits (grid .kind) (countOf (grid .mesh)) (triplesIn addresses) map ≡ true

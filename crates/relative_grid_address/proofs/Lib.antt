@@ -1,0 +1,3 @@
+-- The laws.
+pub mod DiagonalLaws
+pub mod WholeDiagonalLaws

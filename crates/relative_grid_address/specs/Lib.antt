@@ -1,0 +1,4 @@
+-- The definitions.
+pub mod Diagonal
+pub mod Answer
+pub mod Whole

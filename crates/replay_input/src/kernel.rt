@@ -1,0 +1,239 @@
+// The readers.
+pub mod compare;
+pub mod report;
+
+ghost use Prim.Native.Nat.{_≤_};
+ghost use mathlib.Core.Path.{_≡_};
+ghost use lib.ListN.{length, take};
+ghost use lib.Ieee.{binary64, ofBits, toBits};
+
+// Where the next field starts.
+pub struct Cursor {
+    pub at: usize,
+}
+
+pub struct Whole {
+    pub value: i64,
+    pub next: Cursor,
+}
+
+// Three whole numbers, as an address or a mesh.
+pub struct Three {
+    pub value: [i64; 3],
+    pub next: Cursor,
+}
+
+pub struct Bits {
+    pub value: u64,
+    pub next: Cursor,
+}
+
+pub struct Real {
+    pub value: f64,
+    pub next: Cursor,
+}
+
+// How many numbers a list put at the start of a buffer.
+pub struct Listed {
+    pub count: usize,
+    pub next: Cursor,
+}
+
+// What a byte counts as a digit; 16 where it is none.
+fn digit_of(b: u8) -> u64
+    ensures { λ r. ⌜ r ≤ 16 ⌝ }
+{
+    if 48 <= b {
+        if b <= 57 {
+            return (b - 48) as u64;
+        }
+        if 97 <= b {
+            if b <= 102 {
+                return (b - 87) as u64;
+            }
+        }
+    }
+    16
+}
+
+// A decimal number with no sign: what the digits spell up to the first byte that is none, which is passed too.
+pub fn next_count(text: &[u8], c: Cursor) -> Bits {
+    let mut n: u64 = 0;
+    let mut i = c.at;
+    while i < text.len() {
+        let d = digit_of(text[i]);
+        i += 1;
+        if 10 <= d {
+            break;
+        }
+        n = n % 1844674407370955161 * 10 + d;
+    }
+    Bits {
+        value: n,
+        next: Cursor { at: i },
+    }
+}
+
+// The same for hexadecimal digits.
+pub fn next_bits(text: &[u8], c: Cursor) -> Bits {
+    let mut n: u64 = 0;
+    let mut i = c.at;
+    while i < text.len() {
+        let d = digit_of(text[i]);
+        i += 1;
+        if 16 <= d {
+            break;
+        }
+        n = n % 1152921504606846976 * 16 + d;
+    }
+    Bits {
+        value: n,
+        next: Cursor { at: i },
+    }
+}
+
+fn positive(n: u64) -> i64 {
+    (n % 9223372036854775808) as i64
+}
+
+fn negative(n: u64) -> i64 {
+    if n == 0 {
+        return 0;
+    }
+    let less = (n - 1) % 9223372036854775808;
+    -1 - (less as i64)
+}
+
+pub fn next_whole(text: &[u8], c: Cursor) -> Whole {
+    let at = c.at;
+    if at < text.len() {
+        if text[at] == 45 {
+            let n = next_count(text, Cursor { at: at + 1 });
+            let next = n.next;
+            return Whole {
+                value: negative(n.value),
+                next,
+            };
+        }
+    }
+    let n = next_count(text, c);
+    let next = n.next;
+    Whole {
+        value: positive(n.value),
+        next,
+    }
+}
+
+pub fn next_three(text: &[u8], c: Cursor) -> Three {
+    let x = next_whole(text, c);
+    let y = next_whole(text, x.next);
+    let z = next_whole(text, y.next);
+    let next = z.next;
+    Three {
+        value: [x.value, y.value, z.value],
+        next,
+    }
+}
+
+// The float of a bit pattern, every one: a NaN's pattern gives a NaN.
+pub fn float_of(bits: u64) -> f64
+    ensures { λ r. ⌜ r ≡ ofBits binary64 bits ⌝ }
+{
+    if 9218868437227405312 < bits % 9223372036854775808 {
+        return 0.0 / 0.0;
+    }
+    f64::from_bits(bits)
+}
+
+// The bit pattern of a float; of a NaN the one with only the highest digit set.
+pub fn bits_of(x: f64) -> u64
+    ensures { λ r. ⌜ r ≡ toBits binary64 x ⌝ }
+{
+    if x == x {
+        return f64::to_bits(x);
+    }
+    9221120237041090560
+}
+
+pub fn next_real(text: &[u8], c: Cursor) -> Real {
+    let b = next_bits(text, c);
+    let next = b.next;
+    Real {
+        value: float_of(b.value),
+        next,
+    }
+}
+
+// A count that a buffer of length most can hold.
+fn at_most(n: u64, most: usize) -> usize
+    ensures { λ r. ⌜ r ≤ most ⌝ }
+{
+    if n < most as u64 { n as usize } else { most }
+}
+
+// How much of a buffer a count takes: the count, or all of the buffer where that is shorter.
+pub fn part_of(n: u64, buf: &[i64]) -> usize
+    ensures { λ r. ⌜ (r ≤ length (now (buf .entry))) × (r ≡ length (take r (now (buf .entry)))) ⌝ }
+{
+    at_most(n, buf.len())
+}
+
+// A list of whole numbers, to the start of out.
+pub fn fill_wholes(text: &[u8], c: Cursor, out: &mut [i64]) -> Listed
+    ensures { λ r. ⌜ (r .count ≤ length (now (out .exit))) × (r .count ≡ length (take (r .count) (now (out .exit)))) ⌝ }
+{
+    let head = next_count(text, c);
+    let count = at_most(head.value, out.len());
+    let mut next = head.next;
+    let mut i = 0;
+    while i < count {
+        let w = next_whole(text, next);
+        let value = w.value;
+        out[i] = value;
+        next = w.next;
+        i += 1;
+    }
+    Listed { count, next }
+}
+
+// A list of floats, to the start of out.
+pub fn fill_reals(text: &[u8], c: Cursor, out: &mut [f64]) -> Listed
+    ensures { λ r. ⌜ (r .count ≤ length (now (out .exit))) × (r .count ≡ length (take (r .count) (now (out .exit)))) ⌝ }
+{
+    let head = next_count(text, c);
+    let count = at_most(head.value, out.len());
+    let mut next = head.next;
+    let mut i = 0;
+    while i < count {
+        let w = next_real(text, next);
+        let value = w.value;
+        out[i] = value;
+        next = w.next;
+        i += 1;
+    }
+    Listed { count, next }
+}
+
+// Reads the next block to the start of buf, and answers how many bytes it has; 0 where no block is left.
+pub fn read_block(buf: &mut [u8]) -> usize
+    ensures { λ r. ⌜ (r ≤ length (now (buf .exit))) × (r ≡ length (take r (now (buf .exit)))) ⌝ }
+{
+    let mut head = [0u8; 7];
+    let got = io::read_full(0, &mut head);
+    if got < 7 {
+        return 0;
+    }
+    let size = next_count(&head, Cursor { at: 0 });
+    let n = at_most(size.value, buf.len());
+    read_part(buf, n)
+}
+
+// Reads n bytes to the start of buf, fewer where buf is shorter, and answers how many there were.
+fn read_part(buf: &mut [u8], n: usize) -> usize
+    ensures { λ r. ⌜ (r ≤ length (now (buf .exit))) × (r ≡ length (take r (now (buf .exit)))) ⌝ }
+{
+    if n <= buf.len() {
+        return io::read_full(0, &mut buf[..n]);
+    }
+    0
+}
