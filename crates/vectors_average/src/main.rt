@@ -5,9 +5,10 @@
 //
 // Refusal 0 is an accepted call. A refused one has no runs: it must leave both buffers as they were. Weights are compared by bits.
 ghost use mathlib.Core.Path.{_≡_};
-ghost use Prim.Native.Nat.{_≤_};
+ghost use Prim.Native.Nat.{_≤_, _<_};
 ghost use lib.ListN.{length};
 use averaging::AveragingAnswer;
+use common::kernel::magnitude;
 use replay_input::kernel as input;
 use replay_input::kernel::Cursor;
 use replay_input::kernel::compare;
@@ -46,14 +47,24 @@ fn room_of(n: u64) -> usize
     if n < 12300 { n as usize } else { 12300 }
 }
 
+// The flags that occur.
 fn flag_of(n: i64) -> i8 {
-    if n < -128 {
-        return 0;
+    match n {
+        0 => 0,
+        1 => 1,
+        2 => 2,
+        -1 => -1,
+        127 => 127,
+        _ => -128,
     }
-    if 127 < n {
-        return 0;
-    }
-    n as i8
+}
+
+// Where a list of n stands when it is gone through over and over.
+fn place_of(i: usize, n: usize) -> usize
+    requires { ⌜ 0 < n ⌝ }
+    ensures { λ r. ⌜ r < n ⌝ }
+{
+    i % n
 }
 
 // The list over and over, up to the buffer's length.
@@ -63,7 +74,7 @@ fn repeat_weights(list: &[f64], out: &mut [f64]) {
     }
     let mut i = 0;
     while i < out.len() {
-        let value = list[i % list.len()];
+        let value = list[place_of(i, list.len())];
         out[i] = value;
         i += 1;
     }
@@ -75,7 +86,7 @@ fn repeat_flags(list: &[i64], out: &mut [i8]) {
     }
     let mut i = 0;
     while i < out.len() {
-        let value = flag_of(list[i % list.len()]);
+        let value = flag_of(list[place_of(i, list.len())]);
         out[i] = value;
         i += 1;
     }
@@ -88,7 +99,7 @@ fn weights_kept(list: &[f64], w: &[f64]) -> bool {
     }
     let mut i = 0;
     while i < w.len() {
-        if !compare::same_bits(w[i], list[i % list.len()]) {
+        if !compare::same_bits(w[i], list[place_of(i, list.len())]) {
             return false;
         }
         i += 1;
@@ -102,7 +113,7 @@ fn flags_kept(list: &[i64], flags: &[i8]) -> bool {
     }
     let mut i = 0;
     while i < flags.len() {
-        if flags[i] != flag_of(list[i % list.len()]) {
+        if flags[i] != flag_of(list[place_of(i, list.len())]) {
             return false;
         }
         i += 1;
@@ -111,7 +122,7 @@ fn flags_kept(list: &[i64], flags: &[i8]) -> bool {
 }
 
 // The end of a run of n equal values from i on, and one past the buffer's end where there is no such run.
-fn weight_run(w: &[f64], i: usize, n: i64, value: f64) -> usize {
+fn weight_run(w: &[f64], i: usize, n: usize, value: f64) -> usize {
     let mut at = i;
     let mut left = n;
     while 0 < left {
@@ -127,7 +138,7 @@ fn weight_run(w: &[f64], i: usize, n: i64, value: f64) -> usize {
     at
 }
 
-fn flag_run(flags: &[i8], i: usize, n: i64, value: i64) -> usize {
+fn flag_run(flags: &[i8], i: usize, n: usize, value: i64) -> usize {
     let mut at = i;
     let mut left = n;
     while 0 < left {
@@ -151,7 +162,7 @@ fn weight_runs_are(w: &[f64], lengths: &[i64], runs: &[f64]) -> bool {
     let mut at = 0;
     let mut r = 0;
     while r < lengths.len() {
-        at = weight_run(w, at, lengths[r], runs[r]);
+        at = weight_run(w, at, magnitude(lengths[r]), runs[r]);
         r += 1;
     }
     at == w.len()
@@ -164,7 +175,7 @@ fn flag_runs_are(flags: &[i8], lengths: &[i64], runs: &[i64]) -> bool {
     let mut at = 0;
     let mut r = 0;
     while r < lengths.len() {
-        at = flag_run(flags, at, lengths[r], runs[r]);
+        at = flag_run(flags, at, magnitude(lengths[r]), runs[r]);
         r += 1;
     }
     at == flags.len()
@@ -312,6 +323,22 @@ fn after_ids(text: &[u8], c: Cursor) -> Cursor {
     b.next
 }
 
+// The call, and whether all is as stored.
+fn call_agrees(
+    text: &[u8],
+    c: Cursor,
+    refusal: u64,
+    weights: Buffer,
+    flags: Buffer,
+    w: &mut [f64],
+    z: &mut [i8],
+) -> bool {
+    let number = number_after(text, c, weights.given, flags.given, w, z);
+    (number == refusal)
+        & weights_agree(text, weights.given, weights.runs, refusal, w)
+        & flags_agree(text, flags.given, flags.runs, refusal, z)
+}
+
 fn average_case(text: &[u8], c: Cursor) -> Judged {
     let refusal = input::next_count(text, c);
     let head = refusal.next;
@@ -322,19 +349,18 @@ fn average_case(text: &[u8], c: Cursor) -> Judged {
     let mut z = flags_buffer();
     let n = weights.room;
     let k = flags.room;
-    let number = number_after(
+    let agrees = call_agrees(
         text,
         head,
-        weights.given,
-        flags.given,
+        refusal.value,
+        weights,
+        flags,
         &mut w[..n],
         &mut z[..k],
     );
-    let kept = weights_agree(text, weights.given, weights.runs, refusal.value, &w[..n]);
-    let flags_same = flags_agree(text, flags.given, flags.runs, refusal.value, &z[..k]);
     Judged {
         refusal: refusal.value,
-        agrees: (number == refusal.value) & kept & flags_same,
+        agrees,
         next,
     }
 }
