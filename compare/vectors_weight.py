@@ -222,6 +222,14 @@ def weight_cases(r, c):
             v = tuple(r.unit() * 10 for _ in range(4))
             a, b, d = sorted(v)[1:]
             c.row(f, r.pick([b + (d - b) * r.unit(), b + (d - b) * r.unit(), a + (b - a) * r.unit()]), v)
+        for _ in range(200):                                             # between the two middle vertices
+            v = tuple(r.unit() * 10 for _ in range(4))
+            a, b = sorted(v)[1:3]
+            c.row(f, a + (b - a) * r.unit(), v)
+    for _ in range(500):                                                 # J below the last vertex: another order of n shows in 1 of 100
+        v = tuple(r.unit() * 10 for _ in range(4))
+        b, d = sorted(v)[2:]
+        c.row("J", b + (d - b) * r.unit(), v)
     for rows in (24, 48, 72, 96):
         for k in range(3):
             if k < 2:
