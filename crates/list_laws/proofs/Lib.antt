@@ -7,4 +7,6 @@ pub mod FirstLaws
 pub mod FillLaws
 pub mod PatchLaws
 pub mod PartLaws
+pub mod MatrixLaws
+pub mod EqualLaws
 pub mod SizeLaws

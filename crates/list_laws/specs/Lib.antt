@@ -1,4 +1,5 @@
 -- The definitions.
 pub mod Lists
+pub mod Matrix
 pub mod Patch
 pub mod Signed

@@ -2,4 +2,5 @@
 pub mod AskLaws
 pub mod GridLaws
 pub mod StepLaws
+pub mod AverageLaws
 pub mod RowsLaws

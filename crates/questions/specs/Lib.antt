@@ -3,5 +3,7 @@ pub mod Ask
 pub mod Grids
 pub mod Steps
 pub mod Counts
+pub mod TpTypes
+pub mod Averages
 pub mod Frequencies
 pub mod Rows

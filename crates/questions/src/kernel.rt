@@ -1,6 +1,8 @@
 // The tests, by what they are about.
+pub mod averages;
 pub mod counts;
 pub mod frequencies;
 pub mod grid;
 pub mod rows;
 pub mod steps;
+pub mod tp_type;

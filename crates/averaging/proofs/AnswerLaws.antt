@@ -1,0 +1,80 @@
+-- What an averaging that no question refuses may go by, and its answer by the number of the first no. Assumes nothing.
+use mathlib.Core.Path.{_≡_, refl, sym, ap, _∙_}
+use mathlib.Core.Bool.{Bool, true, false, cond, _&&_}
+use mathlib.Core.List.{List}
+use Prim.Native.Nat.{ℕ, zero, suc, _*_, _≤_, _<_}
+use native.Mathlib.Nat.{mul-assoc}
+use native.Mathlib.Omega.{arith}
+use lib.Dec.{eqb}
+use lib.IntN.{ℤ}
+use lib.ListN.{length}
+use lib.Signed.{mag}
+use lib.Ieee.{Float}
+use borrow.Author.Tests.{eqb-true}
+use Rattle.list_laws.specs.Signed.{isNat, isBetween}
+use Rattle.list_laws.proofs.BoolLaws.{and-left, and-right}
+use Rattle.list_laws.proofs.SignedLaws.{between-high}
+use Rattle.questions.specs.Averages.{areDegenerateIds}
+use Rattle.questions.specs.Counts.{isBandCount}
+use Rattle.questions.specs.TpTypes.{channelsOf}
+use Rattle.questions.proofs.AskLaws.{all-yes}
+use Rattle.questions.proofs.AverageLaws.{ids-length}
+use Rattle.averaging.specs.Answers.{flagCount, averagingQuestions, averagingNo, answerOf}
+use Rattle.averaging.specs.declared.AveragingAnswer.{AveragingAnswer}
+use Rattle.averaging.specs.declared.AveragingAnswer.the-variants.{Averaged, Refused}
+
+-- ---- sizes
+
+choice-le : (a b : Bool) → cond a 2 (cond b 3 1) ≤ 3
+choice-le true b = omega arith
+choice-le false true = omega arith
+choice-le false false = omega arith
+
+pub channels-le : (t : ℤ) → channelsOf t ≤ 3
+unfolding channelsOf
+channels-le t = choice-le (isNat t 2) (isNat t 3)
+
+pub bands-le : (bands : ℤ) → isBandCount bands ≡ true → mag bands ≤ 64
+unfolding isBandCount
+bands-le bands e = between-high 1 64 bands e
+
+-- question 9's yes bounds both counts
+pub counts-le : (points bands : ℤ) → (isBandCount bands && isBetween 1 1024 points) ≡ true → (mag bands ≤ 64) × (mag points ≤ 1024)
+counts-le points bands e =
+    (bands-le bands (and-left (isBandCount bands) (isBetween 1 1024 points) e), between-high 1 1024 points (and-right (isBandCount bands) (isBetween 1 1024 points) e))
+
+-- ---- what an accepted call goes by
+
+pub record Accepted (iw : List Float) (iwz ids1 ids2 : List ℤ) (points bands type : ℤ) : Type 0 where
+  pub counts : (mag bands ≤ 64) × (mag points ≤ 1024)
+  pub weights : length iw ≡ channelsOf type * mag points * (mag bands * mag bands)
+  pub flags : length iwz ≡ mag points * (mag bands * mag bands)
+  pub rows : length ids1 ≡ mag bands
+  pub columns : length ids2 ≡ mag bands
+
+pub accepted : (iw : List Float) (iwz ids1 ids2 : List ℤ) (points bands type : ℤ)
+    → averagingNo iw iwz ids1 ids2 points bands type ≡ 0 → Accepted iw iwz ids1 ids2 points bands type
+accepted iw iwz ids1 ids2 points bands type e =
+    let yes-all = all-yes (averagingQuestions iw iwz ids1 ids2 points bands type) (omega arith, (omega arith, (omega arith, (omega arith, (omega arith, tt))))) e in
+    let lengths = yes-all .1 .1 .0 in
+    let ids = yes-all .1 .1 .1 .0 in
+    let weights-there = eqb (length iw) (channelsOf type * flagCount points bands) in
+    let flags-there = eqb (length iwz) (flagCount points bands) in
+    record {
+      counts = counts-le points bands (yes-all .1 .0);
+      weights = eqb-true (length iw) (channelsOf type * flagCount points bands) (and-left weights-there flags-there lengths)
+          ∙ sym (mul-assoc (channelsOf type) (mag points) (mag bands * mag bands));
+      flags = eqb-true (length iwz) (flagCount points bands) (and-right weights-there flags-there lengths);
+      rows = ids-length (mag bands) ids1 (and-left (areDegenerateIds (mag bands) ids1) (areDegenerateIds (mag bands) ids2) ids);
+      columns = ids-length (mag bands) ids2 (and-right (areDegenerateIds (mag bands) ids1) (areDegenerateIds (mag bands) ids2) ids);
+    }
+
+-- ---- the answer
+
+pub answer-refused : (n : ℕ) → (n ≡ 0 → ⊥) → Refused n ≡ answerOf n
+answer-refused zero h = absurd (h refl)
+answer-refused (suc n) h = refl
+
+pub answer-done : (n : ℕ) → n ≡ 0 → Averaged ≡ answerOf n
+answer-done zero e = refl
+answer-done (suc n) e = absurd (omega arith)

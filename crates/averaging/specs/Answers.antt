@@ -1,0 +1,56 @@
+-- The averaging of one triplet: the questions it asks, its answer, and what its two buffers hold afterwards.
+-- The arguments are those of `average_weights_over_degenerate_sets`: weights, flags, both id lists, the counts of points and bands, the type.
+use mathlib.Core.Bool.{_&&_}
+use mathlib.Core.List.{List, [], _∷_}
+use Prim.Native.Nat.{ℕ, zero, suc, _*_}
+use lib.Dec.{eqb}
+use lib.IntN.{ℤ}
+use lib.ListN.{length}
+use lib.Signed.{mag}
+use lib.Ieee.{Float}
+use Rattle.list_laws.specs.Signed.{isBetween}
+use Rattle.questions.specs.Ask.{Question, asks, firstNo, afterCall}
+use Rattle.questions.specs.Averages.{areDegenerateIds, areWeights}
+use Rattle.questions.specs.Counts.{isBandCount}
+use Rattle.questions.specs.TpTypes.{isTpType, channelsOf}
+use Rattle.averaging.specs.Weights.{averagedPoints}
+use Rattle.averaging.specs.Flags.{averagedFlagPoints}
+use Rattle.averaging.specs.declared.AveragingAnswer.{AveragingAnswer}
+use Rattle.averaging.specs.declared.AveragingAnswer.the-variants.{Averaged, Refused}
+
+-- how many flags a triplet has: one for each point, b1, b2
+abbrev pub flagCount : ℤ → ℤ → ℕ
+flagCount points bands = mag points * (mag bands * mag bands)
+
+-- questions 8, 9, 12, 17 and 19
+abbrev pub averagingQuestions : List Float → List ℤ → List ℤ → List ℤ → ℤ → ℤ → ℤ → List Question
+averagingQuestions iw iwz ids1 ids2 points bands type =
+    asks 8 (isTpType type)
+    ∷ asks 9 (isBandCount bands && isBetween 1 1024 points)
+    ∷ asks 12 (eqb (length iw) (channelsOf type * flagCount points bands) && eqb (length iwz) (flagCount points bands))
+    ∷ asks 17 (areDegenerateIds (mag bands) ids1 && areDegenerateIds (mag bands) ids2)
+    ∷ asks 19 (areWeights iw)
+    ∷ []
+
+-- the number of the first no, or 0
+abbrev pub averagingNo : List Float → List ℤ → List ℤ → List ℤ → ℤ → ℤ → ℤ → ℕ
+averagingNo iw iwz ids1 ids2 points bands type = firstNo (averagingQuestions iw iwz ids1 ids2 points bands type)
+
+-- `Averaged` where no question says no, otherwise `Refused` with the number of the first
+abbrev pub answerOf : ℕ → AveragingAnswer
+answerOf zero = Averaged
+answerOf (suc n) = Refused (suc n)
+
+-- the answer
+abbrev pub averagingAnswer : List Float → List ℤ → List ℤ → List ℤ → ℤ → ℤ → ℤ → AveragingAnswer
+averagingAnswer iw iwz ids1 ids2 points bands type = answerOf (averagingNo iw iwz ids1 ids2 points bands type)
+
+-- the weights afterwards: each point's matrix of each channel is averaged; as they were after a refusal
+abbrev pub weightsAfter : List Float → List ℤ → List ℤ → List ℤ → ℤ → ℤ → ℤ → List Float
+weightsAfter iw iwz ids1 ids2 points bands type =
+    afterCall (averagingNo iw iwz ids1 ids2 points bands type) (averagedPoints (mag bands) ids1 ids2 (channelsOf type * mag points) iw) iw
+
+-- the flags afterwards
+abbrev pub flagsAfter : List Float → List ℤ → List ℤ → List ℤ → ℤ → ℤ → ℤ → List ℤ
+flagsAfter iw iwz ids1 ids2 points bands type =
+    afterCall (averagingNo iw iwz ids1 ids2 points bands type) (averagedFlagPoints (mag bands) ids1 ids2 (mag points) iwz) iwz

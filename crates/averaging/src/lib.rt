@@ -1,0 +1,90 @@
+// The part of triplet_iw.rs that averages integration weights over degenerate sets.
+ghost use mathlib.Core.Path.{_≡_};
+ghost use Rattle.averaging.specs.Answers.{averagingNo, averagingAnswer, weightsAfter, flagsAfter};
+use common::kernel::is_between;
+use common::kernel::magnitude;
+use questions::kernel::averages::degenerate_ids_ok;
+use questions::kernel::averages::weights_ok;
+use questions::kernel::counts::band_count_ok;
+use questions::kernel::tp_type::channels_of;
+use questions::kernel::tp_type::tp_type_ok;
+
+pub mod kernel;
+
+// Done, or the number of the first question that is answered no.
+pub enum AveragingAnswer {
+    Averaged,
+    Refused(u64),
+}
+
+// The number of the first question that is answered no, or 0.
+fn averaging_no(
+    iw: &[f64],
+    iw_zero: &[i8],
+    degenerate_ids1: &[i64],
+    degenerate_ids2: &[i64],
+    num_band0: i64,
+    num_band: i64,
+    tp_type: i64,
+) -> u64
+    ensures { λ r. ⌜ r ≡ averagingNo (now (iw .entry)) (now («iw_zero» .entry))
+        (now («degenerate_ids1» .entry)) (now («degenerate_ids2» .entry)) «num_band0» «num_band» «tp_type» ⌝ }
+{
+    if !tp_type_ok(tp_type) {
+        return questions::BAD_TP_TYPE;
+    }
+    if !(band_count_ok(num_band) & is_between(1, 1024, num_band0)) {
+        return questions::BAD_COUNT;
+    }
+    let bands = magnitude(num_band);
+    let size = magnitude(num_band0) * (bands * bands);
+    let all = channels_of(tp_type) * size;
+    if !((iw.len() == all) & (iw_zero.len() == size)) {
+        return questions::BAD_LENGTH;
+    }
+    if !(degenerate_ids_ok(bands, degenerate_ids1) & degenerate_ids_ok(bands, degenerate_ids2)) {
+        return questions::BAD_DEGENERATE_IDS;
+    }
+    if !weights_ok(iw) {
+        return questions::BAD_WEIGHT;
+    }
+    0
+}
+
+// Averages the weights and the flags of one triplet in place. `iw` holds the channels one after another, each by point,
+// band at q', band at q''; `iw_zero` has the shape of one channel; `num_band0` counts the frequency points.
+pub fn average_weights_over_degenerate_sets(
+    iw: &mut [f64],
+    iw_zero: &mut [i8],
+    degenerate_ids1: &[i64],
+    degenerate_ids2: &[i64],
+    num_band0: i64,
+    num_band: i64,
+    tp_type: i64,
+) -> AveragingAnswer
+    ensures { λ r. ⌜ r ≡ averagingAnswer (now (iw .entry)) (now («iw_zero» .entry))
+        (now («degenerate_ids1» .entry)) (now («degenerate_ids2» .entry)) «num_band0» «num_band» «tp_type» ⌝ }
+    ensures { λ r. ⌜ now (iw .exit) ≡ weightsAfter (now (iw .entry)) (now («iw_zero» .entry))
+        (now («degenerate_ids1» .entry)) (now («degenerate_ids2» .entry)) «num_band0» «num_band» «tp_type» ⌝ }
+    ensures { λ r. ⌜ now («iw_zero» .exit) ≡ flagsAfter (now (iw .entry)) (now («iw_zero» .entry))
+        (now («degenerate_ids1» .entry)) (now («degenerate_ids2» .entry)) «num_band0» «num_band» «tp_type» ⌝ }
+{
+    let no = averaging_no(
+        iw,
+        iw_zero,
+        degenerate_ids1,
+        degenerate_ids2,
+        num_band0,
+        num_band,
+        tp_type,
+    );
+    if no != 0 {
+        return AveragingAnswer::Refused(no);
+    }
+    let bands = magnitude(num_band);
+    let points = magnitude(num_band0);
+    let all_points = channels_of(tp_type) * points;
+    kernel::weights::average_points(iw, degenerate_ids1, degenerate_ids2, bands, all_points);
+    kernel::flags::average_points(iw_zero, degenerate_ids1, degenerate_ids2, bands, points);
+    AveragingAnswer::Averaged
+}
