@@ -50,15 +50,15 @@ fn first_address(addresses: &[i64], lo: usize, hi: usize, w: Address) -> usize
     requires { ⌜ 3 * hi ≤ length (now addresses) ⌝ }
     ensures { λ r. ⌜ r ≡ firstAt (isAddress (now (addresses .entry)) w) lo (hi - lo) lo ⌝ }
 {
-    let mut j = lo;
+    let mut k = lo;
     let found = loop {
-        if hi <= j {
+        if hi <= k {
             break lo;
         }
-        if same_address(addresses, j, w) {
-            break j;
+        if same_address(addresses, k, w) {
+            break k;
         }
-        j += 1;
+        k += 1;
     };
     found
 }
