@@ -1,7 +1,6 @@
 -- `vectors_average::average_case` is safe and ends. Assumes nothing.
 use mathlib.Core.Path.{sym}
 use lib.Seq.{length-take-le}
-use lib.ListN.{length}
 use native.Mathlib.Omega.{arith}
 use borrow.Author.Needs.{needs}
 use Rattle.vectors_average.proofs.average_case.Statement.{statement}

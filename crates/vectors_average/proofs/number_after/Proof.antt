@@ -1,6 +1,5 @@
 -- `vectors_average::number_after` is safe and ends: both buffers keep their lengths. Assumes nothing.
 use mathlib.Core.Path.{_∙_}
-use lib.ListN.{length}
 use borrow.Author.Needs.{needs}
 use Rattle.vectors_average.proofs.number_after.Statement.{statement}
 use Rattle.vectors_average.proofs.number_after.Tie as tie

@@ -1,6 +1,6 @@
 -- `vectors_average::repeat_flags` is safe and ends: the buffer keeps its length, and the measure is what is left of it. Assumes nothing.
 use mathlib.Core.Path.{_≡_}
-use Prim.Native.Nat.{_-_, _≤_}
+use Prim.Native.Nat.{_-_}
 use lib.ListN.{length-set}
 use lib.ListN.{length}
 use native.Mathlib.Omega.{arith}

@@ -1,5 +1,5 @@
 -- `vectors_average::weight_runs_are` is safe and ends: the measure is how many runs are left. Assumes nothing.
-use Prim.Native.Nat.{_-_, _≤_}
+use Prim.Native.Nat.{_-_}
 use lib.ListN.{length}
 use borrow.Author.Needs.{needs}
 use Rattle.vectors_average.proofs.weight_runs_are.Statement.{statement}

@@ -1,5 +1,5 @@
 -- `vectors_average::weights_kept` is safe and ends: the measure is what is left of the buffer. Assumes nothing.
-use Prim.Native.Nat.{_-_, _≤_}
+use Prim.Native.Nat.{_-_}
 use lib.ListN.{length}
 use borrow.Author.Needs.{needs}
 use Rattle.vectors_average.proofs.weights_kept.Statement.{statement}
