@@ -149,10 +149,10 @@ pub fn float_of(bits: u64) -> f64
 pub fn bits_of(x: f64) -> u64
     ensures { λ r. ⌜ r ≡ toBits binary64 x ⌝ }
 {
-    if x == x {
-        return f64::to_bits(x);
+    if x != x {
+        return 9221120237041090560;
     }
-    9221120237041090560
+    f64::to_bits(x)
 }
 
 pub fn next_real(text: &[u8], c: Cursor) -> Real {

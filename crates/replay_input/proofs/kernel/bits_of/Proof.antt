@@ -1,20 +1,20 @@
--- `replay_input::kernel::bits_of` meets its contract: a float that equals itself is no NaN, and any other is the NaN. Assumes nothing.
+-- `replay_input::kernel::bits_of` meets its contract: a float that differs from itself is the NaN, and no other is. Assumes nothing.
 use mathlib.Core.Path.{sym, ap}
 use lib.Ieee.{toBits, binary64}
 use borrow.Author.Needs.{needs}
-use Rattle.ieee_laws.proofs.PatternLaws.{equal-is-no-nan, unequal-is-nan}
+use Rattle.ieee_laws.proofs.NanLaws.{is-nan, no-nan}
 use Rattle.replay_input.proofs.kernel.bits_of.Statement.{statement}
 use Rattle.replay_input.proofs.kernel.bits_of.Tie as tie
 
-float-to-bits-result : tie.Need-float-to-bits-result
-float-to-bits-result c = equal-is-no-nan (c .before .args .x) (c .if1 .taken)
-
 returns : tie.Need-returns
-returns c = search needs
+unfolding toBits
+returns c = sym (ap (toBits binary64) (is-nan (c .before .args .x) (c .if1 .taken)))
+
+float-to-bits-result : tie.Need-float-to-bits-result
+float-to-bits-result c = rw (no-nan (c .before .args .x) (c .if1 .left)) tt
 
 returns-2 : tie.Need-returns-2
-unfolding toBits
-returns-2 c = sym (ap (toBits binary64) (unequal-is-nan (c .before .args .x) (c .if1 .left)))
+returns-2 c = search needs
 
 pub bits-of-spec : {M : Type 1} → statement M
-bits-of-spec = tie.close (tie.spec float-to-bits-result returns returns-2)
+bits-of-spec = tie.close (tie.spec returns float-to-bits-result returns-2)
