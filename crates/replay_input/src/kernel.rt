@@ -2,10 +2,12 @@
 pub mod compare;
 pub mod report;
 
-ghost use Prim.Native.Nat.{_≤_};
+ghost use Prim.Native.Nat.{_≤_, min};
 ghost use mathlib.Core.Path.{_≡_};
 ghost use lib.ListN.{length, take};
 ghost use lib.Ieee.{binary64, ofBits, toBits};
+ghost use Rattle.replay_input.specs.Fields.{digitOf, countAt, afterCount, bitsAt, afterBits, negated, plain, wholeAt, afterWhole, fieldPlace, wholeFrom, realFrom};
+ghost use Rattle.list_laws.specs.Lists.{fronted, tabulate};
 
 // Where the next field starts.
 pub struct Cursor {
@@ -41,6 +43,7 @@ pub struct Listed {
 
 // What a byte counts as a digit; 16 where it is none.
 fn digit_of(b: u8) -> u64
+    ensures { λ r. ⌜ r ≡ digitOf b ⌝ }
     ensures { λ r. ⌜ r ≤ 16 ⌝ }
 {
     if 48 <= b {
@@ -57,7 +60,9 @@ fn digit_of(b: u8) -> u64
 }
 
 // A decimal number with no sign: what the digits spell up to the first byte that is none, which is passed too.
-pub fn next_count(text: &[u8], c: Cursor) -> Bits {
+pub fn next_count(text: &[u8], c: Cursor) -> Bits
+    ensures { λ r. ⌜ (r .value ≡ countAt (now (text .entry)) (c .at)) × (r .next .at ≡ afterCount (now (text .entry)) (c .at)) ⌝ }
+{
     let mut n: u64 = 0;
     let mut i = c.at;
     while i < text.len() {
@@ -75,7 +80,9 @@ pub fn next_count(text: &[u8], c: Cursor) -> Bits {
 }
 
 // The same for hexadecimal digits.
-pub fn next_bits(text: &[u8], c: Cursor) -> Bits {
+pub fn next_bits(text: &[u8], c: Cursor) -> Bits
+    ensures { λ r. ⌜ (r .value ≡ bitsAt (now (text .entry)) (c .at)) × (r .next .at ≡ afterBits (now (text .entry)) (c .at)) ⌝ }
+{
     let mut n: u64 = 0;
     let mut i = c.at;
     while i < text.len() {
@@ -92,11 +99,15 @@ pub fn next_bits(text: &[u8], c: Cursor) -> Bits {
     }
 }
 
-fn positive(n: u64) -> i64 {
+fn positive(n: u64) -> i64
+    ensures { λ r. ⌜ r ≡ plain n ⌝ }
+{
     (n % 9223372036854775808) as i64
 }
 
-fn negative(n: u64) -> i64 {
+fn negative(n: u64) -> i64
+    ensures { λ r. ⌜ r ≡ negated n ⌝ }
+{
     if n == 0 {
         return 0;
     }
@@ -104,7 +115,9 @@ fn negative(n: u64) -> i64 {
     -1 - (less as i64)
 }
 
-pub fn next_whole(text: &[u8], c: Cursor) -> Whole {
+pub fn next_whole(text: &[u8], c: Cursor) -> Whole
+    ensures { λ r. ⌜ (r .value ≡ wholeAt (now (text .entry)) (c .at)) × (r .next .at ≡ afterWhole (now (text .entry)) (c .at)) ⌝ }
+{
     let at = c.at;
     if at < text.len() {
         if text[at] == 45 {
@@ -124,7 +137,9 @@ pub fn next_whole(text: &[u8], c: Cursor) -> Whole {
     }
 }
 
-pub fn next_three(text: &[u8], c: Cursor) -> Three {
+pub fn next_three(text: &[u8], c: Cursor) -> Three
+    ensures { λ r. ⌜ (r .value ≡ tabulate 3 (wholeFrom (now (text .entry)) (c .at))) × (r .next .at ≡ fieldPlace (afterWhole (now (text .entry))) (c .at) 3) ⌝ }
+{
     let x = next_whole(text, c);
     let y = next_whole(text, x.next);
     let z = next_whole(text, y.next);
@@ -155,7 +170,9 @@ pub fn bits_of(x: f64) -> u64
     f64::to_bits(x)
 }
 
-pub fn next_real(text: &[u8], c: Cursor) -> Real {
+pub fn next_real(text: &[u8], c: Cursor) -> Real
+    ensures { λ r. ⌜ (r .value ≡ ofBits binary64 (bitsAt (now (text .entry)) (c .at))) × (r .next .at ≡ afterBits (now (text .entry)) (c .at)) ⌝ }
+{
     let b = next_bits(text, c);
     let next = b.next;
     Real {
@@ -167,6 +184,7 @@ pub fn next_real(text: &[u8], c: Cursor) -> Real {
 // A count that a buffer of length most can hold.
 fn at_most(n: u64, most: usize) -> usize
     ensures { λ r. ⌜ r ≤ most ⌝ }
+    ensures { λ r. ⌜ r ≡ min n most ⌝ }
 {
     if n < most as u64 { n as usize } else { most }
 }
@@ -181,6 +199,8 @@ pub fn part_of(n: u64, buf: &[i64]) -> usize
 // A list of whole numbers, to the start of out.
 pub fn fill_wholes(text: &[u8], c: Cursor, out: &mut [i64]) -> Listed
     ensures { λ r. ⌜ (r .count ≤ length (now (out .exit))) × (r .count ≡ length (take (r .count) (now (out .exit)))) ⌝ }
+    ensures { λ r. ⌜ (r .count ≡ min (countAt (now (text .entry)) (c .at)) (length (now (out .entry)))) × (r .next .at ≡ fieldPlace (afterWhole (now (text .entry))) (afterCount (now (text .entry)) (c .at)) (r .count)) ⌝ }
+    ensures { λ r. ⌜ now (out .exit) ≡ fronted (r .count) (wholeFrom (now (text .entry)) (afterCount (now (text .entry)) (c .at))) (now (out .entry)) ⌝ }
 {
     let head = next_count(text, c);
     let count = at_most(head.value, out.len());
@@ -199,6 +219,8 @@ pub fn fill_wholes(text: &[u8], c: Cursor, out: &mut [i64]) -> Listed
 // A list of floats, to the start of out.
 pub fn fill_reals(text: &[u8], c: Cursor, out: &mut [f64]) -> Listed
     ensures { λ r. ⌜ (r .count ≤ length (now (out .exit))) × (r .count ≡ length (take (r .count) (now (out .exit)))) ⌝ }
+    ensures { λ r. ⌜ (r .count ≡ min (countAt (now (text .entry)) (c .at)) (length (now (out .entry)))) × (r .next .at ≡ fieldPlace (afterBits (now (text .entry))) (afterCount (now (text .entry)) (c .at)) (r .count)) ⌝ }
+    ensures { λ r. ⌜ now (out .exit) ≡ fronted (r .count) (realFrom (now (text .entry)) (afterCount (now (text .entry)) (c .at))) (now (out .entry)) ⌝ }
 {
     let head = next_count(text, c);
     let count = at_most(head.value, out.len());

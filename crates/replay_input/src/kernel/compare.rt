@@ -1,30 +1,39 @@
 // Comparing an answer with a stored one.
+ghost use mathlib.Core.Path.{_≡_};
+ghost use lib.Dec.{eqb};
+ghost use lib.Ieee.{binary64, toBits};
+ghost use Rattle.replay_input.specs.Sameness.{sameNumbers, allAre};
 
-pub fn same(a: &[i64], b: &[i64]) -> bool {
+pub fn same(a: &[i64], b: &[i64]) -> bool
+    ensures { λ r. ⌜ r ≡ sameNumbers (now (a .entry)) (now (b .entry)) ⌝ }
+{
     if a.len() != b.len() {
         return false;
     }
+    let mut ok = true;
     let mut i = 0;
     while i < a.len() {
-        if a[i] != b[i] {
-            return false;
-        }
+        let z = b[i];
+        ok = ok & common::kernel::equal_at(a, i, z);
         i += 1;
     }
-    true
+    ok
 }
 
-pub fn all_are(a: &[i64], value: i64) -> bool {
+pub fn all_are(a: &[i64], value: i64) -> bool
+    ensures { λ r. ⌜ r ≡ allAre (now (a .entry)) value ⌝ }
+{
+    let mut ok = true;
     let mut i = 0;
     while i < a.len() {
-        if a[i] != value {
-            return false;
-        }
+        ok = ok & common::kernel::equal_at(a, i, value);
         i += 1;
     }
-    true
+    ok
 }
 
-pub fn same_bits(a: f64, b: f64) -> bool {
+pub fn same_bits(a: f64, b: f64) -> bool
+    ensures { λ r. ⌜ r ≡ eqb (toBits binary64 a) (toBits binary64 b) ⌝ }
+{
     crate::kernel::bits_of(a) == crate::kernel::bits_of(b)
 }

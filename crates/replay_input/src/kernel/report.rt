@@ -1,4 +1,8 @@
 // What a replay counts and prints: a line for each kind of case, and a line for each case that differs.
+ghost use mathlib.Core.Path.{_≡_};
+ghost use mathlib.Core.Bool.{cond};
+ghost use lib.ListN.{replicate};
+ghost use Rattle.replay_input.specs.Report.{oneMore, refusedMore};
 use crate::kernel::Cursor;
 
 // Cases of one kind: how many, how many agree with the stored answer, how many differ, and how many were to be refused, by number.
@@ -16,7 +20,9 @@ pub struct Judged {
     pub next: Cursor,
 }
 
-pub fn no_cases() -> Count {
+pub fn no_cases() -> Count
+    ensures { λ r. ⌜ (r .cases ≡ 0) × (r .agree ≡ 0) × (r .differ ≡ 0) × (r .refused ≡ replicate 21 0) ⌝ }
+{
     Count {
         cases: 0,
         agree: 0,
@@ -25,12 +31,16 @@ pub fn no_cases() -> Count {
     }
 }
 
-fn one_more(n: u64) -> u64 {
+fn one_more(n: u64) -> u64
+    ensures { λ r. ⌜ r ≡ oneMore n ⌝ }
+{
     if n < 18446744073709551615 { n + 1 } else { n }
 }
 
 // The refusals with one of that number more.
-fn refused_more(refused: [u64; 21], number: u64) -> [u64; 21] {
+fn refused_more(refused: [u64; 21], number: u64) -> [u64; 21]
+    ensures { λ r. ⌜ r ≡ refusedMore refused number ⌝ }
+{
     let mut all = refused;
     if 0 < number {
         if number < 21 {
@@ -42,7 +52,10 @@ fn refused_more(refused: [u64; 21], number: u64) -> [u64; 21] {
 }
 
 // The count with one case more. A case that differs is printed by its kind and its place, from 1.
-pub fn counted(name: &[u8], count: Count, refusal: u64, agrees: bool) -> Count {
+pub fn counted(name: &[u8], count: Count, refusal: u64, agrees: bool) -> Count
+    ensures { λ r. ⌜ (r .cases ≡ oneMore (count .cases)) × (r .refused ≡ refusedMore (count .refused) refusal) ⌝ }
+    ensures { λ r. ⌜ (r .agree ≡ cond agrees (oneMore (count .agree)) (count .agree)) × (r .differ ≡ cond agrees (count .differ) (oneMore (count .differ))) ⌝ }
+{
     let cases = one_more(count.cases);
     let before = count.refused;
     let refused = refused_more(before, refusal);

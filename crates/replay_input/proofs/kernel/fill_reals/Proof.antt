@@ -1,15 +1,24 @@
--- `replay_input::kernel::fill_reals` meets its contract: the list lies within the buffer. The measure is what is left of the count. Assumes nothing.
+-- `replay_input::kernel::fill_reals` meets its contract: at each turn the front of the buffer holds the first i floats of the list. The measure is what is left of the count. Assumes nothing.
+use Prim.Native.Nat.{ℕ, min}
+use mathlib.Core.Path.{refl, ap, _∙_}
 use borrow.Author.Needs.{needs}
 use native.Mathlib.Omega.{arith}
 use Prim.Native.Nat.{_-_, _≤_}
 use mathlib.Core.Path.{_≡_, sym}
 use lib.ListN.{length, length-set}
 use lib.Seq.{length-take-le}
+use Rattle.list_laws.specs.Lists.{fronted}
+use Rattle.list_laws.proofs.FillLaws.{front-none}
+use Rattle.replay_input.proofs.FieldLaws.{place-first, place-next, place-end, list-next, list-end, real-next}
+use Rattle.replay_input.specs.Fields.{realFrom, afterBits, fieldPlace}
 use Rattle.replay_input.proofs.kernel.fill_reals.Statement.{statement}
 use Rattle.replay_input.proofs.kernel.fill_reals.Tie as tie
 
+-- `replay_input::kernel::fill_reals` meets its contract: the list lies within the buffer. The measure is what is left of the count. Assumes nothing.
+
 abbrev Inv-loop : tie.InvT-loop
-Inv-loop text out₀ count next₀ i₀ out next i = (length out ≡ length out₀) × (count ≤ length out₀)
+Inv-loop text out₀ count next₀ i₀ out next i =
+    (length out ≡ length out₀) × (count ≤ length out₀) × (i ≤ count) × (out ≡ fronted i (realFrom text (next₀ .at)) out₀) × (next .at ≡ fieldPlace (afterBits text) (next₀ .at) i)
 
 abbrev μ-loop : tie.MeasureT-loop
 μ-loop text out₀ count next₀ i₀ out next i = count - i
@@ -21,7 +30,7 @@ at-most-requires : tie.Need-at-most-requires Inv-loop μ-loop
 at-most-requires c κs = search needs
 
 loop-holds : tie.Need-loop-holds Inv-loop μ-loop
-loop-holds c = search needs
+loop-holds c = (refl, omega arith, omega arith, front-none _ _, place-first _ _)
 
 next-real-requires : tie.Need-next-real-requires Inv-loop μ-loop
 next-real-requires c κs = search needs
@@ -39,13 +48,13 @@ loop-less : tie.Need-loop-less Inv-loop μ-loop
 loop-less c = search needs
 
 loop-again : tie.Need-loop-again Inv-loop μ-loop
-loop-again c = (simp length-set (omega arith), omega arith)
+loop-again c = (simp length-set (omega arith), omega arith, omega arith, list-next (c .before .before .before .before .before .before .before .before .before .args .out .now) (realFrom (c .before .before .before .before .before .before .before .before .before .args .text .now) (c .before .before .before .before .before .before .next-count .result .next .at)) (c .before .before .before .loop .i) (omega arith) (c .before .before .before .loop .inv .3) (real-next (c .before .before .before .before .before .before .before .before .before .args .text .now) (c .before .before .before .before .before .before .next-count .result .next .at) (c .before .before .before .loop .i) (c .before .before .before .loop .inv .4) (c .before .next-real .ensures .0)), place-next (afterBits (c .before .before .before .before .before .before .before .before .before .args .text .now)) (c .before .before .before .before .before .before .next-count .result .next .at) (c .before .before .before .loop .i) (c .before .before .before .loop .inv .4) (c .before .next-real .ensures .1))
 
 same-length : tie.Need-same-length Inv-loop μ-loop
 same-length c = search needs
 
 returns : tie.Need-returns Inv-loop μ-loop
-returns c = (omega arith, sym (length-take-le (c .before .before .before .at-most .result) (c .before .loop .out) (omega arith)))
+returns c = ((omega arith, sym (length-take-le (c .before .before .before .at-most .result) (c .before .loop .out) (omega arith))), (((c .before .before .before .at-most .ensures .1) ∙ ap (λ (n : ℕ). min n (length (c .before .before .before .before .before .before .before .args .out .now))) (c .before .before .before .before .next-count .ensures .0), place-end (afterBits (c .before .before .before .before .before .before .before .args .text .now)) (c .before .before .before .before .next-count .result .next .at) (c .before .before .before .before .next-count .ensures .1) (omega arith) (c .before .loop .inv .4)), list-end (c .before .before .before .before .before .before .before .args .out .now) (realFrom (c .before .before .before .before .before .before .before .args .text .now)) (c .before .before .before .before .next-count .ensures .1) (omega arith) (c .before .loop .inv .3)))
 
 pub fill-reals-spec : {M : Type 1} → statement M
 fill-reals-spec =

@@ -1,36 +1,39 @@
--- `replay_input::kernel::compare::same` is safe and ends: the measure is what is left of the list. Assumes nothing.
+-- `replay_input::kernel::compare::same` meets its contract: at each turn `ok` speaks of the first i places. Assumes nothing.
+use borrow.Author.Tests.{eq-eqb, ne-eqb}
+use native.Mathlib.Omega.{arith}
 use borrow.Author.Needs.{needs}
-use Prim.Native.Nat.{_-_}
+use Prim.Native.Nat.{_-_, _≤_}
+use mathlib.Core.Path.{_≡_, ap, _∙_}
 use lib.ListN.{length}
+use Rattle.list_laws.proofs.SignedLaws.{back}
+use Rattle.list_laws.specs.Lists.{allBelow, at}
+use Rattle.list_laws.specs.Signed.{eqZ}
+use Rattle.list_laws.proofs.BelowLaws.{below-none, below-next, below-end}
+use Rattle.replay_input.specs.Sameness.{sameNumbers}
 use Rattle.replay_input.proofs.kernel.compare.same.Statement.{statement}
 use Rattle.replay_input.proofs.kernel.compare.same.Tie as tie
 
 abbrev Inv-loop : tie.InvT-loop
-Inv-loop a b i₀ i = Unit
+Inv-loop a b ok₀ i₀ ok i = (i ≤ length a) × (length a ≡ length b) × (ok ≡ allBelow i (λ k. eqZ (at a k) (at b k)))
 
 abbrev μ-loop : tie.MeasureT-loop
-μ-loop a b i₀ i = length a - i
+μ-loop a b ok₀ i₀ ok i = length a - i
 
 returns : tie.Need-returns Inv-loop μ-loop
-returns c = search needs
+unfolding sameNumbers
+returns c = simp (ne-eqb (length (c .before .args .a .now)) (length (c .before .args .b .now)) (c .if1 .taken))
 
 loop-holds : tie.Need-loop-holds Inv-loop μ-loop
-loop-holds c = search needs
+loop-holds c = (omega arith, omega arith, below-none _)
 
-mul-if2 : tie.Need-mul-if2 Inv-loop μ-loop
-mul-if2 c = search needs
+mul-z : tie.Need-mul-z Inv-loop μ-loop
+mul-z c = search needs
 
-shared-slice-copy-out-if2 : tie.Need-shared-slice-copy-out-if2 Inv-loop μ-loop
-shared-slice-copy-out-if2 c = search needs
+shared-slice-copy-out-z : tie.Need-shared-slice-copy-out-z Inv-loop μ-loop
+shared-slice-copy-out-z c = search needs
 
-mul-if2-2 : tie.Need-mul-if2-2 Inv-loop μ-loop
-mul-if2-2 c = search needs
-
-shared-slice-copy-out-if2-2 : tie.Need-shared-slice-copy-out-if2-2 Inv-loop μ-loop
-shared-slice-copy-out-if2-2 c = search needs
-
-returns-2 : tie.Need-returns-2 Inv-loop μ-loop
-returns-2 c = search needs
+equal-at-requires : tie.Need-equal-at-requires Inv-loop μ-loop
+equal-at-requires c κs = search needs
 
 add-i : tie.Need-add-i Inv-loop μ-loop
 add-i c = search needs
@@ -39,10 +42,11 @@ loop-less : tie.Need-loop-less Inv-loop μ-loop
 loop-less c = search needs
 
 loop-again : tie.Need-loop-again Inv-loop μ-loop
-loop-again c = search needs
+loop-again c = (omega arith, omega arith, below-next (c .before .before .before .loop .i) _ (c .before .before .before .loop .inv .2) (c .equal-at .ensures ∙ ap (eqZ (at (c .before .before .before .before .before .args .a .now) (c .before .before .before .loop .i))) (back (at (c .before .before .before .before .before .args .b .now) (c .before .before .before .loop .i)) (c .before .z .given))))
 
-returns-3 : tie.Need-returns-3 Inv-loop μ-loop
-returns-3 c = search needs
+returns-2 : tie.Need-returns-2 Inv-loop μ-loop
+unfolding sameNumbers
+returns-2 c = simp (eq-eqb (length (c .before .before .before .args .a .now)) (length (c .before .before .before .args .b .now)) (omega arith)) (below-end _ (c .before .loop .inv .2) (omega arith))
 
 pub same-spec : {M : Type 1} → statement M
 same-spec =
@@ -52,12 +56,10 @@ same-spec =
     μ-loop
     returns
     loop-holds
-    mul-if2
-    shared-slice-copy-out-if2
-    mul-if2-2
-    shared-slice-copy-out-if2-2
-    returns-2
+    mul-z
+    shared-slice-copy-out-z
+    equal-at-requires
     add-i
     loop-less
     loop-again
-    returns-3)
+    returns-2)

@@ -1,0 +1,4 @@
+-- The definitions.
+pub mod Fields
+pub mod Sameness
+pub mod Report
