@@ -2,15 +2,19 @@
 use mathlib.Core.Path.{_≡_}
 use mathlib.Core.Bool.{true}
 use mathlib.Core.List.{List}
-use Prim.Native.Nat.{ℕ, _*_, _/_, _≤_}
+use Prim.Native.Nat.{ℕ, zero, suc, _*_, _/_, _<_, _≤_}
 use native.Mathlib.Omega.{arith}
 use lib.IntN.{ℤ}
 use lib.ListN.{length}
-use Rattle.list_laws.proofs.BoolLaws.{and-left, and-right}
+use Rattle.list_laws.proofs.BoolLaws.{clash, and-left, and-right}
 use Rattle.questions.specs.Grids.{areTriples, triplesIn}
 use Rattle.questions.specs.Rows.{hasRows}
 use Rattle.questions.specs.Tables.{isTable, rowsIn}
 use Rattle.questions.proofs.RowsLaws.{rows-in}
+
+some-rows : (n : ℕ) → hasRows 12 n ≡ true → 0 < n
+some-rows zero e = clash e
+some-rows (suc n) e = omega arith
 
 module _ (table : List ℤ) (e : isTable table ≡ true) where
   pub table-triples : areTriples table ≡ true
@@ -32,3 +36,8 @@ module _ (table : List ℤ) (e : isTable table ≡ true) where
   -- four corners to a row
   pub corners-whole : triplesIn table ≡ rowsIn table * 4
   corners-whole = omega (arith, rows-whole)
+
+  -- it is not empty
+  pub table-some : 0 < length table
+  unfolding isTable
+  table-some = some-rows (length table) (and-left (hasRows 12 (length table)) (areTriples table) e)
