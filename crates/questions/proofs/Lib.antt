@@ -4,3 +4,5 @@ pub mod GridLaws
 pub mod StepLaws
 pub mod AverageLaws
 pub mod RowsLaws
+pub mod TableLaws
+pub mod IrreducibleLaws

@@ -7,3 +7,5 @@ pub mod TpTypes
 pub mod Averages
 pub mod Frequencies
 pub mod Rows
+pub mod Tables
+pub mod Irreducible

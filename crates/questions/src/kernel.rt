@@ -3,6 +3,8 @@ pub mod averages;
 pub mod counts;
 pub mod frequencies;
 pub mod grid;
+pub mod irreducible;
 pub mod rows;
 pub mod steps;
+pub mod tables;
 pub mod tp_type;
