@@ -4,3 +4,4 @@ pub mod GridLaws
 pub mod StepLaws
 pub mod AverageLaws
 pub mod RowsLaws
+pub mod StudyLaws

@@ -5,4 +5,5 @@ pub mod frequencies;
 pub mod grid;
 pub mod rows;
 pub mod steps;
+pub mod study;
 pub mod tp_type;
