@@ -6,3 +6,4 @@ pub mod AverageLaws
 pub mod RowsLaws
 pub mod TableLaws
 pub mod IrreducibleLaws
+pub mod StudyLaws

@@ -4,6 +4,7 @@ pub mod Grids
 pub mod Steps
 pub mod Counts
 pub mod TpTypes
+pub mod Studies
 pub mod Averages
 pub mod Frequencies
 pub mod Rows

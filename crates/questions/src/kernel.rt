@@ -7,4 +7,5 @@ pub mod irreducible;
 pub mod rows;
 pub mod steps;
 pub mod tables;
+pub mod study;
 pub mod tp_type;
