@@ -4,8 +4,8 @@ use mathlib.Core.Bool.{Bool, true, false}
 use native.Mathlib.Omega.{arith}
 use lib.ListN.{take, drop}
 use lib.Seq.{length-take-le}
-use Rattle.text.specs.Lines.{wholeField, told, rowSort}
-use Rattle.text.proofs.LineLaws.{sort-other, sort-is}
+use Rattle.sections.specs.Lines.{wholeField, told, rowSort}
+use Rattle.sections.proofs.LineLaws.{sort-other, sort-is}
 use borrow.Author.Needs.{needs}
 use Rattle.sections.proofs.kernel.parse_line.Statement.{statement}
 use Rattle.sections.proofs.kernel.parse_line.Tie as tie

@@ -5,11 +5,11 @@ use mathlib.Core.List.{List}
 use lib.IntN.{ℤ}
 use lib.ListN.{length, take, drop, length-drop}
 use lib.Seq.{length-take-le}
-use Rattle.text.specs.declared.Line.{Line}
+use Rattle.sections.specs.declared.Line.{Line}
 use borrow.Author.Needs.{needs}
 use Rattle.text.specs.Pieces.{ended}
-use Rattle.text.specs.Lines.{wholeField, is, joined, rows, read, toldLine}
-use Rattle.text.proofs.LineLaws.{row-bytes, joined-nil, rows-end, rows-other, rows-broken, rows-row}
+use Rattle.sections.specs.Lines.{wholeField, is, joined, rows, read, toldLine}
+use Rattle.sections.proofs.LineLaws.{row-bytes, joined-nil, rows-end, rows-other, rows-broken, rows-row}
 use Rattle.sections.proofs.kernel.parse_rows.Statement.{statement}
 use Rattle.sections.proofs.kernel.parse_rows.Tie as tie
 use Rattle.sections.proofs.kernel.parse_rows.Reads as reads

@@ -9,9 +9,9 @@ use native.Mathlib.Omega.{arith}
 use lib.ListN.{length, take, drop, set, length-set}
 use lib.Seq.{take-set-le}
 use borrow.Author.Needs.{needs}
 use Rattle.text.specs.Pieces.{splitFrom}
-use Rattle.text.specs.Lines.{values, wholeField, wholeGot, front, told}
-use Rattle.text.proofs.RowLaws.{front-nil, row-short, row-bad, row-more, row-end}
+use Rattle.sections.specs.Lines.{values, wholeField, wholeGot, front, told}
+use Rattle.sections.proofs.RowLaws.{front-nil, row-short, row-bad, row-more, row-end}
 use Rattle.sections.proofs.kernel.parse_wholes.Statement.{statement}
 use Rattle.sections.proofs.kernel.parse_wholes.Tie as tie
 use Rattle.sections.proofs.kernel.parse_wholes.Reads as reads
