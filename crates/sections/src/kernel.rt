@@ -5,8 +5,9 @@ ghost use Prim.Native.Nat.{_+_, _≤_};
 ghost use mathlib.Core.Path.{_≡_};
 ghost use lib.ListN.{drop, length, take};
 ghost use Rattle.text.specs.Pieces.{ended, splitFrom};
-ghost use Rattle.sections.specs.Lines.{once, rows, sort, told, toldLine, toldRows, values, wholeField};
+ghost use Rattle.sections.specs.Lines.{once, rows, sort, told, toldLine, toldOne, toldRows, values, wholeField};
 use crate::Line;
+use crate::One;
 use crate::Rows;
 use text::Whole;
 
@@ -81,20 +82,17 @@ pub fn parse_rows(text: &[u8], from: usize, tag: &[u8], n: usize, out: &mut [i64
 }
 
 // The line at index from, which bears the tag, with its n whole numbers. They are then at the start of out.
-pub fn parse_one(text: &[u8], from: usize, tag: &[u8], n: usize, out: &mut [i64]) -> Rows
+pub fn parse_one(text: &[u8], from: usize, tag: &[u8], n: usize, out: &mut [i64]) -> One
     requires { ⌜ n ≤ length (now out) ⌝ }
-    ensures { λ r. ⌜ once wholeField (now (tag .entry)) n (ended 10 (drop from (now (text .entry)))) ≡ toldRows r (now (out .exit)) (now (text .entry)) ⌝ }
+    ensures { λ r. ⌜ once wholeField (now (tag .entry)) n (ended 10 (drop from (now (text .entry)))) ≡ toldOne r n (now (out .exit)) (now (text .entry)) ⌝ }
 {
     if text.len() <= from {
-        return Rows::Bad;
+        return One::Bad;
     }
     let e = text::kernel::cut(text, from, 10);
     match parse_line(&text[from..e], tag, n, out, 0) {
-        Line::Row => Rows::Read {
-            count: n,
-            next: e + 1,
-        },
-        Line::Other => Rows::Bad,
-        Line::Bad => Rows::Bad,
+        Line::Row => One::Read { next: e + 1 },
+        Line::Other => One::Bad,
+        Line::Bad => One::Bad,
     }
 }

@@ -13,3 +13,9 @@ pub enum Rows {
     Read { count: usize, next: usize },
     Bad,
 }
+
+// A line that stands once, as read: where the next line starts.
+pub enum One {
+    Read { next: usize },
+    Bad,
+}
