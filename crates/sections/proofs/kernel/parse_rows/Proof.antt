@@ -70,10 +70,11 @@ loop-less c = search needs
 loop-again : tie.Need-loop-again Inv-loop μ-loop
 loop-again c =
     let line = take (c .before .before .before .before .before .before .cut .result - c .before .before .before .before .before .before .before .before .loop .at) (drop (c .before .before .before .before .before .before .before .before .loop .at) (c .before .before .before .before .before .before .before .before .before .before .before .args .text .now)) in
-    let bytes : c .before .before .before .before .before .before .before .before .before .before .before .args .n ≤ length line = row-bytes wholeField (c .before .before .before .before .before .before .before .before .before .before .before .args .tag .now) (c .before .before .before .before .before .before .before .before .before .before .before .args .n) line (take (c .before .before .before .before .before .before .before .before .before .before .before .args .n) (drop (c .before .before .before .before .before .before .before .before .loop .k) (c .before .before .before .parse-line .last .1 .1 .1 .0))) (c .before .before .before .parse-line .ensures .0 ∙ ap (λ (r : Line). toldLine r (take (c .before .before .before .before .before .before .before .before .before .before .before .args .n) (drop (c .before .before .before .before .before .before .before .before .loop .k) (c .before .before .before .parse-line .last .1 .1 .1 .0)))) (c .enum-told .given .1)) in
-    (omega (arith, bytes, length-take-le (c .before .before .before .before .before .before .cut .result - c .before .before .before .before .before .before .before .before .loop .at) (drop (c .before .before .before .before .before .before .before .before .loop .at) (c .before .before .before .before .before .before .before .before .before .before .before .args .text .now)) (omega (arith, length-drop (c .before .before .before .before .before .before .before .before .loop .at) (c .before .before .before .before .before .before .before .before .before .before .before .args .text .now)))),
-    c .before .before .before .parse-line .kept .1 .1 .1 .0 ∙ c .before .before .before .before .before .before .before .before .loop .inv .1,
-    rows-row wholeField (c .before .before .before .before .before .before .before .before .before .before .before .args .text .now) (c .before .before .before .before .before .before .before .before .before .before .before .args .from) (c .before .before .before .before .before .before .before .before .before .before .before .args .tag .now) (c .before .before .before .before .before .before .before .before .before .before .before .args .n) (c .before .before .before .before .before .before .before .before .loop .out) (c .before .before .before .before .before .before .before .before .loop .at) (c .before .before .before .before .before .before .before .before .loop .k) (c .before .before .before .before .before .before .before .before .loop .inv .2) (omega arith) (c .before .before .before .before .before .before .cut .result) (c .before .before .before .before .before .before .cut .ensures .0) (c .before .before .before .parse-line .last .1 .1 .1 .0) (c .before .before .before .parse-line .ensures .1) (c .before .before .before .parse-line .ensures .0 ∙ ap (λ (r : Line). toldLine r (take (c .before .before .before .before .before .before .before .before .before .before .before .args .n) (drop (c .before .before .before .before .before .before .before .before .loop .k) (c .before .before .before .parse-line .last .1 .1 .1 .0)))) (c .enum-told .given .1)))
+    let bytes : c .before .before .before .before .before .before .before .before .before .before .before .args .n ≤ length line = row-bytes wholeField (c .before .before .before .before .before .before .before .before .before .before .before .args .tag .now) (c .before .before .before .before .before .before .before .before .before .before .before .args .n) line (take (c .before .before .before .before .before .before .before .before .before .before .before .args .n) (drop (c .before .before .before .before .before .before .before .before .loop .k) (c .before .before .before .parse-line .last .1 .1 .1 .0))) (c .before .before .before .parse-line .ensures .0 ∙ ap (λ (r : Line). toldLine r (take (c .before .before .before .before .before .before .before .before .before .before .before .args .n) (drop (c .before .before .before .before .before .before .before .before .loop .k) (c .before .before .before .parse-line .last .1 .1 .1 .0)))) (c .enum-told .given .1)) in (
+      omega (arith, bytes, length-take-le (c .before .before .before .before .before .before .cut .result - c .before .before .before .before .before .before .before .before .loop .at) (drop (c .before .before .before .before .before .before .before .before .loop .at) (c .before .before .before .before .before .before .before .before .before .before .before .args .text .now)) (omega (arith, length-drop (c .before .before .before .before .before .before .before .before .loop .at) (c .before .before .before .before .before .before .before .before .before .before .before .args .text .now)))),
+      c .before .before .before .parse-line .kept .1 .1 .1 .0 ∙ c .before .before .before .before .before .before .before .before .loop .inv .1,
+      rows-row wholeField (c .before .before .before .before .before .before .before .before .before .before .before .args .text .now) (c .before .before .before .before .before .before .before .before .before .before .before .args .from) (c .before .before .before .before .before .before .before .before .before .before .before .args .tag .now) (c .before .before .before .before .before .before .before .before .before .before .before .args .n) (c .before .before .before .before .before .before .before .before .loop .out) (c .before .before .before .before .before .before .before .before .loop .at) (c .before .before .before .before .before .before .before .before .loop .k) (c .before .before .before .before .before .before .before .before .loop .inv .2) (omega arith) (c .before .before .before .before .before .before .cut .result) (c .before .before .before .before .before .before .cut .ensures .0) (c .before .before .before .parse-line .last .1 .1 .1 .0) (c .before .before .before .parse-line .ensures .1) (c .before .before .before .parse-line .ensures .0 ∙ ap (λ (r : Line). toldLine r (take (c .before .before .before .before .before .before .before .before .before .before .before .args .n) (drop (c .before .before .before .before .before .before .before .before .loop .k) (c .before .before .before .parse-line .last .1 .1 .1 .0)))) (c .enum-told .given .1)),
+    )
 
 -- src/lib.rt:241:17
 enum-told-2 : tie.Need-enum-told-2 Inv-loop μ-loop

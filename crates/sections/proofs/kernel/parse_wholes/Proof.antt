@@ -103,7 +103,7 @@ loop-less c = search needs
 
 -- src/lib.rt:176:5
 loop-again : tie.Need-loop-again Inv-loop μ-loop
-loop-again c = (omega arith, simp length-set ( c .before .before .before .before .before .before .before .before .loop .inv .1), take-set-le (c .before .before .before .before .before .before .before .before .before .before .args .at) (c .before .before .before .before .before .before .before .before .loop .out) (c .before .before .before .before .before .before .before .before .before .before .args .at + c .before .before .before .before .before .before .before .before .loop .i) (toZ w64 (ofZ w64 (c .before .z .given .0 .0))) (omega arith) ∙ c .before .before .before .before .before .before .before .before .loop .inv .2, row-more wholeField (c .before .before .before .before .before .before .before .before .before .before .args .line .now) (c .before .before .before .before .before .before .before .before .before .before .args .p) (c .before .before .before .before .before .before .before .before .before .before .args .count) (c .before .before .before .before .before .before .before .before .loop .out) (c .before .before .before .before .before .before .before .before .before .before .args .at) (c .before .before .before .before .before .before .before .before .loop .from) (c .before .before .before .before .before .before .before .before .loop .i) (c .before .before .before .before .before .before .before .before .loop .inv .3) (omega arith) (omega arith) (c .before .before .before .before .before .cut .result) (c .before .before .before .before .before .cut .ensures .0) (toZ w64 (ofZ w64 (c .before .z .given .0 .0))) (rw (toZ-ofZ {w = w64} {z = c .before .z .given .0 .0} (search needs)) (ap wholeGot (sym (c .before .z .given .1) ∙ c .before .before .before .parse-whole .ensures))) (omega arith))
+loop-again c = (omega arith, simp length-set (c .before .before .before .before .before .before .before .before .loop .inv .1), take-set-le (c .before .before .before .before .before .before .before .before .before .before .args .at) (c .before .before .before .before .before .before .before .before .loop .out) (c .before .before .before .before .before .before .before .before .before .before .args .at + c .before .before .before .before .before .before .before .before .loop .i) (toZ w64 (ofZ w64 (c .before .z .given .0 .0))) (omega arith) ∙ c .before .before .before .before .before .before .before .before .loop .inv .2, row-more wholeField (c .before .before .before .before .before .before .before .before .before .before .args .line .now) (c .before .before .before .before .before .before .before .before .before .before .args .p) (c .before .before .before .before .before .before .before .before .before .before .args .count) (c .before .before .before .before .before .before .before .before .loop .out) (c .before .before .before .before .before .before .before .before .before .before .args .at) (c .before .before .before .before .before .before .before .before .loop .from) (c .before .before .before .before .before .before .before .before .loop .i) (c .before .before .before .before .before .before .before .before .loop .inv .3) (omega arith) (omega arith) (c .before .before .before .before .before .cut .result) (c .before .before .before .before .before .cut .ensures .0) (toZ w64 (ofZ w64 (c .before .z .given .0 .0))) (rw (toZ-ofZ {w = w64} {z = c .before .z .given .0 .0} (search needs)) (ap wholeGot (sym (c .before .z .given .1) ∙ c .before .before .before .parse-whole .ensures))) (omega arith))
 
 -- src/lib.rt:169:1
 same-length-3 : tie.Need-same-length-3 Inv-loop μ-loop
