@@ -1,8 +1,8 @@
 -- What an averaging that no question refuses may go by, and its answer by the number of the first no. Assumes nothing.
-use mathlib.Core.Path.{_≡_, refl, sym, ap, _∙_}
+use mathlib.Core.Path.{_≡_, refl, sym, _∙_}
 use mathlib.Core.Bool.{Bool, true, false, cond, _&&_}
 use mathlib.Core.List.{List}
-use Prim.Native.Nat.{ℕ, zero, suc, _*_, _≤_, _<_}
+use Prim.Native.Nat.{ℕ, zero, suc, _*_, _≤_}
 use native.Mathlib.Nat.{mul-assoc}
 use native.Mathlib.Omega.{arith}
 use lib.Dec.{eqb}
@@ -20,7 +20,6 @@ use Rattle.questions.specs.TpTypes.{channelsOf}
 use Rattle.questions.proofs.AskLaws.{all-yes}
 use Rattle.questions.proofs.AverageLaws.{ids-length}
 use Rattle.averaging.specs.Answers.{flagCount, averagingQuestions, averagingNo, answerOf}
-use Rattle.averaging.specs.declared.AveragingAnswer.{AveragingAnswer}
 use Rattle.averaging.specs.declared.AveragingAnswer.the-variants.{Averaged, Refused}
 
 -- ---- sizes

@@ -1,5 +1,5 @@
 -- Averaging over sets of one place each, as with ids 0, 1, 2, .., changes nothing. Assumes nothing.
-use mathlib.Core.Path.{_≡_, refl, sym, ap, _∙_, subst}
+use mathlib.Core.Path.{_≡_, sym, ap, _∙_}
 use mathlib.Core.Logic.{⊎-elim}
 use mathlib.Core.Bool.{Bool, true, false, cond, _||_, true≢false}
 use mathlib.Core.List.{List}
@@ -9,16 +9,16 @@ use lib.IntN.{ℤ, pos}
 use lib.ListN.{length}
 use lib.Ieee.{Float, nan}
 use Rattle.list_laws.specs.Lists.{at, part, tabulate}
-use Rattle.list_laws.specs.Matrix.{Block, block, eachPart}
+use Rattle.list_laws.specs.Matrix.{Block, block}
 use Rattle.list_laws.specs.Signed.{eqZ}
 use Rattle.list_laws.proofs.BoolLaws.{lt-or-le, true-or-false}
 use Rattle.list_laws.proofs.EqualLaws.{nat-itself, equal-is}
 use Rattle.list_laws.proofs.FillLaws.{tabulate-at}
 use Rattle.list_laws.proofs.MatrixLaws.{each-same, part-len, square-is}
 use Rattle.ieee_laws.specs.Zeros.{plusZero}
-use Rattle.averaging.specs.Sets.{startsAt, startOf, endOf, blockOf}
+use Rattle.averaging.specs.Sets.{startsAt, endOf, blockOf}
 use Rattle.averaging.specs.Weights.{averagedIn, averagedFrom, averaged, averagedPoints}
-use Rattle.averaging.specs.Flags.{rowHasZero, rowsHaveZero, flagIn, averagedFlags, averagedFlagPoints}
+use Rattle.averaging.specs.Flags.{flagIn, averagedFlags, averagedFlagPoints}
 use Rattle.averaging.proofs.SetLaws.{ends, start-hit}
 use Rattle.averaging.proofs.WeightLaws.{averaged-one}
 

@@ -8,7 +8,7 @@ use native.Mathlib.Nat.{zero-mul, mul-zero}
 use native.Mathlib.Omega.{arith}
 use lib.Dec.{T}
 use lib.IntN.{ℤ, pos}
-use lib.ListN.{length, getD, drop, take, length-take, List·getD-eq-default}
+use lib.ListN.{length, getD, drop, length-take, List·getD-eq-default}
 use lib.Seq.{getD-take, getD-drop}
 use lib.Ieee.{Float, nan, binary64, add, div, ofInt, fits}
 use lib.Ieee.Fits.{add-fits}

@@ -11,7 +11,7 @@ use Rattle.list_laws.specs.Matrix.{Block, block, Replaced, InBlock, InRows}
 use Rattle.list_laws.proofs.BoolLaws.{lt-or-le}
 use Rattle.list_laws.proofs.MatrixLaws.{replaced-join, square-is}
 use Rattle.averaging.specs.Sets.{startOf, endOf, blockOf}
-use Rattle.averaging.proofs.SetLaws.{Ends, ends, end-same, start-same, start-le}
+use Rattle.averaging.proofs.SetLaws.{ends, end-same, start-same, start-le}
 
 module _ {A : Type 0} (d : A) (n : ℕ) (rule : Block → List A → ℕ → ℕ → A) where
   -- the rows from top to bottom are done in the columns before `left`

@@ -10,3 +10,4 @@ pub mod PartLaws
 pub mod MatrixLaws
 pub mod EqualLaws
 pub mod SizeLaws
+pub mod ColumnLaws

@@ -2,9 +2,25 @@
 use mathlib.Core.Path.{refl}
 use lib.Ieee.{ofBits, ofInt, lt, eq, le, ne, add, sub, mul, div}
 use Rattle.ieee_laws.specs.Magnitude.{absolute}
-use Rattle.list_laws.specs.Lists.{allBelow}
+use Rattle.ieee_laws.specs.Zeros.{isNegativeZero}
+use Rattle.list_laws.specs.Lists.{allBelow, tabulate, rows, firstAt}
+use Rattle.list_laws.specs.Matrix.{eachPart}
+use Rattle.list_laws.specs.Signed.{isNat, isBelow, isBetween, within}
+use Rattle.common.specs.Matrix.{isLattice, isLatticeRow, isLatticeEntry, rowTimes}
+use Rattle.common.specs.Mesh.{meshOf, countOf}
+use Rattle.grgrid.specs.Index.{gridIndex}
+use Rattle.bzgrid.specs.Neighbours.{gridOf, kindOf, neighboursOfAll, neighboursOf, neighbourOf, wantedAddress, sparseNeighbour, mapOnDoubled, denseNeighbour, inGroup, isAddress}
+use Rattle.relative_grid_address.specs.Answer.{tableAnswer}
+use Rattle.relative_grid_address.specs.Diagonal.{mainDiagonalOf}
+use Rattle.averaging.specs.Weights.{averagedPoints}
+use Rattle.averaging.specs.Flags.{averagedFlagPoints}
 use Rattle.questions.specs.Ask.{firstNo}
+use Rattle.questions.specs.Averages.{isDegenerateId, areDegenerateIds, isWeight, areWeights}
+use Rattle.questions.specs.Counts.{isBandCount, isProduct}
 use Rattle.questions.specs.Frequencies.{inRange, areInRange}
+use Rattle.questions.specs.Grids.{isGridKind, isMesh, areTriples, areAddresses, isMap, isDenseMap, isSparseMap}
+use Rattle.questions.specs.Steps.{areSteps, areGridPoints}
+use Rattle.questions.specs.TpTypes.{isTpType, channelsOf}
 use Rattle.tetrahedron_formulas.specs.Choice.{branchOf, iOf, gOf, jOf, nOf}
 use Rattle.tetrahedron_formulas.specs.Fraction.{isSmall, fraction}
 use Rattle.tetrahedron_method.specs.Weight.{weightOf, sumOf, rowWeight, shareOf, orZero}
@@ -12,5 +28,5 @@ use Rattle.tetrahedron_sort.specs.Sort.{sortedOf, placeOf}
 use Rattle.points.specs.Points.{Every, points}
 
 pub starred : Every points
-unfolding firstNo areInRange inRange allBelow absolute weightOf sumOf rowWeight shareOf orZero branchOf iOf gOf jOf nOf isSmall fraction sortedOf placeOf ofBits ofInt lt eq le ne add sub mul div
-starred = (refl, (refl, (refl, (refl, (refl, (refl, (refl, (refl, (refl, (refl, (refl, (refl, (refl, tt)))))))))))))
+unfolding firstNo areInRange inRange allBelow absolute weightOf sumOf rowWeight shareOf orZero branchOf iOf gOf jOf nOf isSmall fraction sortedOf placeOf ofBits ofInt lt eq le ne add sub mul div tableAnswer isLattice isLatticeRow isLatticeEntry mainDiagonalOf rowTimes isGridKind isMesh areTriples areAddresses isMap isDenseMap isSparseMap areSteps areGridPoints isProduct isNat isBelow isBetween within meshOf countOf gridOf kindOf neighboursOfAll neighboursOf neighbourOf wantedAddress sparseNeighbour mapOnDoubled denseNeighbour inGroup isAddress gridIndex tabulate rows firstAt isTpType channelsOf isBandCount isDegenerateId areDegenerateIds isNegativeZero isWeight areWeights averagedPoints averagedFlagPoints eachPart
+starred = (refl, (refl, (refl, (refl, (refl, (refl, (refl, (refl, (refl, (refl, (refl, (refl, (refl, ((refl, refl), ((refl, refl), ((refl, refl), ((refl, refl), ((refl, (refl, refl)), tt))))))))))))))))))

@@ -2,14 +2,23 @@
 use Prim.Native.Nat.{ℕ, zero, suc}
 use mathlib.Core.Path.{_≡_}
 use mathlib.Core.List.{List, [], _∷_, _++_}
+use lib.IntN.{ℤ, pos, negsuc}
+use lib.ListN.{length}
 use lib.Ieee.{Float, binary64, ofBits}
+use Rattle.questions.specs.Ask.{firstNo}
+use Rattle.bzgrid.specs.Calls.{manyQuestions, neighbourAnswer}
+use Rattle.bzgrid.specs.Neighbours.{gridOf, neighboursOfAll}
+use Rattle.bzgrid.specs.declared.NeighbourAnswer.the-variants.{Filled}
+use Rattle.relative_grid_address.specs.Answer.{tableAnswer}
+use Rattle.averaging.specs.Answers.{averagingAnswer, weightsAfter, flagsAfter}
+use Rattle.averaging.specs.declared.AveragingAnswer.the-variants.{Averaged}
 use Rattle.tetrahedron_method.specs.Answer.{integrationWeightAnswer}
 use Rattle.tetrahedron_method.specs.declared.WeightAnswer.the-variants.{Weight}
 use Rattle.tetrahedron_method.specs.declared.WeightFunction.{WeightFunction}
 use Rattle.tetrahedron_method.specs.declared.WeightFunction.the-variants.{I, J}
 use Rattle.tetrahedron_sort.specs.Sort.{sortOf}
 
--- the floats -1, 0, 1, 2, 4, 0.0625, 0.3125, 0.375 and 5e-11
+-- the floats -1, 0, 1, 2, 3, 3.5, 4, 5, 0.0625, 0.3125, 0.375 and 5e-11
 abbrev pub minus-one : Float
 minus-one = ofBits binary64 0xbff0_0000_0000_0000
 
@@ -22,8 +31,17 @@ one = ofBits binary64 0x3ff0_0000_0000_0000
 abbrev pub two : Float
 two = ofBits binary64 0x4000_0000_0000_0000
 
+abbrev pub three : Float
+three = ofBits binary64 0x4008_0000_0000_0000
+
+abbrev pub seven-halves : Float
+seven-halves = ofBits binary64 0x400c_0000_0000_0000
+
 abbrev pub four : Float
 four = ofBits binary64 0x4010_0000_0000_0000
+
+abbrev pub five : Float
+five = ofBits binary64 0x4014_0000_0000_0000
 
 abbrev pub sixteenth : Float
 sixteenth = ofBits binary64 0x3fb0_0000_0000_0000
@@ -52,16 +70,40 @@ pub data Point : Type 0 where
   weighs : WeightFunction → List Float → Float → Float → Point
   -- the first of the row's values stands at this place
   stands : List Float → ℕ → Point
+  -- the lattice, row by row, picks the table of this number
+  picks : List (List Float) → ℕ → Point
+  -- on a grid of this kind, mesh, addresses and map, these steps lead from these points to these numbers
+  leads : ℤ → List ℤ → List ℤ → List ℤ → List ℤ → List ℤ → List ℤ → Point
+  -- of a count of bands, with two id lists, these weights and flags of one channel and one point become those
+  averages : ℤ → List ℤ → List ℤ → List Float → List Float → List ℤ → List ℤ → Point
 
 -- what a point claims
 abbrev pub Claim : Point → Type 0
 Claim (weighs u r w x) = integrationWeightAnswer w (equalRows r 24) u ≡ Weight x
 Claim (stands r p) = sortOf r .place ≡ p
+Claim (picks l n) = (tableAnswer l .refused ≡ 0) × (tableAnswer l .index ≡ n)
+Claim (leads kind mesh addresses map steps from to) =
+    (neighbourAnswer (firstNo (manyQuestions kind mesh addresses map steps from (length to))) ≡ Filled)
+    × (neighboursOfAll (gridOf kind mesh) addresses map steps from ≡ to)
+Claim (averages bands ids1 ids2 w w′ z z′) =
+    (averagingAnswer w z ids1 ids2 (pos 1) bands (pos 4) ≡ Averaged)
+    × ((weightsAfter w z ids1 ids2 (pos 1) bands (pos 4) ≡ w′) × (flagsAfter w z ids1 ids2 (pos 1) bands (pos 4) ≡ z′))
 
 -- all points of a list hold
 abbrev pub Every : List Point → Type 0
 Every [] = Unit
 Every (p ∷ ps) = Claim p × Every ps
+
+-- three numbers, as a mesh, a step or a row of whole entries
+abbrev pub triple : {A : Type 0} → A → A → A → List A
+triple a b c = a ∷ b ∷ c ∷ []
+
+-- "Kind 2, mesh 2,1,1, first components 0, 1, -1 (others 0), map 0,1,3": from point 0 by a step along the first axis
+abbrev pub fromOrigin : ℤ → ℤ → Point
+fromOrigin step to =
+    leads (pos 2) (triple (pos 2) (pos 1) (pos 1))
+    (triple (pos 0) (pos 0) (pos 0) ++ (triple (pos 1) (pos 0) (pos 0) ++ triple (negsuc 0) (pos 0) (pos 0)))
+    (triple (pos 0) (pos 1) (pos 3)) (triple step (pos 0) (pos 0)) (pos 0 ∷ []) (to ∷ [])
 
 -- the starred points of document 01
 abbrev pub points : List Point
@@ -79,4 +121,10 @@ points =
     ∷ stands (values four none none none) 3
     ∷ weighs I (values none none none tiny) none none
     ∷ weighs J (values none none none tiny) none one
+    ∷ picks (triple (triple one none none) (triple none one none) (triple none none one)) 0
+    ∷ picks (triple (triple one one none) (triple none one none) (triple none none one)) 1
+    ∷ fromOrigin (negsuc 0) (pos 2)
+    ∷ fromOrigin (pos 3) (pos 1)
+    ∷ averages (pos 2) (pos 0 ∷ pos 0 ∷ []) (pos 0 ∷ pos 1 ∷ []) (values one two three five) (values two seven-halves two seven-halves)
+    (pos 1 ∷ pos 0 ∷ pos 1 ∷ pos 1 ∷ []) (pos 1 ∷ pos 0 ∷ pos 1 ∷ pos 0 ∷ [])
     ∷ []

@@ -4,3 +4,6 @@ pub mod GridLaws
 pub mod StepLaws
 pub mod AverageLaws
 pub mod RowsLaws
+pub mod TableLaws
+pub mod IrreducibleLaws
+pub mod StudyLaws

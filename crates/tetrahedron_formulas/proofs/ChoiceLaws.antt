@@ -3,7 +3,7 @@ use mathlib.Core.Path.{_≡_, refl, ap}
 use mathlib.Core.List.{List}
 use Prim.Native.Nat.{ℕ, zero, suc}
 use lib.Ieee.{Float, ofBits, mul}
-use Rattle.tetrahedron_formulas.specs.Binary64.{zero as z, one, quarter, _⊗_}
+use Rattle.tetrahedron_formulas.specs.Binary64.{zeroF as z, one, quarter, _⊗_}
 use Rattle.tetrahedron_formulas.specs.Choice.{byPlace, iOf, gOf, jOf, nOf, densityShare, statesShare}
 
 last-place : (a b c d : Float) (n : ℕ) → (n ≡ 0 → ⊥) → (n ≡ 1 → ⊥) → (n ≡ 2 → ⊥) → d ≡ byPlace n a b c d

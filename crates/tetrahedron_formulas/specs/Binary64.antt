@@ -20,8 +20,8 @@ abbrev pub _⊘_ : Float → Float → Float
 x ⊘ y = div binary64 x y
 
 -- 0.0
-abbrev pub zero : Float
-zero = ofBits binary64 0
+abbrev pub zeroF : Float
+zeroF = ofBits binary64 0
 
 -- 0.25
 abbrev pub quarter : Float

@@ -4,7 +4,7 @@ use mathlib.Core.Bool.{cond}
 use mathlib.Core.List.{List, [], _∷_}
 use lib.ListN.{getD}
 use lib.Ieee.{Float, nan, lt}
-use Rattle.tetrahedron_formulas.specs.Binary64.{zero as z, one, quarter, _⊖_, _⊗_}
+use Rattle.tetrahedron_formulas.specs.Binary64.{zeroF as z, one, quarter, _⊖_, _⊗_}
 use Rattle.tetrahedron_formulas.specs.Fraction.{f}
 use Rattle.tetrahedron_formulas.specs.Density.{g1, g2, g3, i10, i11, i12, i13, i20, i21, i22, i23, i30, i31, i32, i33}
 use Rattle.tetrahedron_formulas.specs.States.{n1, n2, n3, j10, j11, j12, j13, j20, j21, j22, j23, j30, j31, j32, j33}

@@ -5,7 +5,7 @@ use mathlib.Core.List.{List}
 use lib.ListN.{getD}
 use lib.Ieee.{Float, nan, ne, isNan, ofBits}
 use Rattle.ieee_laws.proofs.NanLaws.{no-nan}
-use Rattle.tetrahedron_formulas.specs.Binary64.{zero}
+use Rattle.tetrahedron_formulas.specs.Binary64.{zeroF}
 use Rattle.tetrahedron_formulas.specs.Choice.{values}
 use Rattle.tetrahedron_sort.specs.Sort.{sortedOf}
 use Rattle.tetrahedron_method.specs.Weight.{orZero}
@@ -20,6 +20,6 @@ pub row-number : (p : Float) → isNan (orZero p) ≡ false
 unfolding orZero ofBits isNan
 row-number p = go (ne p p) refl
   where
-    go : (t : Bool) → ne p p ≡ t → isNan (cond t zero p) ≡ false
+    go : (t : Bool) → ne p p ≡ t → isNan (cond t zeroF p) ≡ false
     go true e = refl
     go false e = no-nan p e

@@ -1,6 +1,9 @@
 // The tetrahedron method: integration weights from the vertex values of rows of tetrahedra.
 ghost use mathlib.Core.Path.{_≡_};
 ghost use Rattle.tetrahedron_method.specs.Answer.{integrationWeightAnswer};
+pub use relative_grid_address::TableAnswer;
+pub use relative_grid_address::all_relative_grid_address;
+pub use relative_grid_address::relative_grid_address;
 
 pub mod kernel;
 

@@ -5,10 +5,10 @@ ghost use Rattle.tetrahedron_sort.specs.Sort.{low2, high2, placeBy, sort
 use crate::SortedOmegas;
 
 // Two values in order, and whether they had to change places.
-pub struct OrderedPair {
-    pub low: f64,
-    pub high: f64,
-    pub swapped: bool,
+struct OrderedPair {
+    low: f64,
+    high: f64,
+    swapped: bool,
 }
 
 fn ordered(a: f64, b: f64) -> OrderedPair

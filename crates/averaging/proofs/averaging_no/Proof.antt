@@ -1,6 +1,6 @@
 -- `averaging::averaging_no` meets its contract: what each test found, in order. Assumes nothing.
-use mathlib.Core.Path.{_≡_, sym, ap, _∙_}
-use mathlib.Core.Bool.{true, false, _&&_}
+use mathlib.Core.Path.{_≡_, ap, _∙_}
+use mathlib.Core.Bool.{true, _&&_}
 use Prim.Native.Nat.{ℕ, _*_, _≤_}
 use native.Mathlib.Omega.{arith}
 use lib.Dec.{eqb}
@@ -11,7 +11,7 @@ use mir.ValLaws.{toZ-ofZ}
 use Rattle.list_laws.specs.Signed.{isBetween}
 use Rattle.list_laws.proofs.BoolLaws.{yes-of, no-of}
 use Rattle.questions.specs.Ask.{firstNo}
-use Rattle.questions.specs.Averages.{areDegenerateIds, areWeights}
+use Rattle.questions.specs.Averages.{areDegenerateIds}
 use Rattle.questions.specs.Counts.{isBandCount}
 use Rattle.questions.specs.TpTypes.{isTpType, channelsOf}
 use Rattle.averaging.specs.Answers.{flagCount}

@@ -1,6 +1,5 @@
 -- `averaging::kernel::flags::average_block` meets its contract. Assumes nothing.
-use mathlib.Core.Path.{_≡_, refl, sym, ap, _∙_}
-use native.Mathlib.Omega.{arith}
+use mathlib.Core.Path.{sym, _∙_}
 use borrow.Author.Needs.{needs}
 use Rattle.list_laws.specs.Matrix.{block}
 use Rattle.averaging.proofs.FlagLaws.{flag-zero, flag-none}

@@ -1,9 +1,8 @@
 -- `averaging::kernel::flags::average_matrix` meets its contract: at each turn the rows before `top`, where a set starts, are done. Assumes nothing.
-use mathlib.Core.Path.{_≡_, refl, sym, ap, _∙_, subst}
-use Prim.Native.Nat.{ℕ, _≤_, _<_, _-_, _+_, _*_}
+use mathlib.Core.Path.{_≡_}
+use Prim.Native.Nat.{_≤_, _<_, _-_}
 use native.Mathlib.Omega.{arith}
 use lib.IntN.{pos}
-use lib.ListN.{length}
 use Rattle.averaging.specs.Sets.{startsAt, startOf}
 use Rattle.averaging.specs.Flags.{flagIn, averagedFlags}
 use Rattle.averaging.proofs.SetLaws.{start-zero, next-bounds, next-start}

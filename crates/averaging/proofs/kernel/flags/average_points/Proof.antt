@@ -1,5 +1,5 @@
 -- `averaging::kernel::flags::average_points` meets its contract: at each turn the matrices of the first k points are done. Assumes nothing.
-use mathlib.Core.Path.{_≡_, refl, sym, ap, _∙_}
+use mathlib.Core.Path.{_≡_, ap}
 use Prim.Native.Nat.{ℕ, _≤_, _-_, _+_, _*_}
 use native.Mathlib.Omega.{arith}
 use lib.ListN.{length}

@@ -1,5 +1,5 @@
 -- `averaging::kernel::flags::block_has_zero` meets its contract: at each turn `found` speaks of the rows before r. Assumes nothing.
-use mathlib.Core.Path.{_≡_, refl, sym, ap, _∙_}
+use mathlib.Core.Path.{_≡_, sym, ap, _∙_}
 use Prim.Native.Nat.{ℕ, _≤_, _-_, _+_, _*_}
 use native.Mathlib.Omega.{arith}
 use Rattle.averaging.specs.Flags.{rowsHaveZero}

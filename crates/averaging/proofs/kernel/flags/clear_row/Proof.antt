@@ -1,9 +1,7 @@
 -- `averaging::kernel::flags::clear_row` meets its contract. Assumes nothing.
-use mathlib.Core.Path.{_≡_, refl}
 use Prim.Native.Nat.{_-_}
 use native.Mathlib.Omega.{arith}
 use lib.IntN.{pos}
-use lib.ListN.{length}
 use Rattle.list_laws.specs.Matrix.{Filled}
 use Rattle.list_laws.proofs.MatrixLaws.{filled-none, filled-more, filled-all}
 use Rattle.averaging.proofs.kernel.flags.clear_row.Statement.{statement}

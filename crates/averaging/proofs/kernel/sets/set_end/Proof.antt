@@ -1,10 +1,7 @@
 -- `averaging::kernel::sets::set_end` meets its contract: what is left to look for starts at e. Assumes nothing.
-use mathlib.Core.Path.{_≡_, refl, sym, ap, _∙_}
-use mathlib.Core.Bool.{Bool}
-use Prim.Native.Nat.{ℕ, suc, _≤_, _<_, _-_, _+_}
-use native.Mathlib.Numerals.{add-one}
+use mathlib.Core.Path.{_≡_, sym, _∙_}
+use Prim.Native.Nat.{_≤_, _-_}
 use native.Mathlib.Omega.{arith}
-use lib.ListN.{length}
 use Rattle.averaging.specs.Sets.{startsAt, endOf, nextFrom}
 use Rattle.averaging.proofs.SetLaws.{next-hit, next-step, next-end, end-first}
 use Rattle.averaging.proofs.kernel.sets.set_end.Statement.{statement}

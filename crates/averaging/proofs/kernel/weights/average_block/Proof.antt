@@ -1,13 +1,11 @@
 -- `averaging::kernel::weights::average_block` meets its contract. Assumes nothing.
-use mathlib.Core.Path.{_≡_, refl, sym, ap, _∙_}
-use mathlib.Core.Bool.{Bool, cond}
-use Prim.Native.Nat.{ℕ, _≤_, _-_, _+_, _*_}
+use mathlib.Core.Path.{sym, ap, _∙_}
+use Prim.Native.Nat.{_-_, _*_}
 use native.Mathlib.Omega.{arith}
 use lib.Dec.{le→leb}
 use lib.IntN.{pos}
 use lib.Ieee.{Float, binary64, div, ofInt, inFloat}
 use borrow.Author.Needs.{needs}
-use borrow.Author.Tests.{lt-ltb, le-ltb}
 use Rattle.list_laws.specs.Matrix.{block, entries}
 use Rattle.ieee_laws.specs.Zeros.{plusZero}
 use Rattle.averaging.specs.Weights.{mean}

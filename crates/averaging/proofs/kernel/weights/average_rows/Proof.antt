@@ -1,10 +1,9 @@
 -- `averaging::kernel::weights::average_rows` meets its contract: at each turn the columns before `left`, where a set starts, are done. Assumes nothing.
-use mathlib.Core.Path.{_≡_, refl, sym, ap, _∙_, subst}
-use Prim.Native.Nat.{ℕ, _≤_, _<_, _-_, _+_, _*_}
+use mathlib.Core.Path.{_≡_}
+use Prim.Native.Nat.{_≤_, _<_, _-_}
 use native.Mathlib.Omega.{arith}
 use lib.Ieee.{nan}
-use lib.ListN.{length}
-use Rattle.averaging.specs.Sets.{startsAt, startOf, endOf}
+use Rattle.averaging.specs.Sets.{startsAt, startOf}
 use Rattle.ieee_laws.specs.Zeros.{plusZero}
 use Rattle.averaging.specs.Weights.{averagedIn}
 use Rattle.averaging.proofs.SetLaws.{start-zero, next-bounds, next-start}

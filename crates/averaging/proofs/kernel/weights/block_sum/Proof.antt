@@ -1,5 +1,5 @@
 -- `averaging::kernel::weights::block_sum` meets its contract: at each turn `sum` is the sum of the rows before r. Assumes nothing.
-use mathlib.Core.Path.{_≡_, refl, sym, ap, _∙_}
+use mathlib.Core.Path.{_≡_, sym, ap, _∙_}
 use Prim.Native.Nat.{ℕ, _≤_, _-_, _+_, _*_}
 use native.Mathlib.Omega.{arith}
 use lib.Ieee.{ofBits}

@@ -1,6 +1,5 @@
 -- `averaging::kernel::weights::fill_block` meets its contract: at each turn the block's rows before r are filled. Assumes nothing.
-use mathlib.Core.Path.{_≡_, refl, sym, ap, _∙_, subst}
-use Prim.Native.Nat.{ℕ, _≤_, _-_, _+_, _*_}
+use Prim.Native.Nat.{_≤_, _-_, _+_, _*_}
 use native.Mathlib.Omega.{arith}
 use lib.Ieee.{nan}
 use Rattle.list_laws.specs.Matrix.{block, Replaced, InBlock}

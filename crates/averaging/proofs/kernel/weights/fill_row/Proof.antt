@@ -1,9 +1,7 @@
 -- `averaging::kernel::weights::fill_row` meets its contract. Assumes nothing.
-use mathlib.Core.Path.{_≡_, refl}
 use Prim.Native.Nat.{_-_}
 use native.Mathlib.Omega.{arith}
 use lib.Ieee.{nan}
-use lib.ListN.{length}
 use Rattle.list_laws.specs.Matrix.{Filled}
 use Rattle.list_laws.proofs.MatrixLaws.{filled-none, filled-more, filled-all}
 use Rattle.averaging.proofs.kernel.weights.fill_row.Statement.{statement}

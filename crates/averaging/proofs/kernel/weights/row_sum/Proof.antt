@@ -1,7 +1,6 @@
 -- `averaging::kernel::weights::row_sum` meets its contract: at each turn `sum` is the sum of the first i entries. Assumes nothing.
-use mathlib.Core.Path.{_≡_, refl, sym, ap, _∙_}
-use Prim.Native.Nat.{ℕ, _≤_, _-_, _+_}
-use native.Mathlib.Nat.{le-antisymm}
+use mathlib.Core.Path.{_≡_, refl, ap, _∙_}
+use Prim.Native.Nat.{_≤_, _-_}
 use native.Mathlib.Numerals.{add-one}
 use native.Mathlib.Omega.{arith}
 use lib.Ieee.{ofBits}

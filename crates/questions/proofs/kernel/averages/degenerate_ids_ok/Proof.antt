@@ -1,5 +1,5 @@
 -- `questions::kernel::averages::degenerate_ids_ok` meets its contract: at each turn `ok` speaks of the first k ids. Assumes nothing.
-use mathlib.Core.Path.{_≡_, refl, sym, ap, _∙_}
+use mathlib.Core.Path.{_≡_}
 use Prim.Native.Nat.{_-_, _≤_}
 use native.Mathlib.Omega.{arith}
 use lib.ListN.{length}

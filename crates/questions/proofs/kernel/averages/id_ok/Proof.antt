@@ -1,6 +1,5 @@
 -- `questions::kernel::averages::id_ok` meets its contract. Assumes nothing.
-use mathlib.Core.Path.{_≡_, refl, sym, ap, _∙_}
-use native.Mathlib.Omega.{arith}
+use mathlib.Core.Path.{sym, ap, _∙_}
 use Prim.Native.Nat.{_-_}
 use Rattle.list_laws.specs.Lists.{at}
 use Rattle.list_laws.specs.Signed.{eqZ}

@@ -1,5 +1,5 @@
 -- `questions::kernel::averages::weights_ok` meets its contract: at each turn `ok` speaks of the first k weights. Assumes nothing.
-use mathlib.Core.Path.{_≡_, refl, sym, ap, _∙_}
+use mathlib.Core.Path.{_≡_}
 use Prim.Native.Nat.{_-_, _≤_}
 use native.Mathlib.Omega.{arith}
 use lib.ListN.{length, getD}

@@ -1,0 +1,41 @@
+-- The questions of the weights at grid points, and their answer.
+use mathlib.Core.Bool.{Bool, _&&_}
+use mathlib.Core.List.{List, [], _∷_, _++_}
+use Prim.Native.Nat.{ℕ, zero, suc, _*_}
+use lib.IntN.{ℤ}
+use lib.Ieee.{Float}
+use lib.ListN.{length}
+use lib.Signed.{mag}
+use Rattle.questions.specs.Ask.{Question, asks}
+use Rattle.questions.specs.Grids.{gridQuestions, triplesIn}
+use Rattle.questions.specs.Tables.{isTable}
+use Rattle.questions.specs.Counts.{isBandCount, isPointCount, isTripletCount, isProduct}
+use Rattle.questions.specs.Steps.{areGridPoints}
+use Rattle.questions.specs.Irreducible.{areIrreducible}
+use Rattle.questions.specs.Frequencies.{arePoints}
+use Rattle.grid_point_weights.specs.declared.GridPointAnswer.{GridPointAnswer}
+use Rattle.grid_point_weights.specs.declared.GridPointAnswer.the-variants.{Filled, Refused}
+
+-- Question 9: "Are band counts 1 to 64, frequency points 1 to 1,024, .. grid points at most 65,536?"
+unfoldable pub areCounts : ℤ → ℕ → ℕ → Bool
+areCounts bands points gridPoints = (isBandCount bands && isPointCount points) && isTripletCount gridPoints
+
+-- after the grid: 7 the table, 9 the counts, 10 the grid points, 11 the frequencies, the map to them and the points, 12 the buffer
+abbrev pub weightsQuestions : List ℤ → ℤ → List Float → List ℤ → ℕ → ℤ → List Float → List ℤ → ℕ → List Question
+weightsQuestions table bands points gridPoints p r frequencies irreducible iw =
+    asks 7 (isTable table)
+    ∷ asks 9 (areCounts bands (length points) (length gridPoints))
+    ∷ asks 10 (areGridPoints p gridPoints)
+    ∷ asks 11 (areIrreducible r (mag bands) p frequencies irreducible && arePoints points)
+    ∷ asks 12 (isProduct (length gridPoints) (length points * mag bands) iw)
+    ∷ []
+
+-- The questions of `integration_weights_at_grid_points`, in their order.
+abbrev pub gridPointQuestions : ℤ → List ℤ → List ℤ → List ℤ → List ℤ → ℤ → List Float → List ℤ → ℤ → List Float → List ℤ → ℕ → List Question
+gridPointQuestions kind diag addresses map table bands points gridPoints r frequencies irreducible iw =
+    gridQuestions kind diag addresses map ++ weightsQuestions table bands points gridPoints (triplesIn addresses) r frequencies irreducible iw
+
+-- The answer, by the number of the first no: 0 is filled, any other is the refusal.
+abbrev pub gridPointAnswer : ℕ → GridPointAnswer
+gridPointAnswer zero = Filled
+gridPointAnswer (suc n) = Refused (suc n)

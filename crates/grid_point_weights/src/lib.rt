@@ -1,0 +1,79 @@
+// The tetrahedron method at grid points: integration weights by grid point, frequency point and band.
+ghost use mathlib.Core.Path.{_≡_};
+ghost use lib.ListN.{length};
+ghost use lib.Signed.{mag};
+ghost use Rattle.bzgrid.specs.Neighbours.{gridOf};
+ghost use Rattle.questions.specs.Ask.{firstNo, afterCall};
+ghost use Rattle.grid_point_weights.specs.Weights.{study, weightsOfAll};
+ghost use Rattle.grid_point_weights.specs.Calls.{gridPointQuestions, gridPointAnswer};
+use tetrahedron_method::WeightFunction;
+
+mod band;
+mod corners;
+mod fill;
+mod questioned;
+
+pub enum GridPointAnswer {
+    Filled,
+    Refused(u64),
+}
+
+// The integration weights of each band at each frequency point, for each of the grid points in turn; num_ir is R, the count of
+// irreducible points. Questions 3, 4, 5, 6, 7, 9, 10, 11, 12.
+pub fn integration_weights_at_grid_points(
+    iw: &mut [f64],
+    frequency_points: &[f64],
+    relative_grid_address: &[i64],
+    grid_points: &[i64],
+    frequencies: &[f64],
+    num_band: i64,
+    num_ir: i64,
+    bz_grid_type: i64,
+    d_diag: [i64; 3],
+    addresses: &[i64],
+    gp_map: &[i64],
+    gp2irgp_map: &[i64],
+    function: WeightFunction,
+) -> GridPointAnswer
+    ensures { λ r. ⌜ r ≡ gridPointAnswer (firstNo (gridPointQuestions «bz_grid_type» «d_diag» (now (addresses .entry)) (now («gp_map» .entry))
+        (now («relative_grid_address» .entry)) «num_band» (now («frequency_points» .entry)) (now («grid_points» .entry)) «num_ir» (now (frequencies .entry)) (now («gp2irgp_map» .entry)) (length (now (iw .entry))))) ⌝ }
+    ensures { λ r. ⌜ now (iw .exit) ≡ afterCall (firstNo (gridPointQuestions «bz_grid_type» «d_diag» (now (addresses .entry)) (now («gp_map» .entry))
+        (now («relative_grid_address» .entry)) «num_band» (now («frequency_points» .entry)) (now («grid_points» .entry)) «num_ir» (now (frequencies .entry)) (now («gp2irgp_map» .entry)) (length (now (iw .entry)))))
+        (weightsOfAll (study (gridOf «bz_grid_type» «d_diag») (now (addresses .entry)) (now («gp_map» .entry)) (now («relative_grid_address» .entry)) (now («gp2irgp_map» .entry)) (now (frequencies .entry)) (mag «num_band») (now («frequency_points» .entry)) function) (now («grid_points» .entry)))
+        (now (iw .entry)) ⌝ }
+{
+    let grid_no = questions::kernel::grid::grid_no(bz_grid_type, d_diag, addresses, gp_map);
+    if grid_no != 0 {
+        return GridPointAnswer::Refused(grid_no);
+    }
+    let no = questioned::weights_no(
+        relative_grid_address,
+        num_band,
+        frequency_points,
+        grid_points,
+        addresses.len() / 3,
+        num_ir,
+        frequencies,
+        gp2irgp_map,
+        iw.len(),
+    );
+    if no != 0 {
+        return GridPointAnswer::Refused(no);
+    }
+    let grid = bzgrid::kernel::grid_of(bz_grid_type, d_diag);
+    let bands = common::kernel::magnitude(num_band);
+    fill::fill_all(
+        iw,
+        grid_points,
+        grid,
+        addresses,
+        gp_map,
+        relative_grid_address,
+        gp2irgp_map,
+        frequencies,
+        bands,
+        frequency_points,
+        function,
+    );
+    GridPointAnswer::Filled
+}

@@ -1,0 +1,41 @@
+-- What the answer yes to question 11 says of the frequencies of irreducible points and of the map to them. Assumes nothing.
+use mathlib.Core.Path.{_≡_}
+use mathlib.Core.Bool.{Bool, true, _&&_}
+use mathlib.Core.List.{List}
+use Prim.Native.Nat.{ℕ, _*_, _<_}
+use borrow.Author.Tests.{eqb-true}
+use lib.Dec.{leb, eqb}
+use lib.IntN.{ℤ}
+use lib.Ieee.{Float}
+use lib.ListN.{length}
+use lib.Signed.{nonNeg, mag}
+use Rattle.list_laws.specs.Lists.{at}
+use Rattle.list_laws.proofs.BoolLaws.{and-left, and-right}
+use Rattle.questions.specs.Counts.{isProduct}
+use Rattle.questions.specs.Frequencies.{areFrequencies}
+use Rattle.questions.specs.Steps.{areGridPoints}
+use Rattle.questions.specs.Irreducible.{isIrreducibleMap, areIrreducible}
+use Rattle.questions.proofs.StepLaws.{grid-points-at, product-yes}
+
+module _ (r : ℤ) (bands p : ℕ) (frequencies : List Float) (map : List ℤ) (e : areIrreducible r bands p frequencies map ≡ true) where
+  first : ((nonNeg r && leb 1 (mag r)) && isProduct (mag r) bands (length frequencies)) ≡ true
+  unfolding areIrreducible
+  first = and-left _ (areFrequencies frequencies && isIrreducibleMap p (mag r) map) e
+
+  second : isIrreducibleMap p (mag r) map ≡ true
+  unfolding areIrreducible
+  second = and-right (areFrequencies frequencies) _ (and-right ((nonNeg r && leb 1 (mag r)) && isProduct (mag r) bands (length frequencies)) _ e)
+
+  -- R times bands frequencies
+  pub frequencies-held : length frequencies ≡ mag r * bands
+  frequencies-held = product-yes (mag r) bands (length frequencies) (and-right (nonNeg r && leb 1 (mag r)) _ first)
+
+  -- P values of the map
+  pub irreducible-length : length map ≡ p
+  unfolding isIrreducibleMap
+  irreducible-length = eqb-true (length map) p (and-left (eqb (length map) p) (areGridPoints (mag r) map) second)
+
+  -- each below R
+  pub irreducible-at : (k : ℕ) → k < length map → mag (at map k) < mag r
+  unfolding isIrreducibleMap
+  irreducible-at = grid-points-at (mag r) map (and-right (eqb (length map) p) (areGridPoints (mag r) map) second)

@@ -1,0 +1,58 @@
+-- The questions 3 to 11 of a study of triplets: a grid, a table of steps, a type, band counts, frequencies, points and triplets.
+use mathlib.Core.Bool.{Bool, _&&_}
+use mathlib.Core.List.{List, [], _∷_, _++_}
+use Prim.Native.Nat.{ℕ, _+_, _/_, _%_}
+use lib.Dec.{eqb}
+use lib.IntN.{ℤ}
+use lib.Ieee.{Float}
+use lib.ListN.{length}
+use lib.Signed.{mag}
+use Rattle.questions.specs.Ask.{Question, asks}
+use Rattle.questions.specs.Counts.{isBandCount, isPointCount, isTripletCount, isProduct}
+use Rattle.questions.specs.Frequencies.{areFrequencies, arePoints}
+use Rattle.questions.specs.Grids.{areTriples, triplesIn, gridQuestions}
+use Rattle.questions.specs.Rows.{hasRows}
+use Rattle.questions.specs.Steps.{areGridPoints}
+use Rattle.questions.specs.TpTypes.{isTpType}
+
+-- Question 7: "Has the table 24, 48, 72 or 96 rows .., components within ±4,096?" A row is four corners of three numbers.
+unfoldable pub isTable : List ℤ → Bool
+isTable steps = hasRows 12 (length steps) && areTriples steps
+
+-- how many triplets a flat list holds, an unfinished one counted
+abbrev pub tripletsIn : List ℤ → ℕ
+tripletsIn triplets = (length triplets + 2) / 3
+
+-- Question 9: "Are band counts 1 to 64, frequency points 1 to 1,024, triplets .. at most 65,536 (0 allowed)?"
+unfoldable pub areStudyCounts : ℤ → ℤ → ℕ → ℕ → Bool
+areStudyCounts bands1 bands2 points triplets =
+    ((isBandCount bands1 && isBandCount bands2) && isPointCount points) && isTripletCount triplets
+
+-- Question 10: "Is .. all three of each triplet, 0 to P-1?"
+unfoldable pub areTriplets : ℕ → List ℤ → Bool
+areTriplets p triplets = eqb (length triplets % 3) 0 && areGridPoints p triplets
+
+-- Question 11: "Do frequencies hold P times bands values, each zero or of magnitude 2^-600 to 2^30?"
+unfoldable pub holdFrequencies : ℕ → ℕ → List Float → Bool
+holdFrequencies p bands frequencies = isProduct p bands (length frequencies) && areFrequencies frequencies
+
+-- Question 11, of both lists of frequencies and the points
+unfoldable pub areStudyFrequencies : ℕ → ℕ → ℕ → List Float → List Float → List Float → Bool
+areStudyFrequencies p bands1 bands2 frequencies1 frequencies2 points =
+    (holdFrequencies p bands1 frequencies1 && holdFrequencies p bands2 frequencies2) && arePoints points
+
+-- questions 7 to 11, P being the count of addresses
+abbrev pub tripletQuestions : ℕ → ℤ → ℤ → ℤ → List ℤ → List Float → List Float → List Float → List ℤ → List Question
+tripletQuestions p type bands1 bands2 steps frequencies1 frequencies2 points triplets =
+    asks 7 (isTable steps)
+    ∷ asks 8 (isTpType type)
+    ∷ asks 9 (areStudyCounts bands1 bands2 (length points) (tripletsIn triplets))
+    ∷ asks 10 (areTriplets p triplets)
+    ∷ asks 11 (areStudyFrequencies p (mag bands1) (mag bands2) frequencies1 frequencies2 points)
+    ∷ []
+
+-- The questions on a study, 3 to 11, in their order.
+abbrev pub studyQuestions : ℤ → List ℤ → ℤ → ℤ → ℤ → List ℤ → List ℤ → List ℤ → List Float → List Float → List Float → List ℤ → List Question
+studyQuestions kind diag type bands1 bands2 addresses map steps frequencies1 frequencies2 points triplets =
+    gridQuestions kind diag addresses map
+    ++ tripletQuestions (triplesIn addresses) type bands1 bands2 steps frequencies1 frequencies2 points triplets

@@ -1,0 +1,56 @@
+-- The open count of a triplet.
+use mathlib.Core.Bool.{Bool, _&&_}
+use mathlib.Core.List.{List, [], _∷_}
+use Prim.Native.Nat.{ℕ, zero, suc, _+_, _*_}
+use lib.Dec.{eqb}
+use lib.IntN.{ℤ, pos}
+use lib.ListN.{length}
+use lib.Signed.{mag}
+use Rattle.list_laws.specs.Lists.{at}
+use Rattle.list_laws.specs.Patch.{pick}
+use Rattle.list_laws.specs.Signed.{eqZ, isBelow, isBetween}
+use Rattle.questions.specs.Ask.{Question, asks, firstNo}
+use Rattle.sheet_marks.specs.declared.Counts.{Counts}
+use Rattle.sheet_marks.specs.declared.OpenAnswer.{OpenAnswer}
+use Rattle.sheet_marks.specs.declared.OpenAnswer.the-variants.{Open, Refused}
+
+-- Question 9: "band counts 1 to 64, frequency points 1 to 1,024, triplets .. at most 65,536 (0 allowed)"
+unfoldable pub areCounts : Counts → Bool
+areCounts c =
+    ((isBetween 1 64 (c .«num_band1») && isBetween 1 64 (c .«num_band2»)) && isBetween 1 1024 (c .«num_band0»)) && isBetween 0 65536 (c .«num_triplets»)
+
+-- how many flags a triplet has: one for each point, b1, b2
+unfoldable pub cellsPerTriplet : Counts → ℕ
+cellsPerTriplet c = mag (c .«num_band0») * (mag (c .«num_band1») * mag (c .«num_band2»))
+
+-- how many flags a sheet has
+abbrev pub cellsOf : Counts → ℕ
+cellsOf c = mag (c .«num_triplets») * cellsPerTriplet c
+
+-- 9 the counts, 12 the flags' length, 14 the triplet
+abbrev pub openQuestions : Counts → ℕ → ℤ → List Question
+openQuestions c length triplet =
+    asks 9 (areCounts c) ∷ asks 12 (eqb length (cellsOf c)) ∷ asks 14 (isBelow triplet (mag (c .«num_triplets»))) ∷ []
+
+-- flag k is 0
+abbrev pub isZeroAt : List ℤ → ℕ → Bool
+isZeroAt flags k = eqZ (at flags k) (pos 0)
+
+-- 1 where the test holds
+abbrev pub oneIf : Bool → ℕ
+oneIf b = pick b 1 0
+
+-- how many of the n flags from `start` on are 0
+unfoldable pub zerosFrom : List ℤ → ℕ → ℕ → ℕ
+zerosFrom flags start zero = 0
+zerosFrom flags start (suc n) = zerosFrom flags start n + oneIf (isZeroAt flags (start + n))
+
+-- by the number of the first no: 0 gives the count
+abbrev pub openAnswer : ℕ → ℕ → OpenAnswer
+openAnswer zero n = Open n
+openAnswer (suc k) n = Refused (suc k)
+
+-- "The open count of a triplet is its number of flags 0."
+abbrev pub openCountAnswer : Counts → List ℤ → ℤ → OpenAnswer
+openCountAnswer c flags triplet =
+    openAnswer (firstNo (openQuestions c (length flags) triplet)) (zerosFrom flags (mag triplet * cellsPerTriplet c) (cellsPerTriplet c))

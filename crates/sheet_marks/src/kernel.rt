@@ -1,0 +1,76 @@
+// Tests and counts for the sheet's calls.
+ghost use mathlib.Core.Path.{_≡_};
+ghost use mathlib.Core.Bool.{true};
+ghost use Prim.Native.Nat.{_+_, _*_, _≤_, _<_};
+ghost use lib.ListN.{length};
+ghost use Rattle.questions.specs.Ask.{firstNo};
+ghost use Rattle.sheet_marks.specs.OpenCount.{areCounts, cellsPerTriplet, cellsOf, openQuestions, isZeroAt, oneIf, zerosFrom};
+use crate::Counts;
+
+// 2^63
+pub const FULL: u64 = 0x8000_0000_0000_0000;
+
+// Question 9, of all four counts.
+fn counts_ok(counts: Counts) -> bool
+    ensures { λ r. ⌜ r ≡ areCounts counts ⌝ }
+{
+    common::kernel::is_between(1, 64, counts.num_band1)
+        & common::kernel::is_between(1, 64, counts.num_band2)
+        & common::kernel::is_between(1, 1024, counts.num_band0)
+        & common::kernel::is_between(0, 65536, counts.num_triplets)
+}
+
+// How many flags one triplet has.
+pub fn cells_of(counts: Counts) -> usize
+    requires { ⌜ areCounts counts ≡ true ⌝ }
+    ensures { λ r. ⌜ (r ≡ cellsPerTriplet counts) × (r ≤ 4194304) ⌝ }
+{
+    let points = common::kernel::magnitude(counts.num_band0);
+    let bands1 = common::kernel::magnitude(counts.num_band1);
+    let bands2 = common::kernel::magnitude(counts.num_band2);
+    points * (bands1 * bands2)
+}
+
+// The number of the first question of the open count that is answered no, or 0.
+pub fn open_no(counts: Counts, length: usize, triplet: i64) -> u64
+    ensures { λ r. ⌜ r ≡ firstNo (openQuestions counts length triplet) ⌝ }
+{
+    if !counts_ok(counts) {
+        return questions::BAD_COUNT;
+    }
+    let triplets = common::kernel::magnitude(counts.num_triplets);
+    if length != triplets * cells_of(counts) {
+        return questions::BAD_LENGTH;
+    }
+    if !common::kernel::is_below(triplet, triplets) {
+        return questions::NOT_ON_SHEET;
+    }
+    0
+}
+
+fn is_zero_at(flags: &[i8], k: usize) -> bool
+    requires { ⌜ k < length (now flags) ⌝ }
+    ensures { λ r. ⌜ r ≡ isZeroAt (now (flags .entry)) k ⌝ }
+{
+    flags[k] == 0
+}
+
+fn one_if(yes: bool) -> u64
+    ensures { λ r. ⌜ r ≡ oneIf yes ⌝ }
+{
+    if yes { 1 } else { 0 }
+}
+
+// How many of `n` flags from `start` on are 0.
+pub fn zeros_from(flags: &[i8], start: usize, n: usize) -> u64
+    requires { ⌜ start + n ≤ length (now flags) ⌝ }
+    ensures { λ r. ⌜ r ≡ zerosFrom (now (flags .entry)) start n ⌝ }
+{
+    let mut count: u64 = 0;
+    let mut i = 0;
+    while i < n {
+        count = count + one_if(is_zero_at(flags, start + i));
+        i += 1;
+    }
+    count
+}

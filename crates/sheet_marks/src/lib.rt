@@ -1,0 +1,61 @@
+// What a run sheet counts and marks: the tally of accepted runs, the marks of the pieces, and the open count of a triplet.
+ghost use mathlib.Core.Path.{_≡_};
+ghost use Prim.Native.Nat.{_*_, _<_};
+ghost use Rattle.sheet_marks.specs.Tallies.{addedTo};
+ghost use Rattle.sheet_marks.specs.OpenCount.{openCountAnswer};
+
+pub mod kernel;
+
+// The count of accepted runs, repeats included. It stays below 2^63.
+pub struct Tally {
+    pub runs: u64,
+}
+
+pub enum Added {
+    To(Tally),
+    Refused(u64),
+}
+
+impl Tally {
+    // Adds accepted runs, or reports that the tally is full (question 20).
+    pub fn add(self, runs: u64) -> Added
+        ensures { λ r. ⌜ r ≡ addedTo (self .runs) runs ⌝ }
+    {
+        let before = self.runs;
+        if before < kernel::FULL {
+            if runs < kernel::FULL - before {
+                return Added::To(Tally {
+                    runs: before + runs,
+                });
+            }
+            return Added::Refused(questions::TALLY_FULL);
+        }
+        Added::Refused(questions::TALLY_FULL)
+    }
+}
+
+// The counts of a sheet, any numbers.
+pub struct Counts {
+    pub num_triplets: i64,
+    pub num_band0: i64,
+    pub num_band1: i64,
+    pub num_band2: i64,
+}
+
+pub enum OpenAnswer {
+    Open(u64),
+    Refused(u64),
+}
+
+// The open count of a triplet: its number of flags 0. Questions 9, 12, 14.
+pub fn open_count(counts: Counts, flags: &[i8], triplet: i64) -> OpenAnswer
+    ensures { λ r. ⌜ r ≡ openCountAnswer counts (now (flags .entry)) triplet ⌝ }
+{
+    let no = kernel::open_no(counts, flags.len(), triplet);
+    if no != 0 {
+        return OpenAnswer::Refused(no);
+    }
+    let size = kernel::cells_of(counts);
+    let t = common::kernel::magnitude(triplet);
+    OpenAnswer::Open(kernel::zeros_from(flags, t * size, size))
+}

@@ -1,0 +1,3 @@
+pub mod FieldLaws
+pub mod PieceLaws
+pub mod RoundTrip

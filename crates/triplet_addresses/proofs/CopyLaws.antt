@@ -1,0 +1,63 @@
+-- Copies of a list: the plain one is the list itself, and two of them fill a lent list. Assumes nothing.
+use mathlib.Core.Path.{_≡_, refl, sym, ap, _∙_}
+use mathlib.Core.Bool.{Bool, true, false}
+use mathlib.Core.List.{List, [], _∷_, _++_, append-nil, append-assoc}
+use Prim.Native.Nat.{ℕ, zero, suc, _+_, _-_, _*_, _<_, _≤_}
+use native.Mathlib.Omega.{arith}
+use borrow.Author.Tests.{leb-true, lt-ltb}
+use borrow.Rule.Slice.PartMut.{putMid}
+use lib.IntN.{ℤ, pos, negsuc, negℤ, natAbs, _-ℤ_}
+use lib.ListN.{getD, length, take, drop, length-drop, drop-of-length-le}
+use lib.Seq.{ext-getD, take-at, drop-at}
+use mir.Syntax.{w64}
+use mir.Val.{SFits}
+use Rattle.list_laws.specs.Lists.{at, tabulate}
+use Rattle.list_laws.specs.Signed.{within}
+use Rattle.list_laws.proofs.FillLaws.{length-tabulate, tabulate-at}
+use Rattle.questions.specs.Ask.{afterCall}
+use Rattle.questions.proofs.AskLaws.{after-refused}
+use Rattle.triplet_addresses.specs.declared.CopyAnswer.the-variants.{Filled, Refused}
+use Rattle.triplet_addresses.specs.Copies.{copyOf, copiesOf, copyAnswer}
+
+pub zero-sub : (z : ℤ) → pos 0 -ℤ z ≡ negℤ z
+zero-sub (pos zero) = refl
+zero-sub (pos (suc n)) = rw (lt-ltb 0 (suc n) (omega arith)) (ap negsuc (omega arith))
+zero-sub (negsuc n) = ap pos (omega arith)
+
+pub neg-fits : (z : ℤ) → within 4096 z ≡ true → SFits w64 (negℤ z)
+unfolding within
+neg-fits (pos zero) e = record { sfits = omega arith }
+neg-fits (pos (suc n)) e = record { sfits = omega (arith, leb-true (suc n) 4096 e) }
+neg-fits (negsuc n) e = record { sfits = omega (arith, leb-true (suc n) 4096 e) }
+
+pub length-copy : (negated : Bool) (table : List ℤ) → length (copyOf negated table) ≡ length table
+unfolding copyOf
+length-copy negated table = length-tabulate (length table) _
+
+-- a copy that is not negated is the table
+pub copy-plain : (table : List ℤ) → copyOf false table ≡ table
+unfolding copyOf
+copy-plain table =
+    ext-getD (pos 0) (tabulate (length table) (λ k. at table k)) table (length-tabulate (length table) (λ k. at table k))
+    (λ i l. tabulate-at (length table) (λ k. at table k) (pos 0) i (omega (arith, length-tabulate (length table) (λ k. at table k))))
+
+-- the two halves of a lent list, filled one after the other
+pub copies-are : (table l : List ℤ) (negated : Bool) (ys zs : List ℤ) → length l ≡ 2 * length table → ys ≡ copyOf false table → zs ≡ copyOf negated table
+    → putMid (length table) (length l - length table) (putMid 0 (length table - 0) l ys) zs ≡ copiesOf negated table
+unfolding copiesOf
+copies-are table l negated ys zs h e f =
+    let rest : List ℤ = drop (length table - 0) (drop 0 l) in
+    let short : length rest ≤ length l - length table = omega (arith, length-drop (length table - 0) (drop 0 l)) in
+    rw (e, f, copy-plain table, take-at table rest (length table) refl, drop-at table rest (length table) refl, drop-of-length-le rest short, append-nil)
+
+pub filled-is : (n : ℕ) → n ≡ 0 → Filled ≡ copyAnswer n
+filled-is zero e = refl
+filled-is (suc n) e = absurd (omega arith)
+
+pub refused-is : (n m : ℕ) → m ≡ n → (n ≡ 0 → ⊥) → Refused n ≡ copyAnswer m
+refused-is zero m e h = absurd (h refl)
+refused-is (suc n) m e h = rw e
+
+-- a refused call leaves what was there
+pub kept : {A : Type 0} (n m : ℕ) (new old : A) → m ≡ n → (n ≡ 0 → ⊥) → old ≡ afterCall m new old
+kept n m new old e h = after-refused m new old (λ z. h (sym e ∙ z))

@@ -1,0 +1,80 @@
+// Both copies of a tested neighbour table.
+ghost use mathlib.Core.Path.{_≡_};
+ghost use mathlib.Core.Bool.{true};
+ghost use Prim.Native.Nat.{_+_, _*_, _<_};
+ghost use lib.IntN.{negℤ};
+ghost use lib.ListN.{length};
+ghost use Rattle.list_laws.specs.Lists.{at};
+ghost use Rattle.list_laws.specs.Signed.{within};
+ghost use Rattle.questions.specs.Ask.{firstNo};
+ghost use Rattle.questions.specs.Grids.{areTriples};
+ghost use Rattle.triplet_addresses.specs.Copies.{isNegated, stepOf, copyOf, copiesOf, copyQuestions};
+
+// The number of the first question that is answered no, or 0.
+pub fn copy_no(relative_grid_address: &[i64], tp_type: i64, out_len: usize) -> u64
+    ensures { λ r. ⌜ r ≡ firstNo (copyQuestions (now («relative_grid_address» .entry)) «tp_type» «out_len») ⌝ }
+{
+    if !questions::kernel::tables::table_ok(relative_grid_address) {
+        return questions::BAD_TABLE;
+    }
+    if !questions::kernel::tp_type::tp_type_ok(tp_type) {
+        return questions::BAD_TP_TYPE;
+    }
+    if !questions::kernel::counts::length_ok(2, relative_grid_address.len(), out_len) {
+        return questions::BAD_LENGTH;
+    }
+    0
+}
+
+// Whether the second copy is negated.
+pub fn is_negated(tp_type: i64) -> bool
+    ensures { λ r. ⌜ r ≡ isNegated «tp_type» ⌝ }
+{
+    common::kernel::is_nat(tp_type, 2) | common::kernel::is_nat(tp_type, 3)
+}
+
+fn negate(z: i64) -> i64
+    requires { ⌜ within 4096 z ≡ true ⌝ }
+    ensures { λ r. ⌜ r ≡ negℤ z ⌝ }
+{
+    0 - z
+}
+
+fn step_of(negated: bool, z: i64) -> i64
+    requires { ⌜ within 4096 z ≡ true ⌝ }
+    ensures { λ r. ⌜ r ≡ stepOf negated z ⌝ }
+{
+    if negated { negate(z) } else { z }
+}
+
+// Component k of a copy of the table.
+fn step_at(negated: bool, table: &[i64], k: usize) -> i64
+    requires { ⌜ (k < length (now table)) × (areTriples (now table) ≡ true) ⌝ }
+    ensures { λ r. ⌜ r ≡ stepOf negated (at (now (table .entry)) k) ⌝ }
+{
+    step_of(negated, table[k])
+}
+
+// One copy of the table.
+fn fill_copy(out: &mut [i64], table: &[i64], negated: bool)
+    requires { ⌜ (areTriples (now table) ≡ true) × (length (now out) ≡ length (now table)) ⌝ }
+    ensures { λ _. ⌜ now (out .exit) ≡ copyOf negated (now (table .entry)) ⌝ }
+{
+    let mut k = 0;
+    while k < out.len() {
+        let v = step_at(negated, table, k);
+        out[k] = v;
+        k += 1;
+    }
+}
+
+// The first copy as the table is, then the second.
+pub fn fill_copies(out: &mut [i64], table: &[i64], negated: bool)
+    requires { ⌜ (areTriples (now table) ≡ true) × (length (now out) ≡ 2 * length (now table)) ⌝ }
+    ensures { λ _. ⌜ now (out .exit) ≡ copiesOf negated (now (table .entry)) ⌝ }
+{
+    let n = table.len();
+    let end = out.len();
+    fill_copy(&mut out[0..n], table, false);
+    fill_copy(&mut out[n..end], table, negated);
+}

@@ -1,0 +1,79 @@
+-- Work areas that begin alike have the same boxes and weights, and channels in order have the plain outputs. Assumes nothing.
+use mathlib.Core.Path.{_≡_, refl, sym, _∙_, ap}
+use mathlib.Core.List.{List}
+use Prim.Native.Nat.{ℕ, zero, suc, _+_, _*_, _<_, _≤_}
+use native.Mathlib.Omega.{arith}
+use lib.Ieee.{Float, nan}
+use lib.ListN.{getD, length}
+use Rattle.list_laws.specs.Lists.{tabulate}
+use Rattle.list_laws.specs.Patch.{pick}
+use Rattle.list_laws.proofs.FillLaws.{tabulate-ext}
+use Rattle.tetrahedron_method.specs.Weight.{weightOf}
+use Rattle.tetrahedron_method.specs.Sorted.{Ordered, sortedWeight}
+use Rattle.tetrahedron_method.specs.declared.WeightFunction.the-variants.{I}
+use Rattle.tetrahedron_method.proofs.SortedLaws.{weight-is, weight-same}
+use Rattle.triplet_channels.specs.declared.TpType.{TpType}
+use Rattle.triplet_channels.specs.declared.TpType.the-variants.{Type2, Type3, Type4}
+use Rattle.triplet_channels.specs.declared.ValueBox.{ValueBox}
+use Rattle.triplet_channels.specs.declared.Channel.the-variants.{Closed, Open}
+use Rattle.triplet_channels.specs.Values.{combined, channelValues, lesser, greater, leastOf, greatestOf, boxOf, Begun}
+use Rattle.triplet_channels.specs.Channels.{holds, channelAt, furtherAt, outputsBy, outputsAt}
+use Rattle.triplet_channels.specs.Ordered.{orderedChannelAt, orderedFurtherAt, outputsOrdered}
+
+-- the values of a channel go by the first entries alone
+pub values-same : (c n : ℕ) {s t u v : List Float} → Begun n s t → Begun n u v → channelValues c s u n ≡ channelValues c t v n
+unfolding channelValues
+values-same c n {s} {t} {u} {v} h g =
+    tabulate-ext n (λ i. combined c (getD s i nan) (getD u i nan)) (λ i. combined c (getD t i nan) (getD v i nan)) (λ i l. rw (h .same i l, g .same i l))
+
+module _ (n : ℕ) (s t : List Float) (h : Begun n s t) (pos : 1 ≤ n) where
+  least-same : (k : ℕ) → k ≤ n → leastOf s k ≡ leastOf t k
+  unfolding leastOf
+  least-same zero l = h .same 0 (omega arith)
+  least-same (suc k) l = rw (least-same k (omega arith), h .same k (omega arith))
+
+  greatest-same : (k : ℕ) → k ≤ n → greatestOf s k ≡ greatestOf t k
+  unfolding greatestOf
+  greatest-same zero l = h .same 0 (omega arith)
+  greatest-same (suc k) l = rw (greatest-same k (omega arith), h .same k (omega arith))
+
+  box-same : boxOf s n ≡ boxOf t n
+  unfolding boxOf
+  box-same = rw (least-same n (omega arith), greatest-same n (omega arith))
+
+-- z and p are the rows of s in order, s begins as t does, and b is its box
+pub record Prepared (rows : ℕ) (s t z : List Float) (p : List ℕ) (b : ValueBox) : Type 0 where
+  pub begun : Begun (rows * 4) s t
+  pub sorted : Ordered s rows z p
+  pub bounds : b ≡ boxOf s (rows * 4)
+
+module _ {rows : ℕ} {s t z : List Float} {p : List ℕ} {b : ValueBox} (h : Prepared rows s t z p b) (pos : 1 ≤ rows) (w : Float) where
+  channel-is : orderedChannelAt w z p rows b ≡ channelAt w t rows
+  unfolding orderedChannelAt channelAt
+  channel-is =
+      let e : sortedWeight I w z p rows ≡ weightOf I w t rows = weight-is I w s z p rows (h .sorted) ∙ weight-same I w s t rows (h .begun .same) in
+      let g : b ≡ boxOf t (rows * 4) = h .bounds ∙ box-same (rows * 4) s t (h .begun) (omega arith) in
+      rw (e, g)
+
+  further-is : (tp : TpType) → orderedFurtherAt tp w z p rows b ≡ furtherAt tp w t rows
+  unfolding orderedFurtherAt furtherAt
+  further-is Type2 = channel-is
+  further-is Type3 = channel-is
+  further-is Type4 = refl
+
+-- the outputs of channels in order are the plain outputs
+pub outputs-is : (tp : TpType) (w : Float) (rows : ℕ) → 1 ≤ rows → {s0 t0 z0 s1 t1 z1 s2 t2 z2 : List Float} {p0 p1 p2 : List ℕ} {b0 b1 b2 : ValueBox}
+    → Prepared rows s0 t0 z0 p0 b0 → Prepared rows s1 t1 z1 p1 b1 → Prepared rows s2 t2 z2 p2 b2
+    → outputsOrdered tp w z0 p0 z1 p1 z2 p2 rows b0 b1 b2 ≡ outputsAt tp w t0 t1 t2 rows
+unfolding outputsOrdered outputsAt
+outputs-is tp w rows pos h0 h1 h2 = rw (channel-is h0 pos w, further-is h1 pos w tp, further-is h2 pos w tp)
+
+-- a channel's area made ready: filled, its box taken, its rows put in order
+pub prepare : (c rows : ℕ) {f f' g g' s z : List Float} {p : List ℕ} {b : ValueBox} → Begun (rows * 4) f f' → Begun (rows * 4) g g' → Begun (rows * 4) s (channelValues c f g (rows * 4))
+    → Ordered s rows z p → b ≡ boxOf s (rows * 4) → Prepared rows s (channelValues c f' g' (rows * 4)) z p b
+prepare c rows h k m o e =
+    record {
+      begun = record { size = m .size; same = λ i l. rw (← values-same c (rows * 4) h k) (m .same i l) };
+      sorted = o;
+      bounds = e;
+    }

@@ -1,0 +1,29 @@
+-- The same of work areas whose rows are in order: s and p are rows in order and the places of their first values, b is a box.
+use mathlib.Core.List.{List}
+use Prim.Native.Nat.{ℕ}
+use lib.Ieee.{Float}
+use Rattle.list_laws.specs.Patch.{pick}
+use Rattle.tetrahedron_method.specs.Sorted.{sortedWeight}
+use Rattle.tetrahedron_method.specs.declared.WeightFunction.the-variants.{I}
+use Rattle.triplet_channels.specs.declared.TpType.{TpType}
+use Rattle.triplet_channels.specs.declared.TpType.the-variants.{Type2, Type3, Type4}
+use Rattle.triplet_channels.specs.declared.ValueBox.{ValueBox}
+use Rattle.triplet_channels.specs.declared.Channel.{Channel}
+use Rattle.triplet_channels.specs.declared.Channel.the-variants.{Closed, Open}
+use Rattle.triplet_channels.specs.declared.Outputs.{Outputs}
+use Rattle.triplet_channels.specs.Channels.{holds, outputsBy}
+
+-- a channel
+unfoldable pub orderedChannelAt : Float → List Float → List ℕ → ℕ → ValueBox → Channel
+orderedChannelAt w s p rows b = pick (holds b w) (Open (sortedWeight I w s p rows)) Closed
+
+-- the second and the third channel
+unfoldable pub orderedFurtherAt : TpType → Float → List Float → List ℕ → ℕ → ValueBox → Channel
+orderedFurtherAt Type2 w s p rows b = orderedChannelAt w s p rows b
+orderedFurtherAt Type3 w s p rows b = orderedChannelAt w s p rows b
+orderedFurtherAt Type4 w s p rows b = Closed
+
+-- the outputs
+unfoldable pub outputsOrdered : TpType → Float → List Float → List ℕ → List Float → List ℕ → List Float → List ℕ → ℕ → ValueBox → ValueBox → ValueBox → Outputs
+outputsOrdered tp w s0 p0 s1 p1 s2 p2 rows b0 b1 b2 =
+    outputsBy tp (orderedChannelAt w s0 p0 rows b0) (orderedFurtherAt tp w s1 p1 rows b1) (orderedFurtherAt tp w s2 p2 rows b2)

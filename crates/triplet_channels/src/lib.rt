@@ -1,0 +1,63 @@
+// What the points of a triplet give at a frequency point: corner values, boxes, channels and outputs, by the type of the triplet.
+ghost use mathlib.Core.Path.{_≡_};
+ghost use Rattle.triplet_channels.specs.Types.{tpTypeAnswer, channelCount};
+
+pub mod kernel;
+
+// What the weights are for.
+pub enum TpType {
+    Type2,
+    Type3,
+    Type4,
+}
+
+// A type, or the number of question 8.
+pub enum TpTypeAnswer {
+    Known(TpType),
+    Refused(u64),
+}
+
+impl TpType {
+    // The type that a number names. Question 8.
+    pub fn try_from_i64(tp_type: i64) -> TpTypeAnswer
+        ensures { λ r. ⌜ r ≡ tpTypeAnswer «tp_type» ⌝ }
+    {
+        if questions::kernel::tp_type::tp_type_ok(tp_type) {
+            let tp = kernel::types::tp_type_of(tp_type);
+            TpTypeAnswer::Known(tp)
+        } else {
+            TpTypeAnswer::Refused(questions::BAD_TP_TYPE)
+        }
+    }
+
+    // How many weights a triplet of the type has at a point of a band pair.
+    pub fn num_channels(self) -> usize
+        ensures { λ r. ⌜ r ≡ channelCount self ⌝ }
+    {
+        match self {
+            TpType::Type2 => 2,
+            TpType::Type3 => 3,
+            TpType::Type4 => 1,
+        }
+    }
+}
+
+// The least and the greatest of a channel's values.
+pub struct ValueBox {
+    pub fmin: f64,
+    pub fmax: f64,
+}
+
+// A channel at a frequency point: closed, or open with its weight.
+pub enum Channel {
+    Closed,
+    Open(f64),
+}
+
+// What a piece writes at a point: a weight for each output channel, 0.0 behind the last, and the flag.
+pub struct Outputs {
+    pub w0: f64,
+    pub w1: f64,
+    pub w2: f64,
+    pub flag: i8,
+}

@@ -1,0 +1,97 @@
+-- The second copy of the steps is small and whole as the first is, and each corner number is the number of an address. Assumes nothing.
+use mathlib.Core.Path.{_≡_, refl, sym, _∙_, ap}
+use mathlib.Core.Bool.{Bool, true, _&&_}
+use mathlib.Core.List.{List, map}
+use Prim.Native.Nat.{ℕ, zero, suc, _+_, _-_, _*_, _/_, _%_, _≤_, _<_}
+use native.Mathlib.Nat.{mul-le-mul-right, suc-mul}
+use native.Mathlib.Omega.{arith}
+use borrow.Author.Tests.{leb-true, lt-ltb, eq-eqb}
+use lib.IntN.{ℤ, pos, negsuc, natAbs, negℤ, _-ℤ_}
+use lib.ListN.{getD, length, take, length-map, List·getD-map}
+use lib.Seq.{ext-getD}
+use mir.Syntax.{w64}
+use mir.Val.{SFits}
+use Rattle.list_laws.specs.Lists.{at, tabulate, area, allBelow}
+use Rattle.list_laws.specs.Signed.{within}
+use Rattle.list_laws.proofs.BoolLaws.{and-both}
+use Rattle.list_laws.proofs.BelowLaws.{below-all}
+use Rattle.list_laws.proofs.FillLaws.{length-tabulate, tabulate-at, area-at, area-front}
+use Rattle.list_laws.proofs.ProductLaws.{digit-lt}
+use Rattle.questions.specs.Grids.{areTriples, triplesIn}
+use Rattle.questions.proofs.GridLaws.{triples-at, triples-whole}
+use Rattle.bzgrid.specs.declared.BzGrid.{BzGrid}
+use Rattle.bzgrid.specs.Neighbours.{neighbourOf, wantedAddress, SoundGrid}
+use Rattle.bzgrid.proofs.NeighbourLaws.{neighbour-lt}
+use Rattle.triplet_channels.specs.declared.TpType.{TpType}
+use Rattle.triplet_channels.specs.declared.TpType.the-variants.{Type2, Type3, Type4}
+use Rattle.triplet_channels.specs.Values.{Held}
+use Rattle.triplet_corners.specs.Corners.{stepOf, secondSteps, secondArea, cornerNumbers}
+
+pub zero-sub : (z : ℤ) → pos 0 -ℤ z ≡ negℤ z
+zero-sub (pos zero) = refl
+zero-sub (pos (suc n)) = rw (lt-ltb 0 (suc n) (omega arith)) (ap negsuc (omega arith))
+zero-sub (negsuc n) = ap pos (omega arith)
+
+pub small-neg : (z : ℤ) → within 4096 z ≡ true → within 4096 (negℤ z) ≡ true
+unfolding within
+small-neg (pos zero) e = e
+small-neg (pos (suc n)) e = e
+small-neg (negsuc n) e = e
+
+pub small-fits : (z : ℤ) → within 4096 z ≡ true → SFits w64 z
+unfolding within
+small-fits (pos n) e = record { sfits = omega (arith, leb-true n 4096 e) }
+small-fits (negsuc n) e = record { sfits = omega (arith, leb-true (suc n) 4096 e) }
+
+step-small : (tp : TpType) (z : ℤ) → within 4096 z ≡ true → within 4096 (stepOf tp z) ≡ true
+step-small Type2 z e = small-neg z e
+step-small Type3 z e = small-neg z e
+step-small Type4 z e = e
+
+step-zero : (tp : TpType) → stepOf tp (pos 0) ≡ pos 0
+step-zero Type2 = refl
+step-zero Type3 = refl
+step-zero Type4 = refl
+
+module _ (tp : TpType) (steps : List ℤ) where
+  pub second-length : length (secondSteps tp steps) ≡ length steps
+  unfolding secondSteps
+  second-length = length-map steps (stepOf tp)
+
+  second-at : (k : ℕ) → at (secondSteps tp steps) k ≡ stepOf tp (at steps k)
+  unfolding secondSteps
+  second-at k = rw (step-zero tp) at (List·getD-map (stepOf tp) steps k (pos 0))
+
+  -- what the array has in front is the second copy
+  pub second-front : take (length steps) (secondArea tp steps) ≡ secondSteps tp steps
+  unfolding secondArea
+  second-front =
+      area-front 1152 (λ k. stepOf tp (at steps k)) (pos 0) (length steps)
+      ∙ ext-getD (pos 0) (tabulate (length steps) (λ k. stepOf tp (at steps k))) (secondSteps tp steps)
+      (length-tabulate (length steps) (λ k. stepOf tp (at steps k)) ∙ sym second-length)
+      (λ i h. tabulate-at (length steps) (λ k. stepOf tp (at steps k)) (pos 0) i (omega (arith, length-tabulate (length steps) (λ k. stepOf tp (at steps k)))) ∙ sym (second-at i))
+
+  -- as it is lent
+  pub second-lent : (a : List ℤ) → a ≡ secondArea tp steps → take (length steps) a ≡ secondSteps tp steps
+  second-lent a e = rw e second-front
+
+  pub second-triples : areTriples steps ≡ true → areTriples (secondSteps tp steps) ≡ true
+  unfolding areTriples
+  second-triples e =
+      rw second-length
+      (and-both (eq-eqb (length steps % 3) 0 (triples-whole steps e))
+      (below-all (length steps) (λ k. within 4096 (at (secondSteps tp steps) k)) (λ k h. rw (second-at k) (step-small tp (at steps k) (triples-at steps e k h)))))
+
+module _ (grid : BzGrid) (addresses map : List ℤ) (ok : SoundGrid grid addresses map) (steps : List ℤ) (g : ℕ) where
+  -- each corner number is the number of an address
+  pub corner-lt : (i : ℕ) → i < triplesIn steps → getD (cornerNumbers grid addresses map steps g) i 0 < triplesIn addresses
+  unfolding cornerNumbers
+  corner-lt i h =
+      rw (area-at 384 (λ j. neighbourOf grid addresses map (wantedAddress addresses steps g j)) 0 (triplesIn steps) 0 i h)
+      (neighbour-lt grid addresses map ok (wantedAddress addresses steps g i))
+
+  -- and has its frequency of each band
+  pub corners-held : (rows bands band count : ℕ) → length steps ≡ rows * 12 → count ≡ triplesIn addresses * bands → band < bands
+      → Held (cornerNumbers grid addresses map steps g) (rows * 4) count bands band
+  corners-held rows bands band count size e h i l =
+      rw e (digit-lt (getD (cornerNumbers grid addresses map steps g) i 0) (triplesIn addresses) band bands (corner-lt i (omega arith)) h)

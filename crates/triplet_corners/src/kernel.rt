@@ -1,0 +1,72 @@
+// For the crates above, on a tested study.
+ghost use mathlib.Core.Path.{_≡_};
+ghost use mathlib.Core.Bool.{true};
+ghost use Prim.Native.Nat.{_/_, _<_, _≤_};
+ghost use lib.IntN.{negℤ};
+ghost use lib.ListN.{length};
+ghost use Rattle.list_laws.specs.Lists.{at};
+ghost use Rattle.list_laws.specs.Signed.{within};
+ghost use Rattle.questions.specs.Grids.{areTriples, triplesIn};
+ghost use Rattle.bzgrid.specs.Neighbours.{SoundGrid};
+ghost use Rattle.triplet_corners.specs.Corners.{stepOf, secondArea, cornerNumbers};
+use bzgrid::BzGrid;
+use triplet_channels::TpType;
+
+fn negate(z: i64) -> i64
+    requires { ⌜ within 4096 z ≡ true ⌝ }
+    ensures { λ r. ⌜ r ≡ negℤ z ⌝ }
+{
+    0 - z
+}
+
+// A component of a step of the second copy: negated for types 2 and 3, not for 4.
+fn step_of(tp: TpType, z: i64) -> i64
+    requires { ⌜ within 4096 z ≡ true ⌝ }
+    ensures { λ r. ⌜ r ≡ stepOf tp z ⌝ }
+{
+    match tp {
+        TpType::Type2 => negate(z),
+        TpType::Type3 => negate(z),
+        TpType::Type4 => z,
+    }
+}
+
+fn step_at(tp: TpType, steps: &[i64], k: usize) -> i64
+    requires { ⌜ (k < length (now steps)) × (areTriples (now steps) ≡ true) ⌝ }
+    ensures { λ r. ⌜ r ≡ stepOf tp (at (now (steps .entry)) k) ⌝ }
+{
+    step_of(tp, steps[k])
+}
+
+// The second copy of the steps, in front of an array.
+pub fn second_steps(tp: TpType, steps: &[i64]) -> [i64; 1152]
+    requires { ⌜ (length (now steps) ≤ 1152) × (areTriples (now steps) ≡ true) ⌝ }
+    ensures { λ r. ⌜ r ≡ secondArea tp (now (steps .entry)) ⌝ }
+{
+    let mut a = [0i64; 1152];
+    let n = steps.len();
+    for k in 0..n {
+        let v = step_at(tp, steps, k);
+        a[k] = v;
+    }
+    a
+}
+
+// The numbers of the neighbours of the grid point `g`, one for each step, in front of an array.
+pub fn corner_numbers(
+    grid: BzGrid,
+    addresses: &[i64],
+    gp_map: &[i64],
+    steps: &[i64],
+    g: usize,
+) -> [usize; 384]
+    requires { ⌜ SoundGrid grid (now addresses) (now «gp_map») × ((areTriples (now steps) ≡ true) × ((g < triplesIn (now addresses)) × (length (now steps) ≤ 1152))) ⌝ }
+    ensures { λ r. ⌜ r ≡ cornerNumbers grid (now (addresses .entry)) (now («gp_map» .entry)) (now (steps .entry)) g ⌝ }
+{
+    let mut a = [0usize; 384];
+    let n = steps.len() / 3;
+    for j in 0..n {
+        a[j] = bzgrid::kernel::neighbour(grid, addresses, gp_map, steps, g, j);
+    }
+    a
+}

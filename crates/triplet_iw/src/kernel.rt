@@ -1,0 +1,76 @@
+// For the crates above.
+ghost use mathlib.Core.Path.{_≡_};
+ghost use Prim.Native.Nat.{_*_, _/_, _<_, _≤_};
+ghost use lib.Dec.{eqb};
+ghost use lib.ListN.{length};
+ghost use Rattle.triplet_corners.specs.Corners.{secondSteps};
+ghost use Rattle.triplet_piece.specs.Study.{study, rowsIn, Ready, computedWeights, computedFlags};
+use bzgrid::BzGrid;
+use triplet_channels::TpType;
+use triplet_piece::Sizes;
+
+// All pieces of triplet `t`: its corners are looked up once. `second` is the second copy of the steps.
+pub fn fill_triplet(
+    weights: &mut [f64],
+    flags: &mut [i8],
+    z: Sizes,
+    tp: TpType,
+    grid: BzGrid,
+    addresses: &[i64],
+    gp_map: &[i64],
+    steps: &[i64],
+    second: &[i64],
+    rows: usize,
+    frequencies1: &[f64],
+    frequencies2: &[f64],
+    points: &[f64],
+    triplets: &[i64],
+    t: usize,
+)
+    requires { ⌜ Ready (study tp grid (now addresses) (now «gp_map») (now steps) (z .bands1) (z .bands2) (now frequencies1) (now frequencies2) (now points) (now triplets)) z (length (now weights)) (length (now flags)) ⌝ }
+    requires { ⌜ (now second ≡ secondSteps tp (now steps)) × ((rows ≡ rowsIn (now steps)) × (t < z .triplets)) ⌝ }
+    ensures { λ _. ⌜ now (weights .exit) ≡ computedWeights (study tp grid (now (addresses .entry)) (now («gp_map» .entry)) (now (steps .entry)) (z .bands1) (z .bands2) (now (frequencies1 .entry)) (now (frequencies2 .entry)) (now (points .entry)) (now (triplets .entry))) (λ n. eqb (n / z .pairs) t) (now (weights .entry)) ⌝ }
+    ensures { λ _. ⌜ now (flags .exit) ≡ computedFlags (study tp grid (now (addresses .entry)) (now («gp_map» .entry)) (now (steps .entry)) (z .bands1) (z .bands2) (now (frequencies1 .entry)) (now (frequencies2 .entry)) (now (points .entry)) (now (triplets .entry))) (λ n. eqb (n / z .pairs) t) (now (flags .entry)) ⌝ }
+{
+    let g1 = common::kernel::magnitude_at(triplets, 3 * t + 1);
+    let g2 = common::kernel::magnitude_at(triplets, 3 * t + 2);
+    let numbers1 = triplet_corners::kernel::corner_numbers(grid, addresses, gp_map, steps, g1);
+    let numbers2 = triplet_corners::kernel::corner_numbers(grid, addresses, gp_map, second, g2);
+    let mut f1 = [0.0; 384];
+    let mut f2 = [0.0; 384];
+    let mut a0 = [0.0; 384];
+    let mut a1 = [0.0; 384];
+    let mut a2 = [0.0; 384];
+    let mut p0 = [0usize; 96];
+    let mut p1 = [0usize; 96];
+    let mut p2 = [0usize; 96];
+    let pairs = z.pairs;
+    let bands2 = z.bands2;
+    for k in 0..pairs {
+        let b1 = k / bands2;
+        let b2 = k % bands2;
+        triplet_piece::kernel::fill_piece(
+            &mut f1,
+            &mut f2,
+            &mut a0,
+            &mut a1,
+            &mut a2,
+            &mut p0,
+            &mut p1,
+            &mut p2,
+            weights,
+            flags,
+            z,
+            tp,
+            &numbers1,
+            &numbers2,
+            rows,
+            frequencies1,
+            frequencies2,
+            points,
+            t,
+            b1,
+            b2,
+        );
+    }
+}

@@ -1,0 +1,2 @@
+// Integration weights of triplets.
+pub mod kernel;

@@ -1,0 +1,67 @@
+-- Where weights and flags lie. A cell is a place of the flags: triplet, point, b1, b2; a weight's place is a channel and a cell.
+-- A piece is a triplet, b1 and b2; its number is the place of its mark.
+use mathlib.Core.Path.{_≡_}
+use mathlib.Core.Bool.{Bool}
+use mathlib.Core.List.{List}
+use Prim.Native.Nat.{ℕ, _+_, _*_, _/_, _%_, _≤_}
+use lib.Dec.{eqb}
+use lib.Ieee.{Float}
+use lib.IntN.{ℤ}
+use lib.ListN.{length}
+use Rattle.list_laws.specs.Patch.{pick, patch}
+use Rattle.triplet_channels.specs.declared.Outputs.{Outputs}
+use Rattle.triplet_piece.specs.declared.Sizes.{Sizes}
+
+-- of cell j, with so many points and band pairs: its triplet, its point, its band pair, its piece
+unfoldable pub tripletAt : ℕ → ℕ → ℕ → ℕ
+tripletAt points pairs j = j / pairs / points
+
+unfoldable pub pointAt : ℕ → ℕ → ℕ → ℕ
+pointAt points pairs j = j / pairs % points
+
+unfoldable pub pairAt : ℕ → ℕ → ℕ → ℕ
+pairAt points pairs j = j % pairs
+
+unfoldable pub pieceAt : ℕ → ℕ → ℕ → ℕ
+pieceAt points pairs j = tripletAt points pairs j * pairs + pairAt points pairs j
+
+-- the cell of a triplet and a band pair at point x
+abbrev pub cellOf : ℕ → ℕ → ℕ → ℕ → ℕ → ℕ
+cellOf points pairs t pair x = (t * points + x) * pairs + pair
+
+-- an output by its channel
+unfoldable pub channelOf : Outputs → ℕ → Float
+channelOf o c = pick (eqb c 0) (o .w0) (pick (eqb c 1) (o .w1) (o .w2))
+
+-- the weights once those of one cell are written, in every channel
+unfoldable pub cellWeights : ℕ → ℕ → Outputs → List Float → List Float
+cellWeights cells cell o l = patch (λ i. eqb (i % cells) cell) (λ i. channelOf o (i / cells)) l
+
+-- "Running a piece writes its own entries at every point": the weights once piece q is written, o x being its outputs at point x
+unfoldable pub pieceWeights : Sizes → ℕ → (ℕ → Outputs) → List Float → List Float
+pieceWeights z q o l =
+    patch (λ i. eqb (pieceAt (z .points) (z .pairs) (i % z .cells)) q) (λ i. channelOf (o (pointAt (z .points) (z .pairs) (i % z .cells))) (i / z .cells)) l
+
+-- the flags once piece q is written
+unfoldable pub pieceFlags : Sizes → ℕ → (ℕ → Outputs) → List ℤ → List ℤ
+pieceFlags z q o l = patch (λ j. eqb (pieceAt (z .points) (z .pairs) j) q) (λ j. o (pointAt (z .points) (z .pairs) j) .flag) l
+
+-- the counts fit each other and the lengths of points, weights and flags
+pub record Fitting (z : Sizes) (points weights flags : ℕ) : Type 0 where
+  pub pairs : z .pairs ≡ z .bands1 * z .bands2
+  pub cells : z .cells ≡ z .triplets * z .points * z .pairs
+  pub pointed : points ≡ z .points
+  pub some : 1 ≤ z .points
+  pub weighed : weights ≡ z .channels * z .cells
+  pub flagged : flags ≡ z .cells
+
+-- the sizes of the work areas that a piece is lent
+pub record Areas (f1 f2 a0 a1 a2 : List Float) (p0 p1 p2 : List ℕ) : Type 0 where
+  pub size1 : length f1 ≡ 384
+  pub size2 : length f2 ≡ 384
+  pub channel0 : length a0 ≡ 384
+  pub channel1 : length a1 ≡ 384
+  pub channel2 : length a2 ≡ 384
+  pub places0 : length p0 ≡ 96
+  pub places1 : length p1 ≡ 96
+  pub places2 : length p2 ≡ 96

@@ -1,0 +1,179 @@
+// For the crates above, on a tested study.
+ghost use mathlib.Core.Path.{_≡_};
+ghost use Prim.Native.Nat.{_+_, _*_, _<_, _≤_};
+ghost use lib.Ieee.{nan};
+ghost use lib.ListN.{getD, length};
+ghost use Rattle.triplet_channels.specs.Values.{Held};
+ghost use Rattle.triplet_channels.specs.Ordered.{outputsOrdered};
+ghost use Rattle.triplet_piece.specs.Layout.{channelOf, cellWeights, pieceWeights, pieceFlags, Fitting, Areas};
+ghost use Rattle.triplet_piece.specs.Study.{outputsOfCorners};
+use crate::Sizes;
+use triplet_channels::Outputs;
+use triplet_channels::TpType;
+use triplet_channels::ValueBox;
+
+// The weight of an output channel.
+fn channel_of(o: Outputs, c: usize) -> f64
+    ensures { λ r. ⌜ r ≡ channelOf o c ⌝ }
+{
+    if c == 0 {
+        return o.w0;
+    }
+    if c == 1 {
+        return o.w1;
+    }
+    o.w2
+}
+
+// The weights of a cell, in every channel.
+fn put_weights(weights: &mut [f64], cells: usize, channels: usize, cell: usize, o: Outputs)
+    requires { ⌜ (cell < cells) × (length (now weights) ≡ channels * cells) ⌝ }
+    ensures { λ _. ⌜ now (weights .exit) ≡ cellWeights cells cell o (now (weights .entry)) ⌝ }
+{
+    for c in 0..channels {
+        weights[c * cells + cell] = channel_of(o, c);
+    }
+}
+
+// The outputs of the band pair `pair` of a triplet at every point, of channels in order with their boxes.
+fn fill_points(
+    weights: &mut [f64],
+    flags: &mut [i8],
+    z: Sizes,
+    tp: TpType,
+    points: &[f64],
+    t: usize,
+    pair: usize,
+    s0: &[f64; 384],
+    p0: &[usize; 96],
+    s1: &[f64; 384],
+    p1: &[usize; 96],
+    s2: &[f64; 384],
+    p2: &[usize; 96],
+    rows: usize,
+    x0: ValueBox,
+    x1: ValueBox,
+    x2: ValueBox,
+)
+    requires { ⌜ (rows ≤ 96) × (Fitting z (length (now points)) (length (now weights)) (length (now flags)) × ((t < z .triplets) × (pair < z .pairs))) ⌝ }
+    ensures { λ _. ⌜ now (weights .exit) ≡ pieceWeights z (t * z .pairs + pair)
+        (λ x. outputsOrdered tp (getD (now (points .entry)) x nan) (now (s0 .entry)) (now (p0 .entry)) (now (s1 .entry)) (now (p1 .entry)) (now (s2 .entry)) (now (p2 .entry)) rows x0 x1 x2)
+        (now (weights .entry)) ⌝ }
+    ensures { λ _. ⌜ now (flags .exit) ≡ pieceFlags z (t * z .pairs + pair)
+        (λ x. outputsOrdered tp (getD (now (points .entry)) x nan) (now (s0 .entry)) (now (p0 .entry)) (now (s1 .entry)) (now (p1 .entry)) (now (s2 .entry)) (now (p2 .entry)) rows x0 x1 x2)
+        (now (flags .entry)) ⌝ }
+{
+    let n = z.points;
+    let pairs = z.pairs;
+    let cells = z.cells;
+    let channels = z.channels;
+    for x in 0..n {
+        let cell = (t * n + x) * pairs + pair;
+        let o = triplet_channels::kernel::channels::outputs_at(
+            tp,
+            points[x],
+            s0,
+            p0,
+            s1,
+            p1,
+            s2,
+            p2,
+            rows,
+            x0,
+            x1,
+            x2,
+        );
+        put_weights(weights, cells, channels, cell, o);
+        let flag = o.flag;
+        flags[cell] = flag;
+    }
+}
+
+// Writes the piece of triplet `t` and bands `b1`, `b2`: its weights in every channel and its flag, at every point.
+// The numbers are the corners of the triplet's second and third point; the work areas are lent. Corner values and boxes are
+// made once, and the rows of each channel are put in order once.
+pub fn fill_piece(
+    f1: &mut [f64; 384],
+    f2: &mut [f64; 384],
+    a0: &mut [f64; 384],
+    a1: &mut [f64; 384],
+    a2: &mut [f64; 384],
+    p0: &mut [usize; 96],
+    p1: &mut [usize; 96],
+    p2: &mut [usize; 96],
+    weights: &mut [f64],
+    flags: &mut [i8],
+    z: Sizes,
+    tp: TpType,
+    numbers1: &[usize; 384],
+    numbers2: &[usize; 384],
+    rows: usize,
+    frequencies1: &[f64],
+    frequencies2: &[f64],
+    points: &[f64],
+    t: usize,
+    b1: usize,
+    b2: usize,
+)
+    requires { ⌜ ((1 ≤ rows) × (rows ≤ 96)) × (Fitting z (length (now points)) (length (now weights)) (length (now flags)) × ((t < z .triplets) × ((b1 < z .bands1) × (b2 < z .bands2)))) ⌝ }
+    requires { ⌜ Held (now numbers1) (rows * 4) (length (now frequencies1)) (z .bands1) b1 × Held (now numbers2) (rows * 4) (length (now frequencies2)) (z .bands2) b2 ⌝ }
+    requires { ⌜ Areas (now f1) (now f2) (now a0) (now a1) (now a2) (now p0) (now p1) (now p2) ⌝ }
+    ensures { λ _. ⌜ Areas (now (f1 .exit)) (now (f2 .exit)) (now (a0 .exit)) (now (a1 .exit)) (now (a2 .exit)) (now (p0 .exit)) (now (p1 .exit)) (now (p2 .exit)) ⌝ }
+    ensures { λ _. ⌜ now (weights .exit) ≡ pieceWeights z (t * z .pairs + (b1 * z .bands2 + b2))
+        (λ x. outputsOfCorners tp (now (points .entry)) (now (numbers1 .entry)) (now (numbers2 .entry)) rows (now (frequencies1 .entry)) (z .bands1) b1 (now (frequencies2 .entry)) (z .bands2) b2 x)
+        (now (weights .entry)) ⌝ }
+    ensures { λ _. ⌜ now (flags .exit) ≡ pieceFlags z (t * z .pairs + (b1 * z .bands2 + b2))
+        (λ x. outputsOfCorners tp (now (points .entry)) (now (numbers1 .entry)) (now (numbers2 .entry)) rows (now (frequencies1 .entry)) (z .bands1) b1 (now (frequencies2 .entry)) (z .bands2) b2 x)
+        (now (flags .entry)) ⌝ }
+{
+    let n = rows * 4;
+    let bands1 = z.bands1;
+    let bands2 = z.bands2;
+    let pair = b1 * bands2 + b2;
+    triplet_channels::kernel::values::fill_frequencies(
+        f1,
+        tp,
+        numbers1,
+        n,
+        frequencies1,
+        bands1,
+        b1,
+    );
+    triplet_channels::kernel::values::fill_frequencies(
+        f2,
+        tp,
+        numbers2,
+        n,
+        frequencies2,
+        bands2,
+        b2,
+    );
+    triplet_channels::kernel::values::fill_channel(a0, 0, f1, f2, n);
+    triplet_channels::kernel::values::fill_channel(a1, 1, f1, f2, n);
+    triplet_channels::kernel::values::fill_channel(a2, 2, f1, f2, n);
+    let x0 = triplet_channels::kernel::values::box_of(a0, n);
+    let x1 = triplet_channels::kernel::values::box_of(a1, n);
+    let x2 = triplet_channels::kernel::values::box_of(a2, n);
+    tetrahedron_method::kernel::sorted::sort_rows(a0, p0, rows);
+    tetrahedron_method::kernel::sorted::sort_rows(a1, p1, rows);
+    tetrahedron_method::kernel::sorted::sort_rows(a2, p2, rows);
+    fill_points(
+        weights,
+        flags,
+        z,
+        tp,
+        points,
+        t,
+        pair,
+        a0,
+        p0,
+        a1,
+        p1,
+        a2,
+        p2,
+        rows,
+        x0,
+        x1,
+        x2,
+    );
+}
