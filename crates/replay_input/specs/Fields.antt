@@ -1,11 +1,13 @@
 -- The fields of a record: what each spells, and where the next one starts.
-use Prim.Native.Nat.{ℕ, zero, suc, _+_, _-_, _*_, _%_, _^_}
+use Prim.Native.Nat.{ℕ, zero, suc, min, _+_, _-_, _*_, _%_, _^_}
+use mathlib.Core.Path.{_≡_}
 use mathlib.Core.Bool.{_&&_, cond}
 use mathlib.Core.List.{List, [], _∷_}
 use lib.Dec.{leb, ltb, eqb}
 use lib.IntN.{ℤ, pos, negsuc}
-use lib.ListN.{getD, drop}
+use lib.ListN.{getD, drop, length}
 use lib.Ieee.{Float, binary64, ofBits}
+use Rattle.list_laws.specs.Lists.{fronted}
 
 -- what a byte counts as a digit: '0' to '9', then 'a' to 'f'; 16 where it is none
 unfoldable pub digitOf : ℕ → ℕ
@@ -60,3 +62,14 @@ wholeFrom text at k = wholeAt text (fieldPlace (afterWhole text) at k)
 
 unfoldable pub realFrom : List ℕ → ℕ → ℕ → Float
 realFrom text at k = ofBits binary64 (bitsAt text (fieldPlace (afterBits text) at k))
+
+-- a list read into a buffer: its count, cut to the buffer's length; the place after it; and its numbers at the front of the buffer
+unfoldable pub WholesRead : List ℕ → ℕ → List ℤ → List ℤ → ℕ → ℕ → Type 0
+WholesRead text at before after count next =
+    (count ≡ min (countAt text at) (length before)) × (next ≡ fieldPlace (afterWhole text) (afterCount text at) count)
+    × (after ≡ fronted count (wholeFrom text (afterCount text at)) before)
+
+unfoldable pub RealsRead : List ℕ → ℕ → List Float → List Float → ℕ → ℕ → Type 0
+RealsRead text at before after count next =
+    (count ≡ min (countAt text at) (length before)) × (next ≡ fieldPlace (afterBits text) (afterCount text at) count)
+    × (after ≡ fronted count (realFrom text (afterCount text at)) before)

@@ -6,8 +6,8 @@ ghost use Prim.Native.Nat.{_≤_, min};
 ghost use mathlib.Core.Path.{_≡_};
 ghost use lib.ListN.{length, take};
 ghost use lib.Ieee.{binary64, ofBits, toBits};
-ghost use Rattle.replay_input.specs.Fields.{digitOf, countAt, afterCount, bitsAt, afterBits, negated, plain, wholeAt, afterWhole, fieldPlace, wholeFrom, realFrom};
-ghost use Rattle.list_laws.specs.Lists.{fronted, tabulate};
+ghost use Rattle.replay_input.specs.Fields.{digitOf, countAt, afterCount, bitsAt, afterBits, negated, plain, wholeAt, afterWhole, fieldPlace, wholeFrom, WholesRead, RealsRead};
+ghost use Rattle.list_laws.specs.Lists.{tabulate};
 
 // Where the next field starts.
 pub struct Cursor {
@@ -199,8 +199,7 @@ pub fn part_of(n: u64, buf: &[i64]) -> usize
 // A list of whole numbers, to the start of out.
 pub fn fill_wholes(text: &[u8], c: Cursor, out: &mut [i64]) -> Listed
     ensures { λ r. ⌜ (r .count ≤ length (now (out .exit))) × (r .count ≡ length (take (r .count) (now (out .exit)))) ⌝ }
-    ensures { λ r. ⌜ (r .count ≡ min (countAt (now (text .entry)) (c .at)) (length (now (out .entry)))) × (r .next .at ≡ fieldPlace (afterWhole (now (text .entry))) (afterCount (now (text .entry)) (c .at)) (r .count)) ⌝ }
-    ensures { λ r. ⌜ now (out .exit) ≡ fronted (r .count) (wholeFrom (now (text .entry)) (afterCount (now (text .entry)) (c .at))) (now (out .entry)) ⌝ }
+    ensures { λ r. ⌜ WholesRead (now (text .entry)) (c .at) (now (out .entry)) (now (out .exit)) (r .count) (r .next .at) ⌝ }
 {
     let head = next_count(text, c);
     let count = at_most(head.value, out.len());
@@ -219,8 +218,7 @@ pub fn fill_wholes(text: &[u8], c: Cursor, out: &mut [i64]) -> Listed
 // A list of floats, to the start of out.
 pub fn fill_reals(text: &[u8], c: Cursor, out: &mut [f64]) -> Listed
     ensures { λ r. ⌜ (r .count ≤ length (now (out .exit))) × (r .count ≡ length (take (r .count) (now (out .exit)))) ⌝ }
-    ensures { λ r. ⌜ (r .count ≡ min (countAt (now (text .entry)) (c .at)) (length (now (out .entry)))) × (r .next .at ≡ fieldPlace (afterBits (now (text .entry))) (afterCount (now (text .entry)) (c .at)) (r .count)) ⌝ }
-    ensures { λ r. ⌜ now (out .exit) ≡ fronted (r .count) (realFrom (now (text .entry)) (afterCount (now (text .entry)) (c .at))) (now (out .entry)) ⌝ }
+    ensures { λ r. ⌜ RealsRead (now (text .entry)) (c .at) (now (out .entry)) (now (out .exit)) (r .count) (r .next .at) ⌝ }
 {
     let head = next_count(text, c);
     let count = at_most(head.value, out.len());

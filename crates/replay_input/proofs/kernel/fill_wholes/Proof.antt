@@ -12,7 +12,7 @@ use lib.Seq.{length-take-le}
 use Rattle.list_laws.specs.Lists.{fronted}
 use Rattle.list_laws.proofs.FillLaws.{front-none}
 use Rattle.replay_input.proofs.FieldLaws.{place-first, place-next, place-end, list-next, list-end, whole-next}
-use Rattle.replay_input.specs.Fields.{wholeFrom, afterWhole, fieldPlace}
+use Rattle.replay_input.specs.Fields.{wholeFrom, afterWhole, fieldPlace, WholesRead}
 use Rattle.replay_input.proofs.kernel.fill_wholes.Statement.{statement}
 use Rattle.replay_input.proofs.kernel.fill_wholes.Tie as tie
 
@@ -56,7 +56,12 @@ same-length : tie.Need-same-length Inv-loop μ-loop
 same-length c = search needs
 
 returns : tie.Need-returns Inv-loop μ-loop
-returns c = ((omega arith, sym (length-take-le (c .before .before .before .at-most .result) (c .before .loop .out) (omega arith))), (((c .before .before .before .at-most .ensures .1) ∙ ap (λ (n : ℕ). min n (length (c .before .before .before .before .before .before .args .out .now))) (c .before .before .before .before .next-count .ensures .0), place-end (afterWhole (c .before .before .before .before .before .before .args .text .now)) (c .before .before .before .before .next-count .result .next .at) (c .before .before .before .before .next-count .ensures .1) (omega arith) (c .before .loop .inv .4)), list-end (c .before .before .before .before .before .before .args .out .now) (wholeFrom (c .before .before .before .before .before .before .args .text .now)) (c .before .before .before .before .next-count .ensures .1) (omega arith) (c .before .loop .inv .3)))
+unfolding WholesRead
+returns c =
+    let args = c .before .before .before .before .before .before .args in
+    let head = c .before .before .before .before .next-count in
+    let kept = c .before .before .before .at-most in
+    ((omega arith, sym (length-take-le (kept .result) (c .before .loop .out) (omega arith))), (kept .ensures .1 ∙ ap (λ (n : ℕ). min n (length (args .out .now))) (head .ensures .0), place-end (afterWhole (args .text .now)) (head .result .next .at) (head .ensures .1) (omega arith) (c .before .loop .inv .4), list-end (args .out .now) (wholeFrom (args .text .now)) (head .ensures .1) (omega arith) (c .before .loop .inv .3)))
 
 pub fill-wholes-spec : {M : Type 1} → statement M
 fill-wholes-spec =
