@@ -1,0 +1,607 @@
+// Replays stored answers of the original Rust on the weights at grid points, on normal triplets and on the copies of a neighbour
+// table, and the numbers that a refused call is to give. A record starts with its kind:
+//
+//   1  grid, for the calls after it: kind, mesh, list of addresses, list of the map
+//   2  study, for the calls after it: list of the table, list of the map to irreducible points, list of frequencies, list of points
+//   3  weights at grid points: refusal, 0 for I or 1 for J, bands, R, list of grid points, length of the buffer, list of the answer
+//   4  the same for a grid point repeated, one band: refusal, 0 or 1, R, how many times, grid point, length of the buffer, one weight
+//   5  whether a triplet is normal: refusal, triplet, list of addresses, 0 or 1
+//   6  copies of a table: refusal, type, list of the table, length of the buffer, list of the answer
+//
+// Refusal 0 is an accepted call. Each block has its own grids and studies.
+ghost use mathlib.Core.Path.{_≡_};
+ghost use Prim.Native.Nat.{_≤_};
+ghost use lib.ListN.{length, take};
+use grid_point_weights::GridPointAnswer;
+use replay_input::kernel as input;
+use replay_input::kernel::Cursor;
+use replay_input::kernel::compare;
+use replay_input::kernel::report;
+use replay_input::kernel::report::Count;
+use replay_input::kernel::report::Judged;
+use tetrahedron_method::WeightFunction;
+use triplet_addresses::CopyAnswer;
+use triplet_addresses::IsNAnswer;
+
+fn numbers() -> [i64; 4200]
+    ensures { λ r. ⌜ 4200 ≡ length r ⌝ }
+{
+    [0; 4200]
+}
+
+fn many_numbers() -> [i64; 65537]
+    ensures { λ r. ⌜ 65537 ≡ length r ⌝ }
+{
+    [0; 65537]
+}
+
+fn reals() -> [f64; 4200]
+    ensures { λ r. ⌜ 4200 ≡ length r ⌝ }
+{
+    [0.0; 4200]
+}
+
+fn many_reals() -> [f64; 65537]
+    ensures { λ r. ⌜ 65537 ≡ length r ⌝ }
+{
+    [0.0; 65537]
+}
+
+// A count that a buffer of length most can hold.
+fn at_most(n: u64, most: usize) -> usize
+    ensures { λ r. ⌜ r ≤ most ⌝ }
+{
+    if n < most as u64 { n as usize } else { most }
+}
+
+// How much of a buffer a count takes: the count, or all of the buffer where that is shorter.
+fn room_of(n: u64, buf: &[f64]) -> usize
+    ensures { λ r. ⌜ (r ≤ length (now (buf .entry))) × (r ≡ length (take r (now (buf .entry)))) ⌝ }
+{
+    at_most(n, buf.len())
+}
+
+// ---- what a buffer holds before a call
+
+// No component of a table here is so large.
+fn stamp_at(place: usize) -> i64 {
+    (5000000 + place % 1000) as i64
+}
+
+fn stamp(out: &mut [i64]) {
+    let mut i = 0;
+    while i < out.len() {
+        let value = stamp_at(i);
+        out[i] = value;
+        i += 1;
+    }
+}
+
+fn is_stamped(out: &[i64]) -> bool {
+    let mut i = 0;
+    while i < out.len() {
+        if out[i] != stamp_at(i) {
+            return false;
+        }
+        i += 1;
+    }
+    true
+}
+
+// No weight is so large.
+fn mark_at(place: usize) -> f64 {
+    if place % 2 == 0 { 1.5e300 } else { -2.5e300 }
+}
+
+fn mark(out: &mut [f64]) {
+    let mut i = 0;
+    while i < out.len() {
+        let value = mark_at(i);
+        out[i] = value;
+        i += 1;
+    }
+}
+
+fn is_marked(out: &[f64]) -> bool {
+    let mut i = 0;
+    while i < out.len() {
+        if !compare::same_bits(out[i], mark_at(i)) {
+            return false;
+        }
+        i += 1;
+    }
+    true
+}
+
+fn repeat(out: &mut [i64], value: i64) {
+    let mut i = 0;
+    while i < out.len() {
+        out[i] = value;
+        i += 1;
+    }
+}
+
+fn same_reals(a: &[f64], b: &[f64]) -> bool {
+    if a.len() != b.len() {
+        return false;
+    }
+    let mut i = 0;
+    while i < a.len() {
+        if !compare::same_bits(a[i], b[i]) {
+            return false;
+        }
+        i += 1;
+    }
+    true
+}
+
+fn all_real(a: &[f64], value: f64) -> bool {
+    let mut i = 0;
+    while i < a.len() {
+        if !compare::same_bits(a[i], value) {
+            return false;
+        }
+        i += 1;
+    }
+    true
+}
+
+// ---- weights at grid points
+
+fn function_of(n: u64) -> WeightFunction {
+    if n == 0 {
+        WeightFunction::I
+    } else {
+        WeightFunction::J
+    }
+}
+
+// An accepted call filled the buffer with the stored weights; a refused one gave its number and left the buffer as it was.
+fn weights_agree(answer: GridPointAnswer, refusal: u64, iw: &[f64], stored: &[f64]) -> bool {
+    match answer {
+        GridPointAnswer::Filled => {
+            if refusal == 0 {
+                same_reals(iw, stored)
+            } else {
+                false
+            }
+        }
+        GridPointAnswer::Refused(number) => {
+            if (0 < number) & (number == refusal) {
+                is_marked(iw)
+            } else {
+                false
+            }
+        }
+    }
+}
+
+// The same where every weight is the stored one.
+fn equal_weights_agree(answer: GridPointAnswer, refusal: u64, iw: &[f64], stored: f64) -> bool {
+    match answer {
+        GridPointAnswer::Filled => {
+            if refusal == 0 {
+                all_real(iw, stored)
+            } else {
+                false
+            }
+        }
+        GridPointAnswer::Refused(_) => weights_agree(answer, refusal, iw, iw),
+    }
+}
+
+fn call_agrees(
+    iw: &mut [f64],
+    points: &[f64],
+    table: &[i64],
+    grid_points: &[i64],
+    frequencies: &[f64],
+    bands: i64,
+    num_ir: i64,
+    kind: i64,
+    mesh: [i64; 3],
+    addresses: &[i64],
+    map: &[i64],
+    irreducible: &[i64],
+    function: WeightFunction,
+    refusal: u64,
+    stored: &[f64],
+) -> bool {
+    mark(iw);
+    let answer = grid_point_weights::integration_weights_at_grid_points(
+        iw,
+        points,
+        table,
+        grid_points,
+        frequencies,
+        bands,
+        num_ir,
+        kind,
+        mesh,
+        addresses,
+        map,
+        irreducible,
+        function,
+    );
+    weights_agree(answer, refusal, iw, stored)
+}
+
+fn crowd_agrees(
+    iw: &mut [f64],
+    points: &[f64],
+    table: &[i64],
+    grid_points: &mut [i64],
+    grid_point: i64,
+    frequencies: &[f64],
+    num_ir: i64,
+    kind: i64,
+    mesh: [i64; 3],
+    addresses: &[i64],
+    map: &[i64],
+    irreducible: &[i64],
+    function: WeightFunction,
+    refusal: u64,
+    stored: f64,
+) -> bool {
+    repeat(grid_points, grid_point);
+    mark(iw);
+    let answer = grid_point_weights::integration_weights_at_grid_points(
+        iw,
+        points,
+        table,
+        grid_points,
+        frequencies,
+        1,
+        num_ir,
+        kind,
+        mesh,
+        addresses,
+        map,
+        irreducible,
+        function,
+    );
+    equal_weights_agree(answer, refusal, iw, stored)
+}
+
+fn call_case(
+    text: &[u8],
+    c: Cursor,
+    kind: i64,
+    mesh: [i64; 3],
+    addresses: &[i64],
+    map: &[i64],
+    table: &[i64],
+    irreducible: &[i64],
+    frequencies: &[f64],
+    points: &[f64],
+) -> Judged {
+    let refusal = input::next_count(text, c);
+    let which = input::next_count(text, refusal.next);
+    let bands = input::next_whole(text, which.next);
+    let num_ir = input::next_whole(text, bands.next);
+    let mut grid_points = numbers();
+    let p = input::fill_wholes(text, num_ir.next, &mut grid_points);
+    let room = input::next_count(text, p.next);
+    let mut stored = reals();
+    let e = input::fill_reals(text, room.next, &mut stored);
+    let mut iw = reals();
+    let n = room_of(room.value, &iw);
+    let b = bands.value;
+    let r = num_ir.value;
+    let q = p.count;
+    let m = e.count;
+    let next = e.next;
+    let agrees = call_agrees(
+        &mut iw[..n],
+        points,
+        table,
+        &grid_points[..q],
+        frequencies,
+        b,
+        r,
+        kind,
+        mesh,
+        addresses,
+        map,
+        irreducible,
+        function_of(which.value),
+        refusal.value,
+        &stored[..m],
+    );
+    Judged {
+        refusal: refusal.value,
+        agrees,
+        next,
+    }
+}
+
+fn crowd_case(
+    text: &[u8],
+    c: Cursor,
+    kind: i64,
+    mesh: [i64; 3],
+    addresses: &[i64],
+    map: &[i64],
+    table: &[i64],
+    irreducible: &[i64],
+    frequencies: &[f64],
+    points: &[f64],
+) -> Judged {
+    let refusal = input::next_count(text, c);
+    let which = input::next_count(text, refusal.next);
+    let num_ir = input::next_whole(text, which.next);
+    let times = input::next_count(text, num_ir.next);
+    let point = input::next_whole(text, times.next);
+    let room = input::next_count(text, point.next);
+    let stored = input::next_real(text, room.next);
+    let mut grid_points = many_numbers();
+    let mut iw = many_reals();
+    let q = input::part_of(times.value, &grid_points);
+    let n = room_of(room.value, &iw);
+    let r = num_ir.value;
+    let g = point.value;
+    let v = stored.value;
+    let next = stored.next;
+    let agrees = crowd_agrees(
+        &mut iw[..n],
+        points,
+        table,
+        &mut grid_points[..q],
+        g,
+        frequencies,
+        r,
+        kind,
+        mesh,
+        addresses,
+        map,
+        irreducible,
+        function_of(which.value),
+        refusal.value,
+        v,
+    );
+    Judged {
+        refusal: refusal.value,
+        agrees,
+        next,
+    }
+}
+
+// A call on the study whose record starts at study.
+fn study_case(
+    text: &[u8],
+    study: Cursor,
+    c: Cursor,
+    record: u64,
+    kind: i64,
+    mesh: [i64; 3],
+    addresses: &[i64],
+    map: &[i64],
+) -> Judged {
+    let mut table = numbers();
+    let t = input::fill_wholes(text, study, &mut table);
+    let mut irreducible = numbers();
+    let i = input::fill_wholes(text, t.next, &mut irreducible);
+    let mut frequencies = reals();
+    let f = input::fill_reals(text, i.next, &mut frequencies);
+    let mut points = reals();
+    let x = input::fill_reals(text, f.next, &mut points);
+    let nt = t.count;
+    let ni = i.count;
+    let nf = f.count;
+    let nx = x.count;
+    if record == 3 {
+        return call_case(
+            text,
+            c,
+            kind,
+            mesh,
+            addresses,
+            map,
+            &table[..nt],
+            &irreducible[..ni],
+            &frequencies[..nf],
+            &points[..nx],
+        );
+    }
+    crowd_case(
+        text,
+        c,
+        kind,
+        mesh,
+        addresses,
+        map,
+        &table[..nt],
+        &irreducible[..ni],
+        &frequencies[..nf],
+        &points[..nx],
+    )
+}
+
+// A call on the grid whose record starts at grid, and the study whose record starts at study.
+fn weights_case(text: &[u8], grid: Cursor, study: Cursor, c: Cursor, record: u64) -> Judged {
+    let kind = input::next_whole(text, grid);
+    let mesh = input::next_three(text, kind.next);
+    let mut addresses = numbers();
+    let a = input::fill_wholes(text, mesh.next, &mut addresses);
+    let mut map = numbers();
+    let m = input::fill_wholes(text, a.next, &mut map);
+    let k = kind.value;
+    let d = mesh.value;
+    let p = a.count;
+    let v = m.count;
+    study_case(text, study, c, record, k, d, &addresses[..p], &map[..v])
+}
+
+// Where the record after a grid starts.
+fn after_grid(text: &[u8], c: Cursor) -> Cursor {
+    let kind = input::next_whole(text, c);
+    let mesh = input::next_three(text, kind.next);
+    let mut list = numbers();
+    let a = input::fill_wholes(text, mesh.next, &mut list);
+    let m = input::fill_wholes(text, a.next, &mut list);
+    m.next
+}
+
+// Where the record after a study starts.
+fn after_study(text: &[u8], c: Cursor) -> Cursor {
+    let mut list = numbers();
+    let t = input::fill_wholes(text, c, &mut list);
+    let i = input::fill_wholes(text, t.next, &mut list);
+    let mut values = reals();
+    let f = input::fill_reals(text, i.next, &mut values);
+    let x = input::fill_reals(text, f.next, &mut values);
+    x.next
+}
+
+// ---- normal triplets and copies of a table
+
+fn normal_agrees(answer: IsNAnswer, refusal: u64, normal: bool) -> bool {
+    match answer {
+        IsNAnswer::Normal(n) => (refusal == 0) & (n == normal),
+        IsNAnswer::Refused(number) => (0 < number) & (number == refusal),
+    }
+}
+
+fn normal_case(text: &[u8], c: Cursor) -> Judged {
+    let refusal = input::next_count(text, c);
+    let triplet = input::next_three(text, refusal.next);
+    let mut addresses = numbers();
+    let a = input::fill_wholes(text, triplet.next, &mut addresses);
+    let stored = input::next_count(text, a.next);
+    let t = triplet.value;
+    let p = a.count;
+    let next = stored.next;
+    let normal = stored.value == 1;
+    let answer = triplet_addresses::is_n(t, &addresses[..p]);
+    Judged {
+        refusal: refusal.value,
+        agrees: normal_agrees(answer, refusal.value, normal),
+        next,
+    }
+}
+
+fn copies_agree(answer: CopyAnswer, refusal: u64, out: &[i64], stored: &[i64]) -> bool {
+    match answer {
+        CopyAnswer::Filled => {
+            if refusal == 0 {
+                compare::same(out, stored)
+            } else {
+                false
+            }
+        }
+        CopyAnswer::Refused(number) => {
+            if (0 < number) & (number == refusal) {
+                is_stamped(out)
+            } else {
+                false
+            }
+        }
+    }
+}
+
+fn filled_agrees(
+    out: &mut [i64],
+    table: &[i64],
+    tp_type: i64,
+    refusal: u64,
+    stored: &[i64],
+) -> bool {
+    stamp(out);
+    let answer = triplet_addresses::set_relative_grid_address(out, table, tp_type);
+    copies_agree(answer, refusal, out, stored)
+}
+
+fn copies_case(text: &[u8], c: Cursor) -> Judged {
+    let refusal = input::next_count(text, c);
+    let tp_type = input::next_whole(text, refusal.next);
+    let mut table = numbers();
+    let t = input::fill_wholes(text, tp_type.next, &mut table);
+    let room = input::next_count(text, t.next);
+    let mut stored = numbers();
+    let e = input::fill_wholes(text, room.next, &mut stored);
+    let mut out = numbers();
+    let n = input::part_of(room.value, &out);
+    let ty = tp_type.value;
+    let k = t.count;
+    let m = e.count;
+    let next = e.next;
+    let agrees = filled_agrees(&mut out[..n], &table[..k], ty, refusal.value, &stored[..m]);
+    Judged {
+        refusal: refusal.value,
+        agrees,
+        next,
+    }
+}
+
+struct Counts {
+    weights: Count,
+    normal: Count,
+    copies: Count,
+}
+
+// The counts with the cases of one block.
+fn replayed(text: &[u8], before: Counts) -> Counts {
+    let mut weights = before.weights;
+    let mut normal = before.normal;
+    let mut copies = before.copies;
+    let mut c = Cursor { at: 0 };
+    let mut grid = Cursor { at: 0 };
+    let mut study = Cursor { at: 0 };
+    let mut turns = text.len();
+    while 0 < turns {
+        turns -= 1;
+        if text.len() <= c.at {
+            break;
+        }
+        let record = input::next_count(text, c);
+        let start = record.next;
+        if record.value == 1 {
+            grid = start;
+            c = after_grid(text, start);
+        } else if record.value == 2 {
+            study = start;
+            c = after_study(text, start);
+        } else if record.value == 5 {
+            let j = normal_case(text, start);
+            normal = report::counted(b"normal", normal, j.refusal, j.agrees);
+            c = j.next;
+        } else if record.value == 6 {
+            let j = copies_case(text, start);
+            copies = report::counted(b"copies", copies, j.refusal, j.agrees);
+            c = j.next;
+        } else {
+            let j = weights_case(text, grid, study, start, record.value);
+            weights = report::counted(b"weights", weights, j.refusal, j.agrees);
+            c = j.next;
+        }
+    }
+    Counts {
+        weights,
+        normal,
+        copies,
+    }
+}
+
+fn main() {
+    let mut counts = Counts {
+        weights: report::no_cases(),
+        normal: report::no_cases(),
+        copies: report::no_cases(),
+    };
+    let mut text = io::large_buffer();
+    let mut blocks: u64 = 1000;
+    while 0 < blocks {
+        blocks -= 1;
+        let n = input::read_block(&mut text);
+        if n == 0 {
+            break;
+        }
+        counts = replayed(&text[..n], counts);
+    }
+    let weights = counts.weights;
+    let normal = counts.normal;
+    let copies = counts.copies;
+    report::print_count(b"weights at grid points", weights);
+    report::print_count(b"normal triplets", normal);
+    report::print_count(b"copies of a table", copies);
+}
