@@ -20,7 +20,7 @@ number n end = decimal n ++ (end ∷ [])
 
 -- "(triplet, point, bands, flag, ..)": a tab after each
 unfoldable pub frontOf : ℕ → ℕ → ℕ → ℕ → ℕ → List ℕ
-frontOf t p b1 b2 flag = number t 9 ++ (number p 9 ++ (number b1 9 ++ (number b2 9 ++ number flag 9)))
+frontOf t p b1 b2 flag = number t 9 ++ number p 9 ++ number b1 9 ++ number b2 9 ++ number flag 9
 
 -- what stands after a channel's weight: a newline after the last, a tab after any other
 unfoldable pub weightEnd : ℕ → ℕ → ℕ

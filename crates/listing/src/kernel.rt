@@ -1,9 +1,8 @@
 // Each function writes at an index and answers the next one. It needs room for exactly what it writes, and keeps every other byte.
 ghost use Prim.Native.Nat.{_+_, _*_, _<_, _≤_};
-ghost use mathlib.Core.List.{_++_};
 ghost use mathlib.Core.Path.{_≡_};
 ghost use lib.ListN.{length};
-ghost use Rattle.listing.specs.Listings.{flagAt, frontOf, header, lineOf, linesOf, listingOf, refusalOf, weightsOf};
+ghost use Rattle.listing.specs.Listings.{flagAt, frontOf, lineOf, linesOf, listingOf, refusalOf, weightEnd, weightsOf};
 ghost use Rattle.writing.specs.Written.{written};
 
 // A flag as the listing writes it: 0, or 1 for any other.
@@ -26,6 +25,14 @@ fn put_front(out: &mut [u8], at: usize, t: u64, p: u64, b1: u64, b2: u64, flag: 
     writing::kernel::put_decimal(out, d, flag, 9)
 }
 
+// The byte after the weight of channel c.
+fn weight_end(channels: usize, c: usize) -> u8
+    requires { ⌜ c < channels ⌝ }
+    ensures { λ r. ⌜ r ≡ weightEnd channels c ⌝ }
+{
+    if c + 1 == channels { 10 } else { 9 }
+}
+
 // Writes the weights of entry number e of `total`, channel after channel: a tab after each but the last, a newline after that.
 fn put_weights(
     out: &mut [u8],
@@ -42,11 +49,8 @@ fn put_weights(
     let mut c = 0;
     while c < channels {
         let bits = writing::kernel::bits_of(weights[c * total + e]);
-        if c + 1 == channels {
-            p = writing::kernel::put_bits(out, p, bits, 10);
-        } else {
-            p = writing::kernel::put_bits(out, p, bits, 9);
-        }
+        let end = weight_end(channels, c);
+        p = writing::kernel::put_bits(out, p, bits, end);
         c += 1;
     }
     p
