@@ -1,2 +1,3 @@
 pub mod Fields
 pub mod Pieces
+pub mod Spelled

@@ -1,0 +1,32 @@
+-- `listing::kernel::put_listing` meets its contract. Assumes nothing.
+use borrow.Author.Needs.{needs}
+use native.Mathlib.Omega.{arith}
+use Rattle.listing.proofs.ListingLaws.{listing-length}
+use Rattle.listing.specs.Listings.{header, linesOf, listingOf}
+use Rattle.writing.proofs.WrittenLaws.{wrote-both}
+use Rattle.listing.proofs.kernel.put_listing.Statement.{statement}
+use Rattle.listing.proofs.kernel.put_listing.Tie as tie
+
+slice-aggregate-put-slice : tie.Need-slice-aggregate-put-slice
+slice-aggregate-put-slice c = search needs
+
+put-slice-requires : tie.Need-put-slice-requires
+put-slice-requires c κs =
+    omega (arith, listing-length (c .before .before .before .before .args .points) (c .before .before .before .before .args .bands1) (c .before .before .before .before .args .bands2) (c .before .before .before .before .args .channels) (c .before .before .before .before .args .weights .now) (c .before .before .before .before .args .flags .now), c .before .before .before .before .pre .1)
+
+put-lines-requires : tie.Need-put-lines-requires
+put-lines-requires c κs =
+    (c .before .before .before .before .before .before .before .before .pre .0, omega (arith, listing-length (c .before .before .before .before .before .before .before .before .args .points) (c .before .before .before .before .before .before .before .before .args .bands1) (c .before .before .before .before .before .before .before .before .args .bands2) (c .before .before .before .before .before .before .before .before .args .channels) (c .before .before .before .before .before .before .before .before .args .weights .now) (c .before .before .before .before .before .before .before .before .args .flags .now), c .before .before .before .before .before .before .before .before .pre .1, c .before .before .before .put-slice .ensures .0, c .before .before .before .put-slice .kept .0))
+
+same-length : tie.Need-same-length
+same-length c = search needs
+
+returns : tie.Need-returns
+unfolding listingOf header
+returns c =
+    wrote-both (c .before .before .before .before .before .before .before .before .before .before .before .args .at) _ (linesOf (c .before .before .before .before .before .before .before .before .before .before .before .args .points) (c .before .before .before .before .before .before .before .before .before .before .before .args .bands1) (c .before .before .before .before .before .before .before .before .before .before .before .args .bands2) (c .before .before .before .before .before .before .before .before .before .before .before .args .channels) (c .before .before .before .before .before .before .before .before .before .before .before .args .weights .now) (c .before .before .before .before .before .before .before .before .before .before .before .args .flags .now)) (c .before .before .before .before .before .before .before .before .before .before .before .args .out .now) _ _ _ _ (c .before .before .before .before .before .before .put-slice .ensures .0) (c .before .before .before .before .before .before .put-slice .ensures .1) (c .before .before .put-lines .ensures .0) (c .before .before .put-lines .ensures .1) (c .before .before .before .before .before .before .before .before .before .before .before .pre .1)
+
+pub put-listing-spec : {M : Type 1} → statement M
+put-listing-spec =
+    tie.close
+    (tie.spec slice-aggregate-put-slice put-slice-requires put-lines-requires same-length returns)

@@ -1,0 +1,97 @@
+-- `listing::kernel::put_weights` meets its contract. Assumes nothing.
+use Prim.Native.Nat.{_+_, _-_, _≤_, ℕ}
+use borrow.Author.Needs.{needs}
+use lib.ListN.{length}
+use mathlib.Core.List.{List, [], _++_, _∷_}
+use mathlib.Core.Path.{_∙_, _≡_, ap, refl}
+use native.Mathlib.Omega.{arith}
+use Rattle.list_laws.specs.Lists.{at, rows}
+use Rattle.listing.proofs.ListingLaws.{none-written, piece-next, piece-room, weight-below}
+use Rattle.listing.specs.Listings.{weightOf, weightsOf}
+use Rattle.text.specs.Spelled.{hexadecimal}
+use Rattle.writing.specs.Written.{written}
+use Rattle.listing.proofs.kernel.put_weights.Statement.{statement}
+use Rattle.listing.proofs.kernel.put_weights.Tie as tie
+
+abbrev Inv-loop : tie.InvT-loop
+Inv-loop out₀ at weights total e channels p₀ c₀ out p c =
+    (c ≤ channels) × (length out ≡ length out₀) × (p ≡ at + length (rows c (weightOf weights total e channels))) × (out ≡ written at (rows c (weightOf weights total e channels)) out₀)
+
+abbrev μ-loop : tie.MeasureT-loop
+μ-loop out₀ at weights total e channels p₀ c₀ out p c =
+    channels - c
+
+loop-holds : tie.Need-loop-holds Inv-loop μ-loop
+loop-holds c =
+    let n : _ = none-written (weightOf (c .before .before .args .weights .now) (c .before .before .args .total) (c .before .before .args .e) (c .before .before .args .channels)) (c .before .before .args .at) (c .before .before .args .out .now) (omega (arith, c .before .before .pre .2)) in (omega arith, refl, n .0, n .1)
+
+mul-bits-of : tie.Need-mul-bits-of Inv-loop μ-loop
+mul-bits-of c =
+    omega (arith, weight-below (c .before .loop .c) (c .before .before .before .before .args .channels) (c .before .before .before .before .args .total) (c .before .before .before .before .args .e) (c .loop-test .taken) (c .before .before .before .before .pre .0), c .before .before .before .before .pre .1)
+
+add-bits-of : tie.Need-add-bits-of Inv-loop μ-loop
+add-bits-of c =
+    omega (arith, weight-below (c .before .loop .c) (c .before .before .before .before .args .channels) (c .before .before .before .before .args .total) (c .before .before .before .before .args .e) (c .loop-test .taken) (c .before .before .before .before .pre .0), c .before .before .before .before .pre .1)
+
+mul-bits-of-2 : tie.Need-mul-bits-of-2 Inv-loop μ-loop
+mul-bits-of-2 c =
+    omega (arith, weight-below (c .before .loop .c) (c .before .before .before .before .args .channels) (c .before .before .before .before .args .total) (c .before .before .before .before .args .e) (c .loop-test .taken) (c .before .before .before .before .pre .0), c .before .before .before .before .pre .1)
+
+shared-slice-read-bits-of : tie.Need-shared-slice-read-bits-of Inv-loop μ-loop
+shared-slice-read-bits-of c =
+    omega (arith, weight-below (c .before .before .loop .c) (c .before .before .before .before .before .args .channels) (c .before .before .before .before .before .args .total) (c .before .before .before .before .before .args .e) (c .before .loop-test .taken) (c .before .before .before .before .before .pre .0), c .before .before .before .before .before .pre .1)
+
+bits-of-requires : tie.Need-bits-of-requires Inv-loop μ-loop
+bits-of-requires c κs =
+    search needs
+
+weight-end-requires : tie.Need-weight-end-requires Inv-loop μ-loop
+weight-end-requires c κs =
+    omega arith
+
+put-bits-requires : tie.Need-put-bits-requires Inv-loop μ-loop
+unfolding weightsOf weightOf
+put-bits-requires c κs =
+    let g : hexadecimal (c .before .before .bits-of .result) ++ (c .before .weight-end .result ∷ []) ≡ (weightOf (c .before .before .before .before .before .before .before .before .args .weights .now) (c .before .before .before .before .before .before .before .before .args .total) (c .before .before .before .before .before .before .before .before .args .e) (c .before .before .before .before .before .before .before .before .args .channels)) (c .before .before .before .before .before .loop .c) = rw (c .before .before .bits-of .ensures, c .before .weight-end .ensures) in rw g (piece-room (weightOf (c .before .before .before .before .before .before .before .before .args .weights .now) (c .before .before .before .before .before .before .before .before .args .total) (c .before .before .before .before .before .before .before .before .args .e) (c .before .before .before .before .before .before .before .before .args .channels)) (c .before .before .before .before .before .before .before .before .args .at) (c .before .before .before .before .before .before .before .before .args .out .now) (c .before .before .before .before .before .loop .out) (c .before .before .before .before .before .before .before .before .args .out .now) (c .before .before .before .before .before .loop .c) (c .before .before .before .before .before .before .before .before .args .channels) (c .before .before .before .before .before .loop .p) 0 (c .before .before .before .before .loop-test .taken) (c .before .before .before .before .before .loop .inv .2) (c .before .before .before .before .before .loop .inv .1) (c .before .before .before .before .before .before .before .before .pre .2))
+
+add-c : tie.Need-add-c Inv-loop μ-loop
+add-c c =
+    omega arith
+
+loop-less : tie.Need-loop-less Inv-loop μ-loop
+loop-less c =
+    omega arith
+
+loop-again : tie.Need-loop-again Inv-loop μ-loop
+unfolding weightsOf weightOf
+loop-again c =
+    let g : hexadecimal (c .before .before .before .before .before .bits-of .result) ++ (c .before .before .before .before .weight-end .result ∷ []) ≡ (weightOf (c .before .before .before .before .before .before .before .before .before .before .before .args .weights .now) (c .before .before .before .before .before .before .before .before .before .before .before .args .total) (c .before .before .before .before .before .before .before .before .before .before .before .args .e) (c .before .before .before .before .before .before .before .before .before .before .before .args .channels)) (c .before .before .before .before .before .before .before .before .loop .c) = rw (c .before .before .before .before .before .bits-of .ensures, c .before .before .before .before .weight-end .ensures) in let w : _ = piece-next (weightOf (c .before .before .before .before .before .before .before .before .before .before .before .args .weights .now) (c .before .before .before .before .before .before .before .before .before .before .before .args .total) (c .before .before .before .before .before .before .before .before .before .before .before .args .e) (c .before .before .before .before .before .before .before .before .before .before .before .args .channels)) (c .before .before .before .before .before .before .before .before .before .before .before .args .at) (c .before .before .before .before .before .before .before .before .before .before .before .args .out .now) (c .before .before .before .before .before .before .before .before .loop .out) _ (c .before .before .before .before .before .before .before .before .loop .c) (c .before .before .before .before .before .before .before .before .before .before .before .args .channels) (c .before .before .before .before .before .before .before .before .loop .p) _ (c .before .before .before .before .before .before .before .loop-test .taken) (c .before .before .before .before .before .before .before .before .loop .inv .2) (c .before .before .before .before .before .before .before .before .loop .inv .3) (c .before .before .put-bits .ensures .0 ∙ ap (λ (l : List ℕ). c .before .before .before .before .before .before .before .before .loop .p + length l) g) (c .before .before .put-bits .ensures .1 ∙ ap (λ (l : List ℕ). written (c .before .before .before .before .before .before .before .before .loop .p) l (c .before .before .before .before .before .before .before .before .loop .out)) g) (c .before .before .before .before .before .before .before .before .before .before .before .pre .2) in (omega arith, c .before .before .put-bits .kept .0 ∙ c .before .before .before .before .before .before .before .before .loop .inv .1, w .0, w .1)
+
+same-length : tie.Need-same-length Inv-loop μ-loop
+same-length c =
+    c .before .loop .inv .1
+
+returns : tie.Need-returns Inv-loop μ-loop
+unfolding weightsOf
+returns c =
+    let k : c .before .loop .c ≡ c .before .before .before .before .args .channels = omega arith in (c .before .loop .inv .2 ∙ ap (λ (n : ℕ). c .before .before .before .before .args .at + length (rows n (weightOf (c .before .before .before .before .args .weights .now) (c .before .before .before .before .args .total) (c .before .before .before .before .args .e) (c .before .before .before .before .args .channels)))) k, c .before .loop .inv .3 ∙ ap (λ (n : ℕ). written (c .before .before .before .before .args .at) (rows n (weightOf (c .before .before .before .before .args .weights .now) (c .before .before .before .before .args .total) (c .before .before .before .before .args .e) (c .before .before .before .before .args .channels))) (c .before .before .before .before .args .out .now)) k)
+
+pub put-weights-spec : {M : Type 1} → statement M
+put-weights-spec =
+    tie.close
+    (tie.spec
+    Inv-loop
+    μ-loop
+    loop-holds
+    mul-bits-of
+    add-bits-of
+    mul-bits-of-2
+    shared-slice-read-bits-of
+    bits-of-requires
+    weight-end-requires
+    put-bits-requires
+    add-c
+    loop-less
+    loop-again
+    same-length
+    returns)

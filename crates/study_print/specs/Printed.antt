@@ -1,0 +1,51 @@
+-- A study as its text: one line for each row, tags in their order.
+use mathlib.Core.List.{List, [], _∷_, _++_}
+use Prim.Native.Nat.{ℕ, zero, suc, _/_}
+use lib.IntN.{ℤ}
+use lib.ListN.{length, take, drop}
+use Rattle.text.specs.Spelled.{signed, hexadecimal}
+use Rattle.study.specs.declared.Head.{Head}
+use Rattle.study.specs.Studies.{Study, gridTag, diagTag, typeTag, bandsTag, addrTag, mapTag, f1Tag, f2Tag, pointTag, tripletTag}
+
+-- values as fields, "one tab between fields": a tab before each
+unfoldable pub fields : {A : Type 0} → (A → List ℕ) → List A → List ℕ
+fields spell [] = []
+fields spell (v ∷ vs) = 9 ∷ (spell v ++ fields spell vs)
+
+-- a line without its newline: the tag and the values
+unfoldable pub line : {A : Type 0} → (A → List ℕ) → List ℕ → List A → List ℕ
+line spell tag vs = tag ++ fields spell vs
+
+-- the lines of a section of k rows, n values each
+unfoldable pub section : {A : Type 0} → (A → List ℕ) → List ℕ → ℕ → ℕ → List A → List (List ℕ)
+section spell tag n zero vs = []
+section spell tag n (suc k) vs = line spell tag (take n vs) ∷ section spell tag n k (drop n vs)
+
+-- "each line ended by one newline"
+unfoldable pub textOf : List (List ℕ) → List ℕ
+textOf [] = []
+textOf (l ∷ ls) = l ++ (10 ∷ textOf ls)
+
+-- the lines that stand once
+unfoldable pub headLines : Head → List (List ℕ)
+headLines h =
+    line signed gridTag (h .«bz_grid_type» ∷ h .d0 ∷ h .d1 ∷ h .d2 ∷ [])
+    ∷ line signed diagTag (h .diag ∷ [])
+    ∷ line signed typeTag (h .«tp_type» ∷ [])
+    ∷ line signed bandsTag (h .«num_band1» ∷ h .«num_band2» ∷ [])
+    ∷ []
+
+-- the lines of a study
+unfoldable pub studyLines : Study → List (List ℕ)
+studyLines s =
+    headLines (s .head)
+    ++ (section signed addrTag 3 (length (s .addresses) / 3) (s .addresses)
+    ++ (section signed mapTag 1 (length (s .map)) (s .map)
+    ++ (section hexadecimal f1Tag 1 (length (s .f1)) (s .f1)
+    ++ (section hexadecimal f2Tag 1 (length (s .f2)) (s .f2)
+    ++ (section hexadecimal pointTag 1 (length (s .points)) (s .points)
+    ++ section signed tripletTag 3 (length (s .triplets) / 3) (s .triplets))))))
+
+-- the text of a study
+unfoldable pub printed : Study → List ℕ
+printed s = textOf (studyLines s)
