@@ -161,3 +161,7 @@ module _ {s : Study} {z : Sizes} {weights flags : ℕ} (r : Ready s z weights fl
   -- the three numbers of a triplet are there
   pub triplet-in : (t : ℕ) → t < z .triplets → 3 * t + 2 < length (s .triplets)
   triplet-in t h = let g : t < length (s .triplets) / 3 = rw (r .counts, triplets-are s) at h in omega (arith, r .triplets-whole)
+
+  -- the count of triplets is that of a list
+  pub triplets-few : z .triplets ≤ length (s .triplets)
+  triplets-few = let e : z .triplets ≡ length (s .triplets) / 3 = rw (r .counts) (triplets-are s) in omega (arith, r .triplets-whole)
