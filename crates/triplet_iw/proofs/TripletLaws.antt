@@ -4,7 +4,7 @@ use mathlib.Core.Bool.{Bool, true, false}
 use mathlib.Core.List.{List}
 use mathlib.Core.Logic.{⊎-elim}
 use Prim.Native.Nat.{ℕ, zero, suc, _+_, _*_, _/_, _%_, _≤_, _<_}
-use native.Mathlib.Nat.{div-add-mod', mod-lt, div-lt-iff-lt-mul}
+use native.Mathlib.Nat.{div-add-mod', mod-lt, div-lt-iff-lt-mul, mul-le-mul}
 use native.Mathlib.Omega.{arith}
 use lib.Arith.{digits-div, digits-mod}
 use lib.Dec.{eqb, ltb}
@@ -143,3 +143,25 @@ module _ {s : Study} {z : Sizes} {weights flags : ℕ} (r : Ready s z weights fl
   pub held-second : (t : ℕ) (numbers : List ℕ) → numbers ≡ secondCorners s t → (rows : ℕ) → rows ≡ rowsIn (s .steps) → (b : ℕ) → b < s .bands2 → Held numbers (rows * 4) (length (s .frequencies2)) (s .bands2) b
   held-second t numbers e rows q b h =
       rw (e, q) (corners-held (s .grid) (s .addresses) (s .map) (r .grid) (secondSteps (s .tp) (s .steps)) _ (rowsIn (s .steps)) (s .bands2) b (length (s .frequencies2)) (second-length (s .tp) (s .steps) ∙ r .rows-whole) (r .held2) h)
+
+  -- there are from 1 to 4,096 band pairs
+  pairs-is : z .pairs ≡ s .bands1 * s .bands2
+  pairs-is = rw (r .counts) (pairs-are s)
+
+  pub pairs-some : 1 ≤ z .pairs
+  pairs-some = let m : 1 * 1 ≤ s .bands1 * s .bands2 = mul-le-mul (r .bands1-low) (r .bands2-low) in rw pairs-is (omega (arith, m))
+
+  pub pairs-few : z .pairs ≤ 4096
+  pairs-few = let m : s .bands1 * s .bands2 ≤ 64 * 64 = mul-le-mul (r .bands1-high) (r .bands2-high) in rw pairs-is (omega (arith, m))
+
+  triplets-are : (y : Study) → sizesOf y .triplets ≡ length (y .triplets) / 3
+  unfolding sizesOf
+  triplets-are y = refl
+
+  -- the three numbers of a triplet are there
+  pub triplet-in : (t : ℕ) → t < z .triplets → 3 * t + 2 < length (s .triplets)
+  triplet-in t h = let g : t < length (s .triplets) / 3 = rw (r .counts, triplets-are s) at h in omega (arith, r .triplets-whole)
+
+  -- the count of triplets is that of a list
+  pub triplets-few : z .triplets ≤ length (s .triplets)
+  triplets-few = let e : z .triplets ≡ length (s .triplets) / 3 = rw (r .counts) (triplets-are s) in omega (arith, r .triplets-whole)

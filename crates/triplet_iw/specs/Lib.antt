@@ -1,1 +1,2 @@
 -- The definitions that the contracts cite.
+pub mod Whole

@@ -5,6 +5,7 @@ ghost use lib.Dec.{eqb};
 ghost use lib.ListN.{length};
 ghost use Rattle.triplet_corners.specs.Corners.{secondSteps};
 ghost use Rattle.triplet_piece.specs.Study.{study, rowsIn, Ready, computedWeights, computedFlags};
+ghost use Rattle.triplet_iw.specs.Whole.{allWeights, allFlags};
 use bzgrid::BzGrid;
 use triplet_channels::TpType;
 use triplet_piece::Sizes;
@@ -71,6 +72,50 @@ pub fn fill_triplet(
             t,
             b1,
             b2,
+        );
+    }
+}
+
+// All triplets: the second copy of the steps is made once.
+pub fn fill_triplets(
+    weights: &mut [f64],
+    flags: &mut [i8],
+    z: Sizes,
+    tp: TpType,
+    grid: BzGrid,
+    addresses: &[i64],
+    gp_map: &[i64],
+    steps: &[i64],
+    frequencies1: &[f64],
+    frequencies2: &[f64],
+    points: &[f64],
+    triplets: &[i64],
+)
+    requires { ⌜ Ready (study tp grid (now addresses) (now «gp_map») (now steps) (z .bands1) (z .bands2) (now frequencies1) (now frequencies2) (now points) (now triplets)) z (length (now weights)) (length (now flags)) ⌝ }
+    ensures { λ _. ⌜ now (weights .exit) ≡ allWeights (study tp grid (now (addresses .entry)) (now («gp_map» .entry)) (now (steps .entry)) (z .bands1) (z .bands2) (now (frequencies1 .entry)) (now (frequencies2 .entry)) (now (points .entry)) (now (triplets .entry))) ⌝ }
+    ensures { λ _. ⌜ now (flags .exit) ≡ allFlags (study tp grid (now (addresses .entry)) (now («gp_map» .entry)) (now (steps .entry)) (z .bands1) (z .bands2) (now (frequencies1 .entry)) (now (frequencies2 .entry)) (now (points .entry)) (now (triplets .entry))) ⌝ }
+{
+    let second = triplet_corners::kernel::second_steps(tp, steps);
+    let m = steps.len();
+    let rows = m / 12;
+    let n = z.triplets;
+    for t in 0..n {
+        fill_triplet(
+            weights,
+            flags,
+            z,
+            tp,
+            grid,
+            addresses,
+            gp_map,
+            steps,
+            &second[..m],
+            rows,
+            frequencies1,
+            frequencies2,
+            points,
+            triplets,
+            t,
         );
     }
 }

@@ -125,7 +125,7 @@ module _ (z : Sizes) (o : ℕ → Outputs) (t k x : ℕ) (hk : k < z .pairs) (hx
   unfolding someFlags
   flags-more l v e =
       patch-more (reached z (t * z .pairs + k) x) (reached z (t * z .pairs + k) (x + 1)) (flagBy z o) l (cellOf (z .points) (z .pairs) t k x) v
-      (rw (point-cell (z .points) (z .pairs) t k x hk hx) e) here (λ j _ ne. elsewhere j ne)
+      (rw (flagBy, point-cell (z .points) (z .pairs) t k x hk hx) e) here (λ j _ ne. elsewhere j ne)
 
   pub weights-more : (l : List Float) (v : Outputs) → o x ≡ v → cellWeights (z .cells) (cellOf (z .points) (z .pairs) t k x) v (someWeights z (t * z .pairs + k) o x l)
       ≡ someWeights z (t * z .pairs + k) o (x + 1) l
@@ -187,7 +187,7 @@ module _ (z : Sizes) (q : ℕ) (o o' : ℕ → Outputs) (e : (x : ℕ) → o x �
   unfolding pieceFlags
   flags-same l =
       patch-ext (λ j. eqb (pieceAt (z .points) (z .pairs) j) q) (flagBy z o) (λ j. eqb (pieceAt (z .points) (z .pairs) j) q) (flagBy z o') l
-      (λ j _ y. rw (e (pointAt (z .points) (z .pairs) j)))
+      (λ j _ y. rw (flagBy, e (pointAt (z .points) (z .pairs) j)))
 
 -- ---- places are within their buffers
 

@@ -60,7 +60,7 @@ module _ (s : Study) (t b1 b2 q : ℕ) (h1 : b1 < s .bands1) (h2 : b2 < s .bands
     where
       go : (j : ℕ) (y : ℤ) (u : Bool) → eqb (pieceAt (sizesOf s .points) (sizesOf s .pairs) j) q ≡ u
           → pick u (outputsOf s t b1 b2 (pointAt (sizesOf s .points) (sizesOf s .pairs) j) .flag) y ≡ pick u (flagAt s j) y
-      go j y true f = rw (cell-outputs s t b1 b2 j h1 h2 (eqb-true (pieceAt (sizesOf s .points) (sizesOf s .pairs) j) q f ∙ e))
+      go j y true f = rw (flagAt, cell-outputs s t b1 b2 j h1 h2 (eqb-true (pieceAt (sizesOf s .points) (sizesOf s .pairs) j) q f ∙ e))
       go j y false f = refl
 
 -- ---- pieces that are computed one after the other

@@ -26,10 +26,12 @@ fn channel_of(o: Outputs, c: usize) -> f64
 }
 
 // The weights of a cell, in every channel.
-fn put_weights(weights: &mut [f64], cells: usize, channels: usize, cell: usize, o: Outputs)
-    requires { ⌜ (cell < cells) × (length (now weights) ≡ channels * cells) ⌝ }
-    ensures { λ _. ⌜ now (weights .exit) ≡ cellWeights cells cell o (now (weights .entry)) ⌝ }
+fn put_weights(weights: &mut [f64], z: Sizes, cell: usize, o: Outputs)
+    requires { ⌜ (cell < z .cells) × (length (now weights) ≡ z .channels * z .cells) ⌝ }
+    ensures { λ _. ⌜ now (weights .exit) ≡ cellWeights (z .cells) cell o (now (weights .entry)) ⌝ }
 {
+    let cells = z.cells;
+    let channels = z.channels;
     for c in 0..channels {
         weights[c * cells + cell] = channel_of(o, c);
     }
@@ -65,8 +67,6 @@ fn fill_points(
 {
     let n = z.points;
     let pairs = z.pairs;
-    let cells = z.cells;
-    let channels = z.channels;
     for x in 0..n {
         let cell = (t * n + x) * pairs + pair;
         let o = triplet_channels::kernel::channels::outputs_at(
@@ -83,7 +83,7 @@ fn fill_points(
             x1,
             x2,
         );
-        put_weights(weights, cells, channels, cell, o);
+        put_weights(weights, z, cell, o);
         let flag = o.flag;
         flags[cell] = flag;
     }
