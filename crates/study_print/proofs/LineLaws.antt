@@ -138,7 +138,7 @@ module _ {A : Type 0} (field : List ℕ → Got A) (spell : A → List ℕ) wher
     section-read (suc k) m (v ∷ vs) ls e w s =
         let l : m + k * suc m ≡ length vs = omega (arith, e, suc-mul k (suc m)) in
         let r : values field (suc m) (afterTag (line spell tag (v ∷ take m vs))) ≡ is (v ∷ take m vs) =
-            subst (λ (n : ℕ). values field (suc n) (afterTag (line spell tag (v ∷ take m vs))) ≡ is (v ∷ take m vs)) (length-take-le m vs (omega (arith, l))) (row-read v (take m vs) (w .0, all-take field spell m vs (w .1))) in
+        subst (λ (n : ℕ). values field (suc n) (afterTag (line spell tag (v ∷ take m vs))) ≡ is (v ∷ take m vs)) (length-take-le m vs (omega (arith, l))) (row-read v (take m vs) (w .0, all-take field spell m vs (w .1))) in
         rw (tag-read v (take m vs), same-yes tag tag refl, r, section-read k m (drop m vs) ls (omega (arith, l, length-drop m vs)) (all-drop field spell m vs (w .1)) s)
         (ap (λ (x : List A). read (v ∷ x) ls) (take-append-drop m vs))
 

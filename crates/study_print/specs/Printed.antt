@@ -1,8 +1,12 @@
 -- A study as its text: one line for each row, tags in their order.
+use mathlib.Core.Path.{_≡_}
+use mathlib.Core.Bool.{true}
 use mathlib.Core.List.{List, [], _∷_, _++_}
-use Prim.Native.Nat.{ℕ, zero, suc, _/_}
+use Prim.Native.Nat.{ℕ, zero, suc, _*_, _/_, _^_, _≤_, _<_}
 use lib.IntN.{ℤ}
 use lib.ListN.{length, take, drop}
+use lib.Signed.{mag}
+use Rattle.list_laws.specs.Signed.{isBetween}
 use Rattle.text.specs.Spelled.{signed, hexadecimal}
 use Rattle.study.specs.declared.Head.{Head}
 use Rattle.study.specs.Studies.{Study, gridTag, diagTag, typeTag, bandsTag, addrTag, mapTag, f1Tag, f2Tag, pointTag, tripletTag}
@@ -49,3 +53,32 @@ studyLines s =
 -- the text of a study
 unfoldable pub printed : Study → List ℕ
 printed s = textOf (studyLines s)
+
+-- a property of each value of a list
+abbrev pub Each : {A : Type 0} → (A → Type 0) → List A → Type 0
+Each P [] = Unit
+Each P (v ∷ vs) = P v × Each P vs
+
+-- a signed number of 64 bits, and a pattern of 64 bits
+abbrev pub Signed64 : ℤ → Type 0
+Signed64 z = mag z < 2 ^ 63
+
+abbrev pub Pattern64 : ℕ → Type 0
+Pattern64 n = n < 2 ^ 64
+
+-- a study that a text can hold: numbers of 64 bits, whole triples, `diag` 0 to 3, at most 16,384 bytes
+pub record Printable (s : Study) : Type 0 where
+  pub grid-fits : Each Signed64 (s .head .«bz_grid_type» ∷ s .head .d0 ∷ s .head .d1 ∷ s .head .d2 ∷ [])
+  pub diag-fits : Each Signed64 (s .head .diag ∷ [])
+  pub type-fits : Each Signed64 (s .head .«tp_type» ∷ [])
+  pub bands-fit : Each Signed64 (s .head .«num_band1» ∷ s .head .«num_band2» ∷ [])
+  pub diag-range : isBetween 0 3 (s .head .diag) ≡ true
+  pub addresses-fit : Each Signed64 (s .addresses)
+  pub map-fits : Each Signed64 (s .map)
+  pub f1-fits : Each Pattern64 (s .f1)
+  pub f2-fits : Each Pattern64 (s .f2)
+  pub points-fit : Each Pattern64 (s .points)
+  pub triplets-fit : Each Signed64 (s .triplets)
+  pub whole-addresses : length (s .addresses) ≡ length (s .addresses) / 3 * 3
+  pub whole-triplets : length (s .triplets) ≡ length (s .triplets) / 3 * 3
+  pub short : length (printed s) ≤ 16384
