@@ -20,7 +20,8 @@ use Rattle.questions.specs.Grids.{areTriples, triplesIn, gridQuestions}
 use Rattle.questions.specs.Rows.{hasRows}
 use Rattle.questions.specs.Steps.{areGridPoints}
 use Rattle.questions.specs.TpTypes.{isTpType}
-use Rattle.questions.specs.Studies.{isTable, tripletsIn, areStudyCounts, areTriplets, holdFrequencies, areStudyFrequencies, tripletQuestions, studyQuestions}
+use Rattle.questions.specs.Tables.{isTable}
+use Rattle.questions.specs.Studies.{tripletsIn, areStudyCounts, areTriplets, holdFrequencies, areStudyFrequencies, tripletQuestions, studyQuestions}
 use Rattle.questions.proofs.AskLaws.{all-yes}
 use Rattle.questions.proofs.StepLaws.{grid-points-at, product-yes}
 

@@ -11,13 +11,9 @@ use Rattle.questions.specs.Ask.{Question, asks}
 use Rattle.questions.specs.Counts.{isBandCount, isPointCount, isTripletCount, isProduct}
 use Rattle.questions.specs.Frequencies.{areFrequencies, arePoints}
 use Rattle.questions.specs.Grids.{areTriples, triplesIn, gridQuestions}
-use Rattle.questions.specs.Rows.{hasRows}
+use Rattle.questions.specs.Tables.{isTable}
 use Rattle.questions.specs.Steps.{areGridPoints}
 use Rattle.questions.specs.TpTypes.{isTpType}
-
--- Question 7: "Has the table 24, 48, 72 or 96 rows .., components within ±4,096?" A row is four corners of three numbers.
-unfoldable pub isTable : List ℤ → Bool
-isTable steps = hasRows 12 (length steps) && areTriples steps
 
 -- how many triplets a flat list holds, an unfinished one counted
 abbrev pub tripletsIn : List ℤ → ℕ

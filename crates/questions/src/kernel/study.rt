@@ -3,21 +3,12 @@ ghost use mathlib.Core.Path.{_≡_};
 ghost use Prim.Native.Nat.{_<_};
 ghost use lib.ListN.{length};
 ghost use Rattle.questions.specs.Ask.{firstNo};
-ghost use Rattle.questions.specs.Studies.{isTable, areStudyCounts, areTriplets, holdFrequencies, tripletQuestions, studyQuestions};
+ghost use Rattle.questions.specs.Studies.{areStudyCounts, areTriplets, holdFrequencies, tripletQuestions, studyQuestions};
 use crate::kernel::counts;
 use crate::kernel::frequencies;
 use crate::kernel::grid;
 use crate::kernel::steps;
 use common::kernel::magnitude;
-
-// Question 7, of a table.
-pub fn table_ok(relative_grid_address: &[i64]) -> bool
-    ensures { λ r. ⌜ r ≡ isTable (now («relative_grid_address» .entry)) ⌝ }
-{
-    let n = relative_grid_address.len();
-    (((n == 288) | (n == 576)) | ((n == 864) | (n == 1152)))
-        & grid::triples_ok(relative_grid_address)
-}
 
 // Question 9, of a study.
 pub fn study_counts_ok(num_band1: i64, num_band2: i64, points: usize, triplets: usize) -> bool
@@ -59,7 +50,7 @@ fn triplet_no(
     ensures { λ r. ⌜ r ≡ firstNo (tripletQuestions p «tp_type» «num_band1» «num_band2» (now («relative_grid_address» .entry))
         (now (frequencies1 .entry)) (now (frequencies2 .entry)) (now («frequency_points» .entry)) (now (triplets .entry))) ⌝ }
 {
-    if !table_ok(relative_grid_address) {
+    if !crate::kernel::tables::table_ok(relative_grid_address) {
         return crate::BAD_TABLE;
     }
     if !crate::kernel::tp_type::tp_type_ok(tp_type) {
