@@ -1,3 +1,4 @@
+-- `sections::kernel::parse_line` meets its contract. Assumes nothing.
 use Prim.Native.Nat.{ℕ}
 use mathlib.Core.Path.{_≡_, refl, sym, ap, _∙_}
 use mathlib.Core.Bool.{Bool, true, false}
@@ -15,45 +16,35 @@ use Rattle.check.proofs.same.Reads as same-reads
 use Rattle.text.proofs.kernel.cut.Reads as cut-reads
 use Rattle.sections.proofs.kernel.parse_wholes.Reads as parse-wholes-reads
 
--- src/lib.rt:208:9
 cut-requires : tie.Need-cut-requires
 cut-requires c κs = search needs
 
--- src/lib.rt:209:20
 slice-aggregate-same : tie.Need-slice-aggregate-same
 slice-aggregate-same c = sym (length-take-le (c .before .cut .result) (c .before .before .before .before .args .line .now) (omega arith))
 
--- src/lib.rt:209:8
 same-requires : tie.Need-same-requires
 same-requires c κs = search needs
 
--- src/lib.rt:210:31
 add-parse-wholes : tie.Need-add-parse-wholes
 add-parse-wholes c = search needs
 
--- src/lib.rt:210:12
 parse-wholes-requires : tie.Need-parse-wholes-requires
 parse-wholes-requires c κs = search needs
 
--- src/lib.rt:203:1
 same-length : tie.Need-same-length
 same-length c = search needs
 
--- src/lib.rt:203:1
 returns : tie.Need-returns
 unfolding rowSort
 returns c = (sort-is wholeField (c .before .before .before .before .before .before .before .before .before .before .args .line .now) (c .before .before .before .before .before .before .before .before .before .before .args .tag .now) (c .before .before .before .before .before .before .before .before .before .before .args .n) (c .before .before .before .before .before .before .before .cut .result) (omega (arith, c .before .before .before .before .before .before .before .cut .ensures .0)) (c .before .before .before .before .before .same .ensures .0 (c .before .before .before .before .if1 .taken)) _ (c .before .before .parse-wholes .ensures .0 ∙ ap (λ (t : Bool). told t (take (c .before .before .before .before .before .before .before .before .before .before .args .n) (drop (c .before .before .before .before .before .before .before .before .before .before .args .at) (c .before .before .parse-wholes .last .1 .1 .1 .0)))) (c .if2 .taken)), c .before .before .parse-wholes .ensures .1)
 
--- src/lib.rt:203:1
 same-length-2 : tie.Need-same-length-2
 same-length-2 c = search needs
 
--- src/lib.rt:203:1
 returns-2 : tie.Need-returns-2
 unfolding rowSort
 returns-2 c = (sort-is wholeField (c .before .before .before .before .before .before .before .before .before .before .args .line .now) (c .before .before .before .before .before .before .before .before .before .before .args .tag .now) (c .before .before .before .before .before .before .before .before .before .before .args .n) (c .before .before .before .before .before .before .before .cut .result) (omega (arith, c .before .before .before .before .before .before .before .cut .ensures .0)) (c .before .before .before .before .before .same .ensures .0 (c .before .before .before .before .if1 .taken)) _ (c .before .before .parse-wholes .ensures .0 ∙ ap (λ (t : Bool). told t (take (c .before .before .before .before .before .before .before .before .before .before .args .n) (drop (c .before .before .before .before .before .before .before .before .before .before .args .at) (c .before .before .parse-wholes .last .1 .1 .1 .0)))) (c .if2 .left)), c .before .before .parse-wholes .ensures .1)
 
--- src/lib.rt:203:1
 returns-3 : tie.Need-returns-3
 returns-3 c = (sort-other wholeField (c .before .before .before .before .before .before .args .line .now) (c .before .before .before .before .before .before .args .tag .now) (c .before .before .before .before .before .before .args .n) (c .before .before .before .cut .result) (omega (arith, c .before .before .before .cut .ensures .0)) (λ e. let z : _≡_ {A = ℕ} 0 1 = cc (c .before .same .ensures .1 e) in omega arith), refl)
 

@@ -1,3 +1,4 @@
+-- `sections::kernel::parse_rows` meets its contract. Assumes nothing.
 use Prim.Native.Nat.{ℕ, _+_, _-_, _≤_}
 use mathlib.Core.Path.{_≡_, refl, sym, ap, _∙_}
 use native.Mathlib.Omega.{arith}
@@ -26,47 +27,36 @@ Inv-loop text from tag n out₀ at₀ k₀ out at k =
 abbrev μ-loop : tie.MeasureT-loop
 μ-loop text from tag n out₀ at₀ k₀ out at k = length text - at
 
--- src/lib.rt:233:5
 loop-holds : tie.Need-loop-holds Inv-loop μ-loop
 loop-holds c = (omega arith, refl, joined-nil wholeField _)
 
--- src/lib.rt:234:13
 cut-requires : tie.Need-cut-requires Inv-loop μ-loop
 cut-requires c κs = search needs
 
--- src/lib.rt:235:26
 sub-parse-line : tie.Need-sub-parse-line Inv-loop μ-loop
 sub-parse-line c = search needs
 
--- src/lib.rt:235:26
 part-parse-line-start : tie.Need-part-parse-line-start Inv-loop μ-loop
 part-parse-line-start c = search needs
 
--- src/lib.rt:235:26
 part-parse-line-end : tie.Need-part-parse-line-end Inv-loop μ-loop
 part-parse-line-end c = search needs
 
--- src/lib.rt:235:15
 parse-line-requires : tie.Need-parse-line-requires Inv-loop μ-loop
 parse-line-requires c κs = search needs
 
--- src/lib.rt:237:17
 enum-told : tie.Need-enum-told Inv-loop μ-loop
 enum-told c = search needs
 
--- src/lib.rt:237:17
 add-k : tie.Need-add-k Inv-loop μ-loop
 add-k c = search needs
 
--- src/lib.rt:238:22
 add-at : tie.Need-add-at Inv-loop μ-loop
 add-at c = search needs
 
--- src/lib.rt:233:5
 loop-less : tie.Need-loop-less Inv-loop μ-loop
 loop-less c = search needs
 
--- src/lib.rt:233:5
 loop-again : tie.Need-loop-again Inv-loop μ-loop
 loop-again c =
     let line = take (c .before .before .before .before .before .before .cut .result - c .before .before .before .before .before .before .before .before .loop .at) (drop (c .before .before .before .before .before .before .before .before .loop .at) (c .before .before .before .before .before .before .before .before .before .before .before .args .text .now)) in
@@ -76,35 +66,27 @@ loop-again c =
       rows-row wholeField (c .before .before .before .before .before .before .before .before .before .before .before .args .text .now) (c .before .before .before .before .before .before .before .before .before .before .before .args .from) (c .before .before .before .before .before .before .before .before .before .before .before .args .tag .now) (c .before .before .before .before .before .before .before .before .before .before .before .args .n) (c .before .before .before .before .before .before .before .before .loop .out) (c .before .before .before .before .before .before .before .before .loop .at) (c .before .before .before .before .before .before .before .before .loop .k) (c .before .before .before .before .before .before .before .before .loop .inv .2) (omega arith) (c .before .before .before .before .before .before .cut .result) (c .before .before .before .before .before .before .cut .ensures .0) (c .before .before .before .parse-line .last .1 .1 .1 .0) (c .before .before .before .parse-line .ensures .1) (c .before .before .before .parse-line .ensures .0 ∙ ap (λ (r : Line). toldLine r (take (c .before .before .before .before .before .before .before .before .before .before .before .args .n) (drop (c .before .before .before .before .before .before .before .before .loop .k) (c .before .before .before .parse-line .last .1 .1 .1 .0)))) (c .enum-told .given .1)),
     )
 
--- src/lib.rt:241:17
 enum-told-2 : tie.Need-enum-told-2 Inv-loop μ-loop
 enum-told-2 c = search needs
 
--- src/lib.rt:244:17
 enum-told-3 : tie.Need-enum-told-3 Inv-loop μ-loop
 enum-told-3 c = search needs
 
--- src/lib.rt:244:17
 same-length : tie.Need-same-length Inv-loop μ-loop
 same-length c = search needs
 
--- src/lib.rt:244:17
 returns : tie.Need-returns Inv-loop μ-loop
 returns c = rows-broken wholeField (c .before .before .before .before .before .before .before .before .before .before .before .args .text .now) (c .before .before .before .before .before .before .before .before .before .before .before .args .from) (c .before .before .before .before .before .before .before .before .before .before .before .args .tag .now) (c .before .before .before .before .before .before .before .before .before .before .before .args .n) (c .before .before .before .before .before .before .before .before .loop .out) (c .before .before .before .before .before .before .before .before .loop .at) (c .before .before .before .before .before .before .before .before .loop .k) (c .before .before .before .before .before .before .before .before .loop .inv .2) (omega arith) (c .before .before .before .before .before .before .cut .result) (c .before .before .before .before .before .before .cut .ensures .0) (c .before .before .before .parse-line .ensures .0 ∙ ap (λ (r : Line). toldLine r (take (c .before .before .before .before .before .before .before .before .before .before .before .args .n) (drop (c .before .before .before .before .before .before .before .before .loop .k) (c .before .before .before .parse-line .last .1 .1 .1 .0)))) (c .enum-told3 .given .1))
 
--- src/lib.rt:227:1
 same-length-2 : tie.Need-same-length-2 Inv-loop μ-loop
 same-length-2 c = search needs
 
--- src/lib.rt:227:1
 returns-2 : tie.Need-returns-2 Inv-loop μ-loop
 returns-2 c = rows-end wholeField (c .before .before .before .before .args .text .now) (c .before .before .before .before .args .from) (c .before .before .before .before .args .tag .now) (c .before .before .before .before .args .n) (c .before .loop .out) (c .before .loop .at) (c .before .loop .k) (c .before .loop .inv .2) (omega arith)
 
--- src/lib.rt:227:1
 same-length-3 : tie.Need-same-length-3 Inv-loop μ-loop
 same-length-3 c = search needs
 
--- src/lib.rt:227:1
 returns-3 : tie.Need-returns-3 Inv-loop μ-loop
 returns-3 c =
     rows-other wholeField (c .before .before .before .before .before .before .before .before .before .before .before .args .text .now) (c .before .before .before .before .before .before .before .before .before .before .before .args .from) (c .before .before .before .before .before .before .before .before .before .before .before .args .tag .now) (c .before .before .before .before .before .before .before .before .before .before .before .args .n) (c .before .before .before .before .before .before .before .before .loop .out) (c .before .before .before .before .before .before .before .before .loop .at) (c .before .before .before .before .before .before .before .before .loop .k) (c .before .before .before .before .before .before .before .before .loop .inv .2) (omega arith) (c .before .before .before .before .before .before .cut .result) (c .before .before .before .before .before .before .cut .ensures .0) (c .before .before .before .parse-line .ensures .0 ∙ ap (λ (r : Line). toldLine r (take (c .before .before .before .before .before .before .before .before .before .before .before .args .n) (drop (c .before .before .before .before .before .before .before .before .loop .k) (c .before .before .before .parse-line .last .1 .1 .1 .0)))) (c .enum-told2 .given .1))

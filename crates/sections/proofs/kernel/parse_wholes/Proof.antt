@@ -1,3 +1,4 @@
+-- `sections::kernel::parse_wholes` meets its contract. Assumes nothing.
 use Prim.Native.Nat.{suc, _+_, _-_, _≤_}
 use mathlib.Core.Path.{_≡_, refl, sym, ap, _∙_}
 use mathlib.Core.List.{_∷_, []}
@@ -29,87 +30,66 @@ Inv-loop line p count out₀ at from₀ i₀ out from i =
 abbrev μ-loop : tie.MeasureT-loop
 μ-loop line p count out₀ at from₀ i₀ out from i = count - i
 
--- src/lib.rt:176:5
 loop-holds : tie.Need-loop-holds Inv-loop μ-loop
 loop-holds c = (search needs, refl, refl, rw sub-zero (front-nil _))
 
--- src/lib.rt:178:13
 same-length : tie.Need-same-length Inv-loop μ-loop
 same-length c = search needs
 
--- src/lib.rt:178:13
 returns : tie.Need-returns Inv-loop μ-loop
 returns c = (row-short wholeField (c .before .before .before .before .args .line .now) (c .before .before .before .before .args .p) (c .before .before .before .before .args .count) (c .before .before .loop .out) (c .before .before .before .before .args .at) (c .before .before .loop .from) (c .before .before .loop .i) (c .before .before .loop .inv .3) (omega arith) (omega arith), c .before .before .loop .inv .2)
 
--- src/lib.rt:180:13
 cut-requires : tie.Need-cut-requires Inv-loop μ-loop
 cut-requires c κs = search needs
 
--- src/lib.rt:181:27
 sub-parse-whole : tie.Need-sub-parse-whole Inv-loop μ-loop
 sub-parse-whole c = search needs
 
--- src/lib.rt:181:27
 part-parse-whole-start : tie.Need-part-parse-whole-start Inv-loop μ-loop
 part-parse-whole-start c = search needs
 
--- src/lib.rt:181:27
 part-parse-whole-end : tie.Need-part-parse-whole-end Inv-loop μ-loop
 part-parse-whole-end c = search needs
 
--- src/lib.rt:181:15
 parse-whole-requires : tie.Need-parse-whole-requires Inv-loop μ-loop
 parse-whole-requires c κs = search needs
 
--- src/lib.rt:182:23
 enum-known-z : tie.Need-enum-known-z Inv-loop μ-loop
 enum-known-z c = search needs
 
--- src/lib.rt:183:21
 add-z : tie.Need-add-z Inv-loop μ-loop
 add-z c = search needs
 
--- src/lib.rt:183:17
 mul-z : tie.Need-mul-z Inv-loop μ-loop
 mul-z c = search needs
 
--- src/lib.rt:183:17
 slice-set-from-z : tie.Need-slice-set-from-z Inv-loop μ-loop
 slice-set-from-z c = search needs
 
--- src/lib.rt:186:17
 enum-told : tie.Need-enum-told Inv-loop μ-loop
 enum-told c = search needs
 
--- src/lib.rt:186:17
 same-length-2 : tie.Need-same-length-2 Inv-loop μ-loop
 same-length-2 c = search needs
 
--- src/lib.rt:186:17
 returns-2 : tie.Need-returns-2 Inv-loop μ-loop
 returns-2 c = (row-bad wholeField (c .before .before .before .before .before .before .before .before .before .args .line .now) (c .before .before .before .before .before .before .before .before .before .args .p) (c .before .before .before .before .before .before .before .before .before .args .count) (c .before .before .before .before .before .before .before .loop .out) (c .before .before .before .before .before .before .before .before .before .args .at) (c .before .before .before .before .before .before .before .loop .from) (c .before .before .before .before .before .before .before .loop .i) (c .before .before .before .before .before .before .before .loop .inv .3) (omega arith) (omega arith) (c .before .before .before .before .cut .result) (c .before .before .before .before .cut .ensures .0) (ap wholeGot (sym (c .enum-told .given .1) ∙ c .before .before .parse-whole .ensures)), c .before .before .before .before .before .before .before .loop .inv .2)
 
--- src/lib.rt:189:16
 add-from : tie.Need-add-from Inv-loop μ-loop
 add-from c = search needs
 
--- src/lib.rt:190:9
 add-i : tie.Need-add-i Inv-loop μ-loop
 add-i c = search needs
 
--- src/lib.rt:176:5
 loop-less : tie.Need-loop-less Inv-loop μ-loop
 loop-less c = search needs
 
--- src/lib.rt:176:5
 loop-again : tie.Need-loop-again Inv-loop μ-loop
 loop-again c = (omega arith, simp length-set (c .before .before .before .before .before .before .before .before .loop .inv .1), take-set-le (c .before .before .before .before .before .before .before .before .before .before .args .at) (c .before .before .before .before .before .before .before .before .loop .out) (c .before .before .before .before .before .before .before .before .before .before .args .at + c .before .before .before .before .before .before .before .before .loop .i) (toZ w64 (ofZ w64 (c .before .z .given .0 .0))) (omega arith) ∙ c .before .before .before .before .before .before .before .before .loop .inv .2, row-more wholeField (c .before .before .before .before .before .before .before .before .before .before .args .line .now) (c .before .before .before .before .before .before .before .before .before .before .args .p) (c .before .before .before .before .before .before .before .before .before .before .args .count) (c .before .before .before .before .before .before .before .before .loop .out) (c .before .before .before .before .before .before .before .before .before .before .args .at) (c .before .before .before .before .before .before .before .before .loop .from) (c .before .before .before .before .before .before .before .before .loop .i) (c .before .before .before .before .before .before .before .before .loop .inv .3) (omega arith) (omega arith) (c .before .before .before .before .before .cut .result) (c .before .before .before .before .before .cut .ensures .0) (toZ w64 (ofZ w64 (c .before .z .given .0 .0))) (rw (toZ-ofZ {w = w64} {z = c .before .z .given .0 .0} (search needs)) (ap wholeGot (sym (c .before .z .given .1) ∙ c .before .before .before .parse-whole .ensures))) (omega arith))
 
--- src/lib.rt:169:1
 same-length-3 : tie.Need-same-length-3 Inv-loop μ-loop
 same-length-3 c = search needs
 
--- src/lib.rt:169:1
 returns-3 : tie.Need-returns-3 Inv-loop μ-loop
 returns-3 c = (row-end wholeField (c .before .before .before .args .line .now) (c .before .before .before .args .p) (c .before .before .before .args .count) (c .before .loop .out) (c .before .before .before .args .at) (c .before .loop .from) (c .before .loop .i) (c .before .loop .inv .3) (omega arith), c .before .loop .inv .2)
 

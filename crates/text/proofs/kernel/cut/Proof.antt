@@ -1,3 +1,4 @@
+-- `text::kernel::cut` meets its contract. Assumes nothing.
 use Prim.Native.Nat.{_+_, _-_, _≤_}
 use mathlib.Core.Path.{_≡_, refl, sym, _∙_}
 use native.Mathlib.Omega.{arith}
@@ -16,31 +17,24 @@ Inv-loop s p b i₀ i = (i + index b (drop i s) ≡ p + index b (drop p s)) × (
 abbrev μ-loop : tie.MeasureT-loop
 μ-loop s p b i₀ i = length s - i
 
--- src/lib.rt:158:5
 loop-holds : tie.Need-loop-holds Inv-loop μ-loop
 loop-holds c = (refl, search needs, search needs)
 
--- src/lib.rt:159:12
 shared-slice-read-if1 : tie.Need-shared-slice-read-if1 Inv-loop μ-loop
 shared-slice-read-if1 c = search needs
 
--- src/lib.rt:160:13
 returns : tie.Need-returns Inv-loop μ-loop
 returns c = (index-hit (c .before .before .before .before .args .b) (c .before .before .before .before .args .s .now) (c .before .before .before .loop .i) (omega arith) (c .if1 .taken) ∙ c .before .before .before .loop .inv .0, omega arith, omega arith)
 
--- src/lib.rt:162:9
 add-i : tie.Need-add-i Inv-loop μ-loop
 add-i c = search needs
 
--- src/lib.rt:158:5
 loop-less : tie.Need-loop-less Inv-loop μ-loop
 loop-less c = search needs
 
--- src/lib.rt:158:5
 loop-again : tie.Need-loop-again Inv-loop μ-loop
 loop-again c = (sym (index-miss (c .before .before .before .before .args .b) (c .before .before .before .before .args .s .now) (c .before .before .before .loop .i) (omega arith) (c .if1 .left)) ∙ c .before .before .before .loop .inv .0, omega arith, omega arith)
 
--- src/lib.rt:153:1
 returns-2 : tie.Need-returns-2 Inv-loop μ-loop
 returns-2 c = (index-none (c .before .before .args .b) (c .before .before .args .s .now) (c .before .loop .i) (omega arith) ∙ c .before .loop .inv .0, omega arith, omega arith)
 

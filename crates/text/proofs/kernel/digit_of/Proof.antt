@@ -1,3 +1,4 @@
+-- `text::kernel::digit_of` meets its contract. Assumes nothing.
 use mathlib.Core.Logic.{inl, inr}
 use native.Mathlib.Omega.{arith}
 use borrow.Author.Needs.{needs}
@@ -7,35 +8,27 @@ use Rattle.text.proofs.kernel.digit_of.Tie as tie
 use Rattle.text.proofs.kernel.digit_of.Reads as reads
 use Rattle.text.proofs.kernel.digit_of.Lts as lts
 
--- src/lib.rt:23:20
 cast-result : tie.Need-cast-result
 cast-result c = search needs
 
--- src/lib.rt:23:13
 returns : tie.Need-returns
 returns c = (digit-low (c .before .before .args .b) (omega arith) (omega arith), omega arith)
 
--- src/lib.rt:27:25
 sub-result : tie.Need-sub-result
 sub-result c = search needs
 
--- src/lib.rt:27:24
 cast-result-2 : tie.Need-cast-result-2
 cast-result-2 c = search needs
 
--- src/lib.rt:27:17
 returns-2 : tie.Need-returns-2
 returns-2 c = (digit-high (c .before .before .before .before .args .b) (omega arith) (omega arith), omega arith)
 
--- src/lib.rt:17:1
 returns-3 : tie.Need-returns-3
 returns-3 c = (digit-none (c .before .before .before .before .args .b) (inr (omega arith, inr (omega arith))), omega arith)
 
--- src/lib.rt:17:1
 returns-4 : tie.Need-returns-4
 returns-4 c = (digit-none (c .before .before .before .args .b) (inr (omega arith, inl (omega arith))), omega arith)
 
--- src/lib.rt:17:1
 returns-5 : tie.Need-returns-5
 returns-5 c = (digit-none (c .before .args .b) (inl (omega arith)), omega arith)
 

@@ -1,3 +1,4 @@
+-- `text::kernel::parse_bits` meets its contract. Assumes nothing.
 use mathlib.Core.Path.{_∙_}
 use borrow.Author.Needs.{needs}
 use Rattle.text.proofs.FieldLaws.{bits-in, bits-out}
@@ -7,15 +8,12 @@ use Rattle.text.proofs.kernel.parse_bits.Reads as reads
 use Rattle.text.proofs.kernel.parse_bits.Lts as lts
 use Rattle.text.proofs.kernel.parse_digits.Reads as parse-digits-reads
 
--- src/lib.rt:76:9
 parse-digits-requires : tie.Need-parse-digits-requires
 parse-digits-requires c κs = search needs
 
--- src/lib.rt:76:9
 returns : tie.Need-returns
 returns c = c .parse-digits .ensures ∙ bits-in (c .before .before .before .args .s .now) (c .before .if1 .taken)
 
--- src/lib.rt:72:1
 returns-2 : tie.Need-returns-2
 returns-2 c = bits-out (c .before .before .args .s .now) (c .if1 .left)
 

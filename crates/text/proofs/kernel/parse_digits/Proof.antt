@@ -1,3 +1,4 @@
+-- `text::kernel::parse_digits` meets its contract. Assumes nothing.
 use Prim.Native.Nat.{_+_, _*_, _-_, _≤_, _<_, _^_}
 use mathlib.Core.Path.{_≡_, refl, sym, _∙_}
 use native.Mathlib.Omega.{arith}
@@ -17,55 +18,42 @@ Inv-loop s base limit n₀ i₀ n i = (i ≤ length s) × (n ≤ limit) × (valu
 abbrev μ-loop : tie.MeasureT-loop
 μ-loop s base limit n₀ i₀ n i = length s - i
 
--- src/lib.rt:41:5
 loop-holds : tie.Need-loop-holds Inv-loop μ-loop
 loop-holds c = (search needs, search needs, refl)
 
--- src/lib.rt:42:26
 shared-slice-read-digit-of : tie.Need-shared-slice-read-digit-of Inv-loop μ-loop
 shared-slice-read-digit-of c = search needs
 
--- src/lib.rt:42:13
 digit-of-requires : tie.Need-digit-of-requires Inv-loop μ-loop
 digit-of-requires c κs = search needs
 
--- src/lib.rt:44:13
 returns : tie.Need-returns Inv-loop μ-loop
 returns c = sym (sym (c .before .before .before .before .loop .inv .2) ∙ value-bad (c .before .before .before .before .before .before .args .base) (c .before .before .before .before .before .before .args .limit) (c .before .before .before .before .before .before .args .s .now) (c .before .before .before .before .loop .i) (c .before .before .before .before .loop .n) (c .before .digit-of .result) (omega arith) (c .before .digit-of .ensures .0) (omega arith))
 
--- src/lib.rt:46:21
 sub-most : tie.Need-sub-most Inv-loop μ-loop
 sub-most c = search needs
 
--- src/lib.rt:46:20
 div-most : tie.Need-div-most Inv-loop μ-loop
 div-most c = search needs
 
--- src/lib.rt:48:13
 returns-2 : tie.Need-returns-2 Inv-loop μ-loop
 returns-2 c = sym (sym (c .before .before .before .before .before .loop .inv .2) ∙ value-over (c .before .before .before .before .before .before .before .args .base) (c .before .before .before .before .before .before .before .args .limit) (c .before .before .before .before .before .before .before .args .s .now) (c .before .before .before .before .before .loop .i) (c .before .before .before .before .before .loop .n) (c .before .before .digit-of .result) (omega arith) (c .before .before .digit-of .ensures .0) (omega arith) (omega arith) (omega arith))
 
--- src/lib.rt:50:13
 mul-n : tie.Need-mul-n Inv-loop μ-loop
 mul-n c = record { fits = omega (arith, within (c .before .before .before .before .before .before .before .args .base) (c .before .before .before .before .before .before .before .args .limit) (c .before .before .before .before .before .loop .n) (c .before .before .digit-of .result) (omega arith) (omega arith) (omega arith)) }
 
--- src/lib.rt:50:13
 add-n : tie.Need-add-n Inv-loop μ-loop
 add-n c = record { fits = omega (arith, within (c .before .before .before .before .before .before .before .args .base) (c .before .before .before .before .before .before .before .args .limit) (c .before .before .before .before .before .loop .n) (c .before .before .digit-of .result) (omega arith) (omega arith) (omega arith)) }
 
--- src/lib.rt:51:9
 add-i : tie.Need-add-i Inv-loop μ-loop
 add-i c = search needs
 
--- src/lib.rt:41:5
 loop-less : tie.Need-loop-less Inv-loop μ-loop
 loop-less c = search needs
 
--- src/lib.rt:41:5
 loop-again : tie.Need-loop-again Inv-loop μ-loop
 loop-again c = (omega arith, within (c .before .before .before .before .before .before .before .args .base) (c .before .before .before .before .before .before .before .args .limit) (c .before .before .before .before .before .loop .n) (c .before .before .digit-of .result) (omega arith) (omega arith) (omega arith), sym (value-step (c .before .before .before .before .before .before .before .args .base) (c .before .before .before .before .before .before .before .args .limit) (c .before .before .before .before .before .before .before .args .s .now) (c .before .before .before .before .before .loop .i) (c .before .before .before .before .before .loop .n) (c .before .before .digit-of .result) (omega arith) (c .before .before .digit-of .ensures .0) (omega arith)) ∙ c .before .before .before .before .before .loop .inv .2)
 
--- src/lib.rt:35:1
 returns-3 : tie.Need-returns-3 Inv-loop μ-loop
 returns-3 c = value-end (c .before .before .before .args .base) (c .before .before .before .args .limit) (c .before .before .before .args .s .now) (c .before .loop .i) (c .before .loop .n) (omega arith) (omega arith) ∙ c .before .loop .inv .2
 

@@ -1,3 +1,4 @@
+-- `text::kernel::parse_magnitude` meets its contract. Assumes nothing.
 use borrow.Author.Needs.{needs}
 use borrow.Author.Tests.{le-ltb, lt-ltb, eq-eqb, ne-eqb}
 use mathlib.Core.Path.{_∙_, sym}

@@ -1,3 +1,4 @@
+-- `text::kernel::parse_whole` meets its contract. Assumes nothing.
 use Prim.Native.Nat.{_^_}
 use mathlib.Core.Path.{_∙_, sym, ap}
 use native.Mathlib.Omega.{arith}
@@ -12,47 +13,36 @@ use Rattle.text.proofs.kernel.negative_whole.Reads as negative-whole-re
 use Rattle.text.proofs.kernel.parse_magnitude.Reads as parse-magnitude-reads
 use Rattle.text.proofs.kernel.positive_whole.Reads as positive-whole-reads
 
--- src/lib.rt:105:9
 returns : tie.Need-returns
 returns c = whole-none (c .before .before .args .s .now) (c .if1 .taken)
 
--- src/lib.rt:107:8
 shared-slice-read-if2 : tie.Need-shared-slice-read-if2
 shared-slice-read-if2 c = search needs
 
--- src/lib.rt:108:47
 sub-parse-magnitude : tie.Need-sub-parse-magnitude
 sub-parse-magnitude c = search needs
 
--- src/lib.rt:108:47
 part-parse-magnitude-start : tie.Need-part-parse-magnitude-start
 part-parse-magnitude-start c = search needs
 
--- src/lib.rt:108:47
 part-parse-magnitude-end : tie.Need-part-parse-magnitude-end
 part-parse-magnitude-end c = search needs
 
--- src/lib.rt:108:31
 parse-magnitude-requires : tie.Need-parse-magnitude-requires
 parse-magnitude-requires c κs = search needs
 
--- src/lib.rt:108:9
 negative-whole-requires : tie.Need-negative-whole-requires
 negative-whole-requires c κs = search needs
 
--- src/lib.rt:108:9
 returns-2 : tie.Need-returns-2
 returns-2 c = c .negative-whole .ensures ∙ (ap negative (c .before .parse-magnitude .ensures ∙ ap (magnitude) (part-from (c .before .before .before .before .before .before .before .args .s .now) 1)) ∙ whole-negative (c .before .before .before .before .before .before .before .args .s .now) (c .before .before .before .if2 .taken))
 
--- src/lib.rt:110:20
 parse-magnitude-requires-2 : tie.Need-parse-magnitude-requires-2
 parse-magnitude-requires-2 c κs = search needs
 
--- src/lib.rt:110:5
 positive-whole-requires : tie.Need-positive-whole-requires
 positive-whole-requires c κs = search needs
 
--- src/lib.rt:101:1
 returns-3 : tie.Need-returns-3
 returns-3 c = c .positive-whole .ensures ∙ (ap positive (c .before .parse-magnitude2 .ensures) ∙ whole-positive (c .before .before .before .before .before .before .args .s .now) (c .before .before .if2 .left))
 

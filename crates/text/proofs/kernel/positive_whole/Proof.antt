@@ -1,3 +1,4 @@
+-- `text::kernel::positive_whole` meets its contract. Assumes nothing.
 use native.Mathlib.Omega.{arith}
 use borrow.Author.Needs.{needs}
 use Rattle.text.proofs.FieldLaws.{positive-in, positive-out, positive-bad}
@@ -6,19 +7,15 @@ use Rattle.text.proofs.kernel.positive_whole.Tie as tie
 use Rattle.text.proofs.kernel.positive_whole.Reads as reads
 use Rattle.text.proofs.kernel.positive_whole.Lts as lts
 
--- src/lib.rt:71:23
 enum-known-m : tie.Need-enum-known-m
 enum-known-m c = search needs
 
--- src/lib.rt:73:27
 cast-t6 : tie.Need-cast-t6
 cast-t6 c = search needs
 
--- src/lib.rt:78:27
 enum-told : tie.Need-enum-told
 enum-told c = search needs
 
--- src/lib.rt:67:1
 returns : tie.Need-returns
 returns c = positive-in (c .before .before .before .before .args .m) (c .before .before .m .given .0 .0) (c .before .before .m .given .1) (omega arith)
 
