@@ -6,6 +6,6 @@ pub mod grid;
 pub mod irreducible;
 pub mod rows;
 pub mod steps;
-pub mod tables;
 pub mod study;
+pub mod tables;
 pub mod tp_type;
