@@ -1,0 +1,83 @@
+-- Reading, counting and setting marks. Assumes nothing.
+use mathlib.Core.Path.{_≡_, refl, sym, ap, _∙_}
+use mathlib.Core.Bool.{Bool, true, false}
+use mathlib.Core.List.{List, [], _∷_}
+use Prim.Native.Nat.{ℕ, zero, suc, _+_, _*_, _/_, _%_, _≤_, _<_}
+use native.Mathlib.Nat.{not-suc-le-zero, le-of-suc-le-suc, mod-lt, div-add-mod'}
+use native.Mathlib.Omega.{arith}
+use lib.Arith.{digits-div, digits-mod}
+use lib.Dec.{eqb, ltb}
+use lib.ListN.{length, getD, set}
+use borrow.Author.Tests.{eq-eqb, lt-ltb, le-ltb, ltb-true, ltb-false, eqb-true}
+use Rattle.list_laws.specs.Patch.{pick, patch}
+use Rattle.list_laws.proofs.PatchLaws.{length-patch, patch-more, patch-none, patch-ext}
+use Rattle.sheet_step.specs.Marks.{oneIf, countBelow, averagedMarks}
+
+-- within a list the default does not matter
+pub getD-any : {A : Type 0} (l : List A) (i : ℕ) (d e : A) → i < length l → getD l i d ≡ getD l i e
+getD-any [] i d e h = absurd (not-suc-le-zero h)
+getD-any (x ∷ l) zero d e h = refl
+getD-any (x ∷ l) (suc i) d e h = getD-any l i d e (le-of-suc-le-suc h)
+
+-- the first place of a row is not beyond
+pub row-start : (q b n : ℕ) → q < n → q / b * b < n
+row-start q b n h = omega (arith, div-add-mod' q b)
+
+-- ---- counting
+
+one-le : (b : Bool) → oneIf b ≤ 1
+one-le true = omega arith
+one-le false = omega arith
+
+pub count-le : (n : ℕ) (p : ℕ → Bool) → countBelow n p ≤ n
+unfolding countBelow
+count-le zero p = omega arith
+count-le (suc n) p = omega (arith, count-le n p, one-le (p n))
+
+pub count-next : (n m : ℕ) (p : ℕ → Bool) → m ≡ countBelow n p → (one : ℕ) → one ≡ oneIf (p n) → (m + one ≤ n + 1) × (m + one ≡ countBelow (suc n) p)
+unfolding countBelow
+count-next n m p e one h = (omega (arith, count-le n p, one-le (p n)), rw (e, h))
+
+-- ---- the marks of a triplet, the first n of them set to 2
+
+unfoldable pub someAveraged : ℕ → ℕ → ℕ → List ℕ → List ℕ
+someAveraged b t n m = patch (λ q. pick (eqb (q / b) t) (ltb (q % b) n) false) (λ q. 2) m
+
+module _ (b t : ℕ) (m : List ℕ) where
+  pub averaged-none : m ≡ someAveraged b t 0 m
+  unfolding someAveraged
+  averaged-none = sym (patch-none _ _ m (λ q _. go (eqb (q / b) t) (q % b)))
+    where
+      go : (u : Bool) (x : ℕ) → pick u (ltb x 0) false ≡ false
+      go true x = le-ltb x 0 (omega arith)
+      go false x = refl
+
+  pub averaged-more : (n : ℕ) → n < b → set (someAveraged b t n m) (t * b + n) 2 ≡ someAveraged b t (n + 1) m
+  unfolding someAveraged
+  averaged-more n h =
+      patch-more _ _ _ m (t * b + n) 2 refl
+      (rw (digits-div t h, digits-mod t h, eq-eqb t t refl, lt-ltb n (n + 1) (omega arith)))
+      (λ q _ ne. go q ne (eqb (q / b) t) refl (ltb (q % b) n) refl)
+    where
+      go : (q : ℕ) → (q ≡ t * b + n → ⊥) → (u : Bool) → eqb (q / b) t ≡ u → (v : Bool) → ltb (q % b) n ≡ v → pick u (ltb (q % b) (n + 1)) false ≡ pick u v false
+      go q ne false e v g = refl
+      go q ne true e true g = let g′ : q % b < n = ltb-true (q % b) n g in lt-ltb (q % b) (n + 1) (omega arith)
+      go q ne true e false g =
+          let g′ : n ≤ q % b = ltb-false (q % b) n g in
+          let e′ : q / b ≡ t = eqb-true (q / b) t e in
+          let z : q % b ≡ n → ⊥ = λ y. ne (sym (div-add-mod' q b) ∙ rw (e′, y)) in
+          le-ltb (q % b) (n + 1) (omega arith)
+
+  pub averaged-length : (n : ℕ) → length (someAveraged b t n m) ≡ length m
+  unfolding someAveraged
+  averaged-length n = length-patch _ _ m
+
+  pub averaged-all : (n : ℕ) → n ≡ b → 0 < b → someAveraged b t n m ≡ averagedMarks b t m
+  unfolding someAveraged averagedMarks
+  averaged-all n e hb =
+      patch-ext _ _ _ _ m
+      (λ q _ x. let s : pick (eqb (q / b) t) (ltb (q % b) n) false ≡ eqb (q / b) t = rw (e, lt-ltb (q % b) b (mod-lt q hb)) (flat (eqb (q / b) t)) in rw s)
+    where
+      flat : (u : Bool) → pick u true false ≡ u
+      flat true = refl
+      flat false = refl

@@ -1,0 +1,68 @@
+-- `sheet_step::kernel::marks::average_marks` meets its contract. Assumes nothing.
+use Prim.Native.Nat.{_*_, _+_, _-_, _<_, _≤_}
+use lib.ListN.{length}
+use mathlib.Core.Path.{_∙_, _≡_}
+use native.Mathlib.Omega.{arith}
+use Rattle.sheet_step.proofs.MarkLaws.{averaged-all, averaged-length, averaged-more, averaged-none, someAveraged}
+use Rattle.sheet_step.proofs.kernel.marks.average_marks.Statement.{statement}
+use Rattle.sheet_step.proofs.kernel.marks.average_marks.Tie as tie
+
+abbrev Inv-loop : tie.InvT-loop
+Inv-loop pairs marks₀ t base k₀ marks k =
+    (k ≤ pairs) × (marks ≡ someAveraged pairs t k marks₀)
+
+abbrev μ-loop : tie.MeasureT-loop
+μ-loop pairs marks₀ t base k₀ marks k =
+    pairs - k
+
+mul-base : tie.Need-mul-base Inv-loop μ-loop
+mul-base c =
+    omega arith
+
+loop-holds : tie.Need-loop-holds Inv-loop μ-loop
+loop-holds c =
+    (omega arith, averaged-none _ _ _)
+
+add-set-mark : tie.Need-add-set-mark Inv-loop μ-loop
+add-set-mark c =
+    omega arith
+
+set-mark-requires : tie.Need-set-mark-requires Inv-loop μ-loop
+set-mark-requires c κs =
+    rw (c .before .before .loop .inv .1, averaged-length (c .before .before .before .before .args .pairs) (c .before .before .before .before .args .t) (c .before .before .before .before .args .marks .now) (c .before .before .loop .k)) (let h : c .before .before .before .before .args .t * c .before .before .before .before .args .pairs + c .before .before .loop .k < length (c .before .before .before .before .args .marks .now) = omega arith in h)
+
+add-k : tie.Need-add-k Inv-loop μ-loop
+add-k c =
+    omega arith
+
+loop-less : tie.Need-loop-less Inv-loop μ-loop
+loop-less c =
+    omega arith
+
+loop-again : tie.Need-loop-again Inv-loop μ-loop
+loop-again c =
+    (omega arith, c .before .before .set-mark .ensures ∙ rw (c .before .before .before .before .before .loop .inv .1) (averaged-more (c .before .before .before .before .before .before .before .args .pairs) (c .before .before .before .before .before .before .before .args .t) (c .before .before .before .before .before .before .before .args .marks .now) (c .before .before .before .before .before .loop .k) (omega arith)))
+
+same-length : tie.Need-same-length Inv-loop μ-loop
+same-length c =
+    rw (c .before .loop .inv .1) (averaged-length (c .before .before .before .args .pairs) (c .before .before .before .args .t) (c .before .before .before .args .marks .now) (c .before .loop .k))
+
+returns : tie.Need-returns Inv-loop μ-loop
+returns c =
+    c .before .loop .inv .1 ∙ averaged-all (c .before .before .before .args .pairs) (c .before .before .before .args .t) (c .before .before .before .args .marks .now) (c .before .loop .k) (omega arith) (c .before .before .before .pre .0)
+
+pub average-marks-spec : {M : Type 1} → statement M
+average-marks-spec =
+    tie.close
+    (tie.spec
+    Inv-loop
+    μ-loop
+    mul-base
+    loop-holds
+    add-set-mark
+    set-mark-requires
+    add-k
+    loop-less
+    loop-again
+    same-length
+    returns)

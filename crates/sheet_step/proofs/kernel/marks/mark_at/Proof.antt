@@ -1,0 +1,16 @@
+-- `sheet_step::kernel::marks::mark_at` meets its contract. Assumes nothing.
+use borrow.Author.Needs.{needs}
+use Rattle.sheet_step.proofs.MarkLaws.{getD-any}
+use Rattle.sheet_step.proofs.kernel.marks.mark_at.Statement.{statement}
+use Rattle.sheet_step.proofs.kernel.marks.mark_at.Tie as tie
+
+shared-slice-read-result : tie.Need-shared-slice-read-result
+shared-slice-read-result c =
+    search needs
+
+returns : tie.Need-returns
+returns c =
+    getD-any (c .before .args .marks .now) (c .before .args .q) 0 1 (c .before .pre)
+
+pub mark-at-spec : {M : Type 1} → statement M
+mark-at-spec = tie.close (tie.spec shared-slice-read-result returns)

@@ -1,0 +1,182 @@
+-- A sheet, the calls on it, the questions of each call in document 01's order, and what a call does.
+use mathlib.Core.Path.{_≡_}
+use mathlib.Core.Bool.{Bool, _&&_}
+use mathlib.Core.List.{List, [], _∷_, _++_}
+use Prim.Native.Nat.{ℕ, zero, suc, _+_, _*_, _/_, _%_, _^_, _≤_}
+use lib.Dec.{eqb, ltb}
+use lib.IntN.{ℤ, pos}
+use lib.Ieee.{Float, nan}
+use lib.ListN.{getD, length, set}
+use lib.Signed.{mag}
+use Rattle.list_laws.specs.Lists.{allBelow, part}
+use Rattle.list_laws.specs.Patch.{patch}
+use Rattle.list_laws.specs.Signed.{isBelow}
+use Rattle.questions.specs.Ask.{Question, asks, firstNo, afterCall}
+use Rattle.questions.specs.Averages.{areDegenerateIds, areWeights}
+use Rattle.triplet_piece.specs.declared.Sizes.{Sizes}
+use Rattle.triplet_piece.specs.Layout.{tripletAt}
+use Rattle.triplet_piece.specs.Study.{sizesOf, computedWeights, computedFlags}
+use Rattle.triplet_study.specs.Given.{Given, givenQuestions, studyOf, areLengths}
+use Rattle.averaging.specs.Weights.{averaged}
+use Rattle.averaging.specs.Flags.{averagedFlags}
+use Rattle.sheet_marks.specs.declared.Tally.{Tally}
+use Rattle.sheet_step.specs.declared.SheetAnswer.{SheetAnswer}
+use Rattle.sheet_step.specs.declared.SheetAnswer.the-variants.{Done, Refused}
+use Rattle.sheet_step.specs.Marks.{isOpenAt, areMarks, isNotAveraged, areComputed, openPieces, carriedMarks, averagedMarks}
+
+-- "Weights, flags, marks, tally"
+pub record Sheet : Type 0 where
+  pub weights : List Float
+  pub flags : List ℤ
+  pub marks : List ℕ
+  pub tally : ℕ
+
+abbrev pub sheet : List Float → List ℤ → List ℕ → ℕ → Sheet
+sheet weights flags marks tally = record { weights = weights; flags = flags; marks = marks; tally = tally }
+
+-- a call's kind and its arguments apart from study, sheet and tally: run a named piece (triplet, b1, b2), carry on, average a triplet
+-- with two id lists
+pub data Call : Type 0 where
+  run : ℤ → ℤ → ℤ → Call
+  carry : Call
+  average : ℤ → List ℤ → List ℤ → Call
+
+-- the counts of a study
+abbrev pub countsOf : Given → Sizes
+countsOf g = sizesOf (studyOf g)
+
+-- what the questions on a study say of its counts
+pub record Counted (z : Sizes) : Type 0 where
+  pub channels-few : z .channels ≤ 3
+  pub triplets-few : z .triplets ≤ 65536
+  pub points-some : 1 ≤ z .points
+  pub points-few : z .points ≤ 1024
+  pub pairs-some : 1 ≤ z .pairs
+  pub pairs-few : z .pairs ≤ 4096
+  pub bands1-some : 1 ≤ z .bands1
+  pub bands2-some : 1 ≤ z .bands2
+  pub pairs-are : z .pairs ≡ z .bands1 * z .bands2
+  pub cells-are : z .cells ≡ z .triplets * z .points * z .pairs
+
+-- ---- the questions
+
+-- Question 12: "Is each lent buffer exactly as long as its record?" Marks: "one byte a piece".
+unfoldable pub areSheetLengths : Sizes → ℕ → ℕ → ℕ → Bool
+areSheetLengths z weights flags marks = areLengths z weights flags && eqb marks (z .triplets * z .pairs)
+
+-- Question 14: "Is the named triplet or piece on the sheet?"
+unfoldable pub isPiece : Sizes → ℤ → ℤ → ℤ → Bool
+isPiece z t b1 b2 = (isBelow t (z .triplets) && isBelow b1 (z .bands1)) && isBelow b2 (z .bands2)
+
+-- Question 17: "Have both id lists that length, each id its own place or the id before it?"
+unfoldable pub areIdLists : ℕ → List ℤ → List ℤ → Bool
+areIdLists bands ids1 ids2 = areDegenerateIds bands ids1 && areDegenerateIds bands ids2
+
+-- the weights of triplet t in channel c
+abbrev pub tripletWeights : Sizes → ℕ → ℕ → List Float → List Float
+tripletWeights z t c weights = part (c * z .cells + t * (z .points * z .pairs)) (z .points * z .pairs) weights
+
+-- Question 19: "Are its weights finite, magnitude at most 2^60, none a negative zero?"
+unfoldable pub areTripletWeights : Sizes → ℕ → List Float → Bool
+areTripletWeights z t weights = allBelow (z .channels) (λ c. areWeights (tripletWeights z t c weights))
+
+-- Question 20: "does the tally stay below 2^63 after all runs of this call?"
+unfoldable pub isRoom : ℕ → ℕ → Bool
+isRoom tally runs = ltb (tally + runs) (2 ^ 63)
+
+-- questions 12 and 13, which every call asks after those on the study
+abbrev pub sheetQuestions : Sizes → ℕ → ℕ → List ℕ → List Question
+sheetQuestions z weights flags marks =
+    asks 12 (areSheetLengths z weights flags (length marks)) ∷ asks 13 (areMarks (z .pairs) marks) ∷ []
+
+-- 14 and 15, of a named piece
+abbrev pub pieceQuestions : Sizes → List ℕ → ℤ → ℤ → ℤ → List Question
+pieceQuestions z marks t b1 b2 = asks 14 (isPiece z t b1 b2) ∷ asks 15 (isNotAveraged (z .pairs) marks (mag t)) ∷ []
+
+-- 14 to 19, of an averaging
+abbrev pub averageQuestions : Sizes → List Float → List ℕ → ℤ → List ℤ → List ℤ → List Question
+averageQuestions z weights marks t ids1 ids2 =
+    asks 14 (isBelow t (z .triplets))
+    ∷ asks 15 (isNotAveraged (z .pairs) marks (mag t))
+    ∷ asks 16 (eqb (z .bands1) (z .bands2))
+    ∷ asks 17 (areIdLists (z .bands1) ids1 ids2)
+    ∷ asks 18 (areComputed (z .pairs) marks (mag t))
+    ∷ asks 19 (areTripletWeights z (mag t) weights)
+    ∷ []
+
+-- 20, for so many runs
+abbrev pub tallyQuestions : ℕ → ℕ → List Question
+tallyQuestions tally runs = asks 20 (isRoom tally runs) ∷ []
+
+-- what the kinds of call ask each: to run 14, 15, 20; to carry on 20; to average 14 to 19
+abbrev pub ownQuestions : Given → Sheet → Call → List Question
+ownQuestions g s (run t b1 b2) = pieceQuestions (countsOf g) (s .marks) t b1 b2 ++ tallyQuestions (s .tally) 1
+ownQuestions g s carry = tallyQuestions (s .tally) (openPieces (s .marks))
+ownQuestions g s (average t ids1 ids2) = averageQuestions (countsOf g) (s .weights) (s .marks) t ids1 ids2
+
+-- "A call asks, in this order, those that concern what it takes": the study's 3 to 11, the sheet's 12 and 13, its own
+abbrev pub callQuestions : Given → Sheet → Call → List Question
+callQuestions g s c = givenQuestions g ++ (sheetQuestions (countsOf g) (length (s .weights)) (length (s .flags)) (s .marks) ++ ownQuestions g s c)
+
+-- "The first "no" is the result": its number, and 0 where the call is accepted
+unfoldable pub verdict : Given → Sheet → Call → ℕ
+verdict g s c = firstNo (callQuestions g s c)
+
+-- ---- what an accepted call does
+
+-- the piece of a triplet and two bands, by the place of its mark
+abbrev pub pieceOf : Sizes → ℤ → ℤ → ℤ → ℕ
+pieceOf z t b1 b2 = mag t * z .pairs + (mag b1 * z .bands2 + mag b2)
+
+-- row r of a list: one point of one triplet, of one channel
+abbrev pub rowOf : {A : Type 0} → ℕ → ℕ → List A → List A
+rowOf pairs r l = part (r * pairs) pairs l
+
+-- "what the degenerate sets of the lists .. make of" a row of weights, and of flags: its entry at place i
+abbrev pub averagedAt : Sizes → List ℤ → List ℤ → List Float → ℕ → Float
+averagedAt z ids1 ids2 row i = getD (averaged (z .bands1) ids1 ids2 row) (i % z .pairs) nan
+
+abbrev pub averagedFlagAt : Sizes → List ℤ → List ℤ → List ℤ → ℕ → ℤ
+averagedFlagAt z ids1 ids2 row j = getD (averagedFlags (z .bands1) ids1 ids2 row) (j % z .pairs) (pos 0)
+
+-- "Averaging one triplet (each channel, then flags)": the weights afterwards, each point and channel by itself
+unfoldable pub tripletAveraged : Sizes → ℕ → List ℤ → List ℤ → List Float → List Float
+tripletAveraged z t ids1 ids2 l =
+    patch (λ i. eqb (tripletAt (z .points) (z .pairs) (i % z .cells)) t) (λ i. averagedAt z ids1 ids2 (rowOf (z .pairs) (i / z .pairs) l) i) l
+
+-- the flags afterwards
+unfoldable pub tripletFlagsAveraged : Sizes → ℕ → List ℤ → List ℤ → List ℤ → List ℤ
+tripletFlagsAveraged z t ids1 ids2 l =
+    patch (λ j. eqb (tripletAt (z .points) (z .pairs) j) t) (λ j. averagedFlagAt z ids1 ids2 (rowOf (z .pairs) (j / z .pairs) l) j) l
+
+-- "Running a piece writes its own entries at every point and sets its mark to 1. Carrying on runs all pieces marked 0 .. Averaging one
+-- triplet .. sets its marks to 2. The tally counts accepted runs"
+unfoldable pub effect : Given → Sheet → Call → Sheet
+effect g s (run t b1 b2) =
+    sheet (computedWeights (studyOf g) (λ n. eqb n (pieceOf (countsOf g) t b1 b2)) (s .weights))
+    (computedFlags (studyOf g) (λ n. eqb n (pieceOf (countsOf g) t b1 b2)) (s .flags))
+    (set (s .marks) (pieceOf (countsOf g) t b1 b2) 1)
+    (s .tally + 1)
+effect g s carry =
+    sheet (computedWeights (studyOf g) (isOpenAt (s .marks)) (s .weights))
+    (computedFlags (studyOf g) (isOpenAt (s .marks)) (s .flags))
+    (carriedMarks (s .marks))
+    (s .tally + openPieces (s .marks))
+effect g s (average t ids1 ids2) =
+    sheet (tripletAveraged (countsOf g) (mag t) ids1 ids2 (s .weights))
+    (tripletFlagsAveraged (countsOf g) (mag t) ids1 ids2 (s .flags))
+    (averagedMarks (countsOf g .pairs) (mag t) (s .marks))
+    (s .tally)
+
+-- The sheet and the tally after a call; "a refused call changes no lent buffer, and the tally stays".
+unfoldable pub step : Given → Sheet → Call → Sheet
+step g s c = afterCall (verdict g s c) (effect g s c) s
+
+-- done with the tally, or refused with the number of the first no
+abbrev pub sheetAnswer : ℕ → ℕ → SheetAnswer
+sheetAnswer zero tally = Done (record { runs = tally })
+sheetAnswer (suc n) tally = Refused (suc n)
+
+-- the answer of a call
+abbrev pub stepAnswer : Given → Sheet → Call → SheetAnswer
+stepAnswer g s c = sheetAnswer (verdict g s c) (step g s c .tally)

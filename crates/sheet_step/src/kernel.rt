@@ -1,0 +1,3 @@
+// For the crates above.
+pub mod asks;
+pub mod marks;
