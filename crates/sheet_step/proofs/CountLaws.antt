@@ -25,6 +25,7 @@ counted g e =
       pairs-some = one-le-mul (r .bands1-low) (r .bands2-low);
       pairs-few = mul-le-mul (k .0) (k .1 .0);
       bands1-some = r .bands1-low;
+      bands1-few = k .0;
       bands2-some = r .bands2-low;
       pairs-are = refl;
       cells-are = refl;

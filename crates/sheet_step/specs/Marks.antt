@@ -54,6 +54,10 @@ countBelow (suc n) p = countBelow n p + oneIf (p n)
 unfoldable pub openPieces : List ℕ → ℕ
 openPieces marks = countBelow (length marks) (isOpenAt marks)
 
+-- how many of triplet t's are
+unfoldable pub openIn : ℕ → List ℕ → ℕ → ℕ
+openIn pairs marks t = countBelow pairs (λ k. isOpenAt marks (t * pairs + k))
+
 -- "each open piece becomes computed"
 abbrev pub closed : ℕ → ℕ
 closed mark = pick (eqb mark 0) 1 mark

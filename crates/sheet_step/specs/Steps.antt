@@ -54,6 +54,7 @@ pub record Counted (z : Sizes) : Type 0 where
   pub pairs-some : 1 ≤ z .pairs
   pub pairs-few : z .pairs ≤ 4096
   pub bands1-some : 1 ≤ z .bands1
+  pub bands1-few : z .bands1 ≤ 64
   pub bands2-some : 1 ≤ z .bands2
   pub pairs-are : z .pairs ≡ z .bands1 * z .bands2
   pub cells-are : z .cells ≡ z .triplets * z .points * z .pairs

@@ -2,7 +2,7 @@
 ghost use mathlib.Core.Path.{_≡_};
 ghost use Prim.Native.Nat.{_+_, _*_, _≤_, _<_};
 ghost use lib.ListN.{length, set};
-ghost use Rattle.sheet_step.specs.Marks.{markAt, isOpenAt, isMark, areMarks, isNotAveraged, areComputed, oneIf, openPieces, averagedMarks};
+ghost use Rattle.sheet_step.specs.Marks.{markAt, isOpenAt, isMark, areMarks, isNotAveraged, areComputed, oneIf, openPieces, openIn, averagedMarks};
 
 // Open, computed, averaged.
 pub const OPEN: u8 = 0;
@@ -88,6 +88,21 @@ pub fn open_pieces(marks: &[u8]) -> u64
     while q < marks.len() {
         count = count + one_if(mark_at(marks, q) == OPEN);
         q += 1;
+    }
+    count
+}
+
+// How many pieces of triplet `t` are open.
+pub fn open_in(pairs: usize, marks: &[u8], t: usize) -> u64
+    requires { ⌜ t * pairs + pairs ≤ length (now marks) ⌝ }
+    ensures { λ r. ⌜ r ≡ openIn pairs (now (marks .entry)) t ⌝ }
+{
+    let base = t * pairs;
+    let mut count: u64 = 0;
+    let mut k = 0;
+    while k < pairs {
+        count = count + one_if(mark_at(marks, base + k) == OPEN);
+        k += 1;
     }
     count
 }

@@ -1,0 +1,75 @@
+-- `sheet_fill::kernel::average::average_channel` meets its contract. Assumes nothing.
+use Prim.Native.Nat.{_*_, _+_, _≤_, ℕ}
+use lib.ListN.{length}
+use mathlib.Core.Path.{_∙_, _≡_, ap, sym}
+use native.Mathlib.Omega.{arith}
+use Rattle.list_laws.proofs.FillLaws.{part-length}
+use Rattle.sheet_fill.proofs.AverageLaws.{channel-back, length-group}
+use Rattle.sheet_step.proofs.CountLaws.{channel-place, entries-few, few, size-few, triplet-place}
+use Rattle.sheet_fill.proofs.kernel.average.average_channel.Statement.{statement}
+use Rattle.sheet_fill.proofs.kernel.average.average_channel.Tie as tie
+
+mul-size : tie.Need-mul-size
+mul-size c =
+    let p : _ = channel-place (c .before .before .args .z) (c .before .before .pre .0 .0) (c .before .before .args .t) (c .before .before .args .c) (c .before .before .pre .0 .1 .0 .0) (c .before .before .pre .0 .1 .0 .1) in let tp : _ = triplet-place (c .before .before .args .z) (c .before .before .pre .0 .0) (c .before .before .args .t) (c .before .before .pre .0 .1 .0 .0) in omega (arith, p, tp, entries-few (c .before .before .args .z) (c .before .before .pre .0 .0), size-few (c .before .before .args .z) (c .before .before .pre .0 .0), few (c .before .before .args .z) (c .before .before .pre .0 .0), c .before .before .pre .1 .0)
+
+mul-start : tie.Need-mul-start
+mul-start c =
+    let p : _ = channel-place (c .before .before .before .args .z) (c .before .before .before .pre .0 .0) (c .before .before .before .args .t) (c .before .before .before .args .c) (c .before .before .before .pre .0 .1 .0 .0) (c .before .before .before .pre .0 .1 .0 .1) in let tp : _ = triplet-place (c .before .before .before .args .z) (c .before .before .before .pre .0 .0) (c .before .before .before .args .t) (c .before .before .before .pre .0 .1 .0 .0) in omega (arith, p, tp, entries-few (c .before .before .before .args .z) (c .before .before .before .pre .0 .0), size-few (c .before .before .before .args .z) (c .before .before .before .pre .0 .0), few (c .before .before .before .args .z) (c .before .before .before .pre .0 .0), c .before .before .before .pre .1 .0)
+
+mul-start-2 : tie.Need-mul-start-2
+mul-start-2 c =
+    let p : _ = channel-place (c .before .before .before .args .z) (c .before .before .before .pre .0 .0) (c .before .before .before .args .t) (c .before .before .before .args .c) (c .before .before .before .pre .0 .1 .0 .0) (c .before .before .before .pre .0 .1 .0 .1) in let tp : _ = triplet-place (c .before .before .before .args .z) (c .before .before .before .pre .0 .0) (c .before .before .before .args .t) (c .before .before .before .pre .0 .1 .0 .0) in omega (arith, p, tp, entries-few (c .before .before .before .args .z) (c .before .before .before .pre .0 .0), size-few (c .before .before .before .args .z) (c .before .before .before .pre .0 .0), few (c .before .before .before .args .z) (c .before .before .before .pre .0 .0), c .before .before .before .pre .1 .0)
+
+add-start : tie.Need-add-start
+add-start c =
+    let p : _ = channel-place (c .before .before .before .args .z) (c .before .before .before .pre .0 .0) (c .before .before .before .args .t) (c .before .before .before .args .c) (c .before .before .before .pre .0 .1 .0 .0) (c .before .before .before .pre .0 .1 .0 .1) in let tp : _ = triplet-place (c .before .before .before .args .z) (c .before .before .before .pre .0 .0) (c .before .before .before .args .t) (c .before .before .before .pre .0 .1 .0 .0) in omega (arith, p, tp, entries-few (c .before .before .before .args .z) (c .before .before .before .pre .0 .0), size-few (c .before .before .before .args .z) (c .before .before .before .pre .0 .0), few (c .before .before .before .args .z) (c .before .before .before .pre .0 .0), c .before .before .before .pre .1 .0)
+
+add-end : tie.Need-add-end
+add-end c =
+    let p : _ = channel-place (c .before .before .before .args .z) (c .before .before .before .pre .0 .0) (c .before .before .before .args .t) (c .before .before .before .args .c) (c .before .before .before .pre .0 .1 .0 .0) (c .before .before .before .pre .0 .1 .0 .1) in let tp : _ = triplet-place (c .before .before .before .args .z) (c .before .before .before .pre .0 .0) (c .before .before .before .args .t) (c .before .before .before .pre .0 .1 .0 .0) in omega (arith, p, tp, entries-few (c .before .before .before .args .z) (c .before .before .before .pre .0 .0), size-few (c .before .before .before .args .z) (c .before .before .before .pre .0 .0), few (c .before .before .before .args .z) (c .before .before .before .pre .0 .0), c .before .before .before .pre .1 .0)
+
+mul-average-points : tie.Need-mul-average-points
+mul-average-points c =
+    let p : _ = channel-place (c .before .before .before .args .z) (c .before .before .before .pre .0 .0) (c .before .before .before .args .t) (c .before .before .before .args .c) (c .before .before .before .pre .0 .1 .0 .0) (c .before .before .before .pre .0 .1 .0 .1) in let tp : _ = triplet-place (c .before .before .before .args .z) (c .before .before .before .pre .0 .0) (c .before .before .before .args .t) (c .before .before .before .pre .0 .1 .0 .0) in omega (arith, p, tp, entries-few (c .before .before .before .args .z) (c .before .before .before .pre .0 .0), size-few (c .before .before .before .args .z) (c .before .before .before .pre .0 .0), few (c .before .before .before .args .z) (c .before .before .before .pre .0 .0), c .before .before .before .pre .1 .0)
+
+sub-average-points : tie.Need-sub-average-points
+sub-average-points c =
+    let p : _ = channel-place (c .before .before .before .args .z) (c .before .before .before .pre .0 .0) (c .before .before .before .args .t) (c .before .before .before .args .c) (c .before .before .before .pre .0 .1 .0 .0) (c .before .before .before .pre .0 .1 .0 .1) in let tp : _ = triplet-place (c .before .before .before .args .z) (c .before .before .before .pre .0 .0) (c .before .before .before .args .t) (c .before .before .before .pre .0 .1 .0 .0) in omega (arith, p, tp, entries-few (c .before .before .before .args .z) (c .before .before .before .pre .0 .0), size-few (c .before .before .before .args .z) (c .before .before .before .pre .0 .0), few (c .before .before .before .args .z) (c .before .before .before .pre .0 .0), c .before .before .before .pre .1 .0)
+
+part-average-points-start : tie.Need-part-average-points-start
+part-average-points-start c =
+    let p : _ = channel-place (c .before .before .before .args .z) (c .before .before .before .pre .0 .0) (c .before .before .before .args .t) (c .before .before .before .args .c) (c .before .before .before .pre .0 .1 .0 .0) (c .before .before .before .pre .0 .1 .0 .1) in let tp : _ = triplet-place (c .before .before .before .args .z) (c .before .before .before .pre .0 .0) (c .before .before .before .args .t) (c .before .before .before .pre .0 .1 .0 .0) in omega (arith, p, tp, entries-few (c .before .before .before .args .z) (c .before .before .before .pre .0 .0), size-few (c .before .before .before .args .z) (c .before .before .before .pre .0 .0), few (c .before .before .before .args .z) (c .before .before .before .pre .0 .0), c .before .before .before .pre .1 .0)
+
+part-average-points-end : tie.Need-part-average-points-end
+part-average-points-end c =
+    let p : _ = channel-place (c .before .before .before .args .z) (c .before .before .before .pre .0 .0) (c .before .before .before .args .t) (c .before .before .before .args .c) (c .before .before .before .pre .0 .1 .0 .0) (c .before .before .before .pre .0 .1 .0 .1) in let tp : _ = triplet-place (c .before .before .before .args .z) (c .before .before .before .pre .0 .0) (c .before .before .before .args .t) (c .before .before .before .pre .0 .1 .0 .0) in omega (arith, p, tp, entries-few (c .before .before .before .args .z) (c .before .before .before .pre .0 .0), size-few (c .before .before .before .args .z) (c .before .before .before .pre .0 .0), few (c .before .before .before .args .z) (c .before .before .before .pre .0 .0), c .before .before .before .pre .1 .0)
+
+average-points-requires : tie.Need-average-points-requires
+average-points-requires c κs =
+    let p : _ = channel-place (c .before .before .before .before .args .z) (c .before .before .before .before .pre .0 .0) (c .before .before .before .before .args .t) (c .before .before .before .before .args .c) (c .before .before .before .before .pre .0 .1 .0 .0) (c .before .before .before .before .pre .0 .1 .0 .1) in let tp : _ = triplet-place (c .before .before .before .before .args .z) (c .before .before .before .before .pre .0 .0) (c .before .before .before .before .args .t) (c .before .before .before .before .pre .0 .1 .0 .0) in let sq : c .before .before .before .before .args .z .pairs ≡ c .before .before .before .before .args .z .bands1 * c .before .before .before .before .args .z .bands1 = (c .before .before .before .before .pre .0 .0) .pairs-are ∙ ap (λ (n : ℕ). c .before .before .before .before .args .z .bands1 * n) (sym (c .before .before .before .before .pre .0 .1 .1 .0)) in let f : (c .before .before .before .before .args .c * c .before .before .before .before .args .z .cells + c .before .before .before .before .args .t * (c .before .before .before .before .args .z .points * c .before .before .before .before .args .z .pairs)) + (c .before .before .before .before .args .z .points * c .before .before .before .before .args .z .pairs) ≤ length (c .before .before .before .before .args .weights .now) = omega (arith, p, c .before .before .before .before .pre .1 .0) in ((part-length (c .before .before .before .before .args .weights .now) (c .before .before .before .before .args .c * c .before .before .before .before .args .z .cells + c .before .before .before .before .args .t * (c .before .before .before .before .args .z .points * c .before .before .before .before .args .z .pairs)) (c .before .before .before .before .args .z .points * c .before .before .before .before .args .z .pairs) f ∙ ap (λ (n : ℕ). c .before .before .before .before .args .z .points * n) sq, c .before .before .before .before .pre .0 .1 .1 .1), (c .before .before .before .before .pre .1 .1 .0, c .before .before .before .before .pre .1 .1 .1))
+
+same-length : tie.Need-same-length
+same-length c =
+    let p : _ = channel-place (c .before .before .before .before .before .before .before .args .z) (c .before .before .before .before .before .before .before .pre .0 .0) (c .before .before .before .before .before .before .before .args .t) (c .before .before .before .before .before .before .before .args .c) (c .before .before .before .before .before .before .before .pre .0 .1 .0 .0) (c .before .before .before .before .before .before .before .pre .0 .1 .0 .1) in let tp : _ = triplet-place (c .before .before .before .before .before .before .before .args .z) (c .before .before .before .before .before .before .before .pre .0 .0) (c .before .before .before .before .before .before .before .args .t) (c .before .before .before .before .before .before .before .pre .0 .1 .0 .0) in let f : (c .before .before .before .before .before .before .before .args .c * c .before .before .before .before .before .before .before .args .z .cells + c .before .before .before .before .before .before .before .args .t * (c .before .before .before .before .before .before .before .args .z .points * c .before .before .before .before .before .before .before .args .z .pairs)) + (c .before .before .before .before .before .before .before .args .z .points * c .before .before .before .before .before .before .before .args .z .pairs) ≤ length (c .before .before .before .before .before .before .before .args .weights .now) = omega (arith, p, c .before .before .before .before .before .before .before .pre .1 .0) in ap length (channel-back (c .before .before .before .before .before .before .before .args .z) (c .before .before .before .before .before .before .before .pre .0 .0) (c .before .before .before .before .before .before .before .args .degenerate-ids1 .now) (c .before .before .before .before .before .before .before .args .degenerate-ids2 .now) (c .before .before .before .before .before .before .before .pre .0 .1 .1 .0) (c .before .before .before .before .before .before .before .args .t) (c .before .before .before .before .before .before .before .args .c) (c .before .before .before .before .before .before .before .args .weights .now) _ (c .before .before .average-points .ensures) f) ∙ length-group (c .before .before .before .before .before .before .before .args .z) (c .before .before .before .before .before .before .before .pre .0 .0) (c .before .before .before .before .before .before .before .args .degenerate-ids1 .now) (c .before .before .before .before .before .before .before .args .degenerate-ids2 .now) (c .before .before .before .before .before .before .before .pre .0 .1 .1 .0) (c .before .before .before .before .before .before .before .args .c * c .before .before .before .before .before .before .before .args .z .triplets + c .before .before .before .before .before .before .before .args .t) (c .before .before .before .before .before .before .before .args .weights .now)
+
+returns : tie.Need-returns
+returns c =
+    let p : _ = channel-place (c .before .before .before .before .before .before .before .args .z) (c .before .before .before .before .before .before .before .pre .0 .0) (c .before .before .before .before .before .before .before .args .t) (c .before .before .before .before .before .before .before .args .c) (c .before .before .before .before .before .before .before .pre .0 .1 .0 .0) (c .before .before .before .before .before .before .before .pre .0 .1 .0 .1) in let tp : _ = triplet-place (c .before .before .before .before .before .before .before .args .z) (c .before .before .before .before .before .before .before .pre .0 .0) (c .before .before .before .before .before .before .before .args .t) (c .before .before .before .before .before .before .before .pre .0 .1 .0 .0) in let f : (c .before .before .before .before .before .before .before .args .c * c .before .before .before .before .before .before .before .args .z .cells + c .before .before .before .before .before .before .before .args .t * (c .before .before .before .before .before .before .before .args .z .points * c .before .before .before .before .before .before .before .args .z .pairs)) + (c .before .before .before .before .before .before .before .args .z .points * c .before .before .before .before .before .before .before .args .z .pairs) ≤ length (c .before .before .before .before .before .before .before .args .weights .now) = omega (arith, p, c .before .before .before .before .before .before .before .pre .1 .0) in channel-back (c .before .before .before .before .before .before .before .args .z) (c .before .before .before .before .before .before .before .pre .0 .0) (c .before .before .before .before .before .before .before .args .degenerate-ids1 .now) (c .before .before .before .before .before .before .before .args .degenerate-ids2 .now) (c .before .before .before .before .before .before .before .pre .0 .1 .1 .0) (c .before .before .before .before .before .before .before .args .t) (c .before .before .before .before .before .before .before .args .c) (c .before .before .before .before .before .before .before .args .weights .now) _ (c .before .before .average-points .ensures) f
+
+pub average-channel-spec : {M : Type 1} → statement M
+average-channel-spec =
+    tie.close
+    (tie.spec
+    mul-size
+    mul-start
+    mul-start-2
+    add-start
+    add-end
+    mul-average-points
+    sub-average-points
+    part-average-points-start
+    part-average-points-end
+    average-points-requires
+    same-length
+    returns)

@@ -1,0 +1,60 @@
+-- `sheet_fill::kernel::average::average_flags` meets its contract. Assumes nothing.
+use Prim.Native.Nat.{_*_, _+_, _≤_, ℕ}
+use lib.ListN.{length}
+use mathlib.Core.Path.{_∙_, _≡_, ap, sym}
+use native.Mathlib.Omega.{arith}
+use Rattle.list_laws.proofs.FillLaws.{part-length}
+use Rattle.sheet_fill.proofs.AverageLaws.{flags-back, length-averaged}
+use Rattle.sheet_step.proofs.CountLaws.{few, size-few, triplet-place}
+use Rattle.sheet_fill.proofs.kernel.average.average_flags.Statement.{statement}
+use Rattle.sheet_fill.proofs.kernel.average.average_flags.Tie as tie
+
+mul-size : tie.Need-mul-size
+mul-size c =
+    omega (arith, size-few (c .before .args .z) (c .before .pre .0 .0))
+
+mul-start : tie.Need-mul-start
+mul-start c =
+    let p : _ = triplet-place (c .before .args .z) (c .before .pre .0 .0) (c .before .args .t) (c .before .pre .0 .1 .0) in omega (arith, p, few (c .before .args .z) (c .before .pre .0 .0))
+
+add-end : tie.Need-add-end
+add-end c =
+    let p : _ = triplet-place (c .before .args .z) (c .before .pre .0 .0) (c .before .args .t) (c .before .pre .0 .1 .0) in omega (arith, p, few (c .before .args .z) (c .before .pre .0 .0))
+
+sub-average-points : tie.Need-sub-average-points
+sub-average-points c =
+    let p : _ = triplet-place (c .before .args .z) (c .before .pre .0 .0) (c .before .args .t) (c .before .pre .0 .1 .0) in omega (arith, p, few (c .before .args .z) (c .before .pre .0 .0), c .before .pre .1 .0)
+
+part-average-points-start : tie.Need-part-average-points-start
+part-average-points-start c =
+    let p : _ = triplet-place (c .before .args .z) (c .before .pre .0 .0) (c .before .args .t) (c .before .pre .0 .1 .0) in omega (arith, p, few (c .before .args .z) (c .before .pre .0 .0), c .before .pre .1 .0)
+
+part-average-points-end : tie.Need-part-average-points-end
+part-average-points-end c =
+    let p : _ = triplet-place (c .before .args .z) (c .before .pre .0 .0) (c .before .args .t) (c .before .pre .0 .1 .0) in omega (arith, p, few (c .before .args .z) (c .before .pre .0 .0), c .before .pre .1 .0)
+
+average-points-requires : tie.Need-average-points-requires
+average-points-requires c κs =
+    let p : _ = triplet-place (c .before .before .args .z) (c .before .before .pre .0 .0) (c .before .before .args .t) (c .before .before .pre .0 .1 .0) in let sq : c .before .before .args .z .pairs ≡ c .before .before .args .z .bands1 * c .before .before .args .z .bands1 = (c .before .before .pre .0 .0) .pairs-are ∙ ap (λ (n : ℕ). c .before .before .args .z .bands1 * n) (sym (c .before .before .pre .0 .1 .1 .0)) in let f : (c .before .before .args .t * (c .before .before .args .z .points * c .before .before .args .z .pairs)) + (c .before .before .args .z .points * c .before .before .args .z .pairs) ≤ length (c .before .before .args .flags .now) = omega (arith, p, c .before .before .pre .1 .0) in ((part-length (c .before .before .args .flags .now) (c .before .before .args .t * (c .before .before .args .z .points * c .before .before .args .z .pairs)) (c .before .before .args .z .points * c .before .before .args .z .pairs) f ∙ ap (λ (n : ℕ). c .before .before .args .z .points * n) sq, c .before .before .pre .0 .1 .1 .1), (c .before .before .pre .1 .1 .0, c .before .before .pre .1 .1 .1))
+
+same-length : tie.Need-same-length
+same-length c =
+    let p : _ = triplet-place (c .before .before .before .before .args .z) (c .before .before .before .before .pre .0 .0) (c .before .before .before .before .args .t) (c .before .before .before .before .pre .0 .1 .0) in let f : (c .before .before .before .before .args .t * (c .before .before .before .before .args .z .points * c .before .before .before .before .args .z .pairs)) + (c .before .before .before .before .args .z .points * c .before .before .before .before .args .z .pairs) ≤ length (c .before .before .before .before .args .flags .now) = omega (arith, p, c .before .before .before .before .pre .1 .0) in ap length (flags-back (c .before .before .before .before .args .z) (c .before .before .before .before .pre .0 .0) (c .before .before .before .before .args .degenerate-ids1 .now) (c .before .before .before .before .args .degenerate-ids2 .now) (c .before .before .before .before .pre .0 .1 .1 .0) (c .before .before .before .before .args .t) (c .before .before .before .before .args .flags .now) _ (c .before .before .before .before .pre .0 .1 .0) f (c .before .average-points .ensures)) ∙ length-averaged (c .before .before .before .before .args .z) (c .before .before .before .before .pre .0 .0) (c .before .before .before .before .args .degenerate-ids1 .now) (c .before .before .before .before .args .degenerate-ids2 .now) (c .before .before .before .before .pre .0 .1 .1 .0) (c .before .before .before .before .args .t) (c .before .before .before .before .args .flags .now)
+
+returns : tie.Need-returns
+returns c =
+    let p : _ = triplet-place (c .before .before .before .before .args .z) (c .before .before .before .before .pre .0 .0) (c .before .before .before .before .args .t) (c .before .before .before .before .pre .0 .1 .0) in let f : (c .before .before .before .before .args .t * (c .before .before .before .before .args .z .points * c .before .before .before .before .args .z .pairs)) + (c .before .before .before .before .args .z .points * c .before .before .before .before .args .z .pairs) ≤ length (c .before .before .before .before .args .flags .now) = omega (arith, p, c .before .before .before .before .pre .1 .0) in flags-back (c .before .before .before .before .args .z) (c .before .before .before .before .pre .0 .0) (c .before .before .before .before .args .degenerate-ids1 .now) (c .before .before .before .before .args .degenerate-ids2 .now) (c .before .before .before .before .pre .0 .1 .1 .0) (c .before .before .before .before .args .t) (c .before .before .before .before .args .flags .now) _ (c .before .before .before .before .pre .0 .1 .0) f (c .before .average-points .ensures)
+
+pub average-flags-spec : {M : Type 1} → statement M
+average-flags-spec =
+    tie.close
+    (tie.spec
+    mul-size
+    mul-start
+    add-end
+    sub-average-points
+    part-average-points-start
+    part-average-points-end
+    average-points-requires
+    same-length
+    returns)

@@ -1,0 +1,58 @@
+-- `sheet_fill::kernel::carry::fill_triplet_if_open` meets its contract. Assumes nothing.
+use Prim.Native.Nat.{_*_, _+_}
+use lib.ListN.{length}
+use mathlib.Core.Path.{_∙_, _≡_, ap, refl, sym}
+use Rattle.list_laws.proofs.ProductLaws.{row-le}
+use Rattle.sheet_fill.proofs.CarryLaws.{flags-shut, marks-shut, weights-shut}
+use Rattle.sheet_fill.proofs.WithinLaws.{length-closed}
+use Rattle.sheet_fill.specs.Within.{openWithin}
+use Rattle.sheet_step.specs.Marks.{openIn}
+use Rattle.triplet_piece.proofs.StudyLaws.{length-computed, length-computed-flags}
+use Rattle.triplet_piece.specs.Study.{study}
+use Rattle.sheet_fill.proofs.kernel.carry.fill_triplet_if_open.Statement.{statement}
+use Rattle.sheet_fill.proofs.kernel.carry.fill_triplet_if_open.Tie as tie
+
+open-in-requires : tie.Need-open-in-requires
+open-in-requires c κs =
+    rw (c .before .before .before .before .before .before .pre .1 .1 .1 .1) (row-le (c .before .before .before .before .before .before .args .z .pairs) (c .before .before .before .before .before .before .pre .1 .1 .1 .0))
+
+same-length : tie.Need-same-length
+same-length c =
+    refl
+
+returns : tie.Need-returns
+returns c =
+    let z0 : openIn (c .before .before .before .before .before .before .before .before .args .z .pairs) (c .before .before .before .before .before .before .before .before .args .marks .now) (c .before .before .before .before .before .before .before .before .args .t) ≡ 0 = sym (c .before .open-in .ensures) ∙ c .if1 .taken in (weights-shut (c .before .before .before .before .before .before .before .before .args .marks .now) (c .before .before .before .before .before .before .before .before .args .z .pairs) (c .before .before .before .before .before .before .before .before .args .t) z0 (study (c .before .before .before .before .before .before .before .before .args .tp) (c .before .before .before .before .before .before .before .before .args .grid) (c .before .before .before .before .before .before .before .before .args .addresses .now) (c .before .before .before .before .before .before .before .before .args .gp-map .now) (c .before .before .before .before .before .before .before .before .args .steps .now) (c .before .before .before .before .before .before .before .before .args .z .bands1) (c .before .before .before .before .before .before .before .before .args .z .bands2) (c .before .before .before .before .before .before .before .before .args .frequencies1 .now) (c .before .before .before .before .before .before .before .before .args .frequencies2 .now) (c .before .before .before .before .before .before .before .before .args .points .now) (c .before .before .before .before .before .before .before .before .args .triplets .now)) (c .before .before .before .before .before .before .before .before .args .weights .now), (flags-shut (c .before .before .before .before .before .before .before .before .args .marks .now) (c .before .before .before .before .before .before .before .before .args .z .pairs) (c .before .before .before .before .before .before .before .before .args .t) z0 (study (c .before .before .before .before .before .before .before .before .args .tp) (c .before .before .before .before .before .before .before .before .args .grid) (c .before .before .before .before .before .before .before .before .args .addresses .now) (c .before .before .before .before .before .before .before .before .args .gp-map .now) (c .before .before .before .before .before .before .before .before .args .steps .now) (c .before .before .before .before .before .before .before .before .args .z .bands1) (c .before .before .before .before .before .before .before .before .args .z .bands2) (c .before .before .before .before .before .before .before .before .args .frequencies1 .now) (c .before .before .before .before .before .before .before .before .args .frequencies2 .now) (c .before .before .before .before .before .before .before .before .args .points .now) (c .before .before .before .before .before .before .before .before .args .triplets .now)) (c .before .before .before .before .before .before .before .before .args .flags .now), marks-shut (c .before .before .before .before .before .before .before .before .args .marks .now) (c .before .before .before .before .before .before .before .before .args .z .pairs) (c .before .before .before .before .before .before .before .before .args .t) z0))
+
+fill-open-triplet-requires : tie.Need-fill-open-triplet-requires
+fill-open-triplet-requires c κs =
+    c .before .before .before .before .before .before .before .before .before .before .before .pre
+
+same-length-2 : tie.Need-same-length-2
+same-length-2 c =
+    ap length (c .before .before .before .before .before .fill-open-triplet .ensures .0) ∙ length-computed (study (c .before .before .before .before .before .before .before .before .before .before .before .before .before .before .before .before .before .args .tp) (c .before .before .before .before .before .before .before .before .before .before .before .before .before .before .before .before .before .args .grid) (c .before .before .before .before .before .before .before .before .before .before .before .before .before .before .before .before .before .args .addresses .now) (c .before .before .before .before .before .before .before .before .before .before .before .before .before .before .before .before .before .args .gp-map .now) (c .before .before .before .before .before .before .before .before .before .before .before .before .before .before .before .before .before .args .steps .now) (c .before .before .before .before .before .before .before .before .before .before .before .before .before .before .before .before .before .args .z .bands1) (c .before .before .before .before .before .before .before .before .before .before .before .before .before .before .before .before .before .args .z .bands2) (c .before .before .before .before .before .before .before .before .before .before .before .before .before .before .before .before .before .args .frequencies1 .now) (c .before .before .before .before .before .before .before .before .before .before .before .before .before .before .before .before .before .args .frequencies2 .now) (c .before .before .before .before .before .before .before .before .before .before .before .before .before .before .before .before .before .args .points .now) (c .before .before .before .before .before .before .before .before .before .before .before .before .before .before .before .before .before .args .triplets .now)) (openWithin (c .before .before .before .before .before .before .before .before .before .before .before .before .before .before .before .before .before .args .marks .now) (c .before .before .before .before .before .before .before .before .before .before .before .before .before .before .before .before .before .args .t * c .before .before .before .before .before .before .before .before .before .before .before .before .before .before .before .before .before .args .z .pairs) ((c .before .before .before .before .before .before .before .before .before .before .before .before .before .before .before .before .before .args .t * c .before .before .before .before .before .before .before .before .before .before .before .before .before .before .before .before .before .args .z .pairs) + c .before .before .before .before .before .before .before .before .before .before .before .before .before .before .before .before .before .args .z .pairs)) (c .before .before .before .before .before .before .before .before .before .before .before .before .before .before .before .before .before .args .weights .now)
+
+same-length-3 : tie.Need-same-length-3
+same-length-3 c =
+    ap length (c .before .before .before .before .before .fill-open-triplet .ensures .1 .0) ∙ length-computed-flags (study (c .before .before .before .before .before .before .before .before .before .before .before .before .before .before .before .before .before .args .tp) (c .before .before .before .before .before .before .before .before .before .before .before .before .before .before .before .before .before .args .grid) (c .before .before .before .before .before .before .before .before .before .before .before .before .before .before .before .before .before .args .addresses .now) (c .before .before .before .before .before .before .before .before .before .before .before .before .before .before .before .before .before .args .gp-map .now) (c .before .before .before .before .before .before .before .before .before .before .before .before .before .before .before .before .before .args .steps .now) (c .before .before .before .before .before .before .before .before .before .before .before .before .before .before .before .before .before .args .z .bands1) (c .before .before .before .before .before .before .before .before .before .before .before .before .before .before .before .before .before .args .z .bands2) (c .before .before .before .before .before .before .before .before .before .before .before .before .before .before .before .before .before .args .frequencies1 .now) (c .before .before .before .before .before .before .before .before .before .before .before .before .before .before .before .before .before .args .frequencies2 .now) (c .before .before .before .before .before .before .before .before .before .before .before .before .before .before .before .before .before .args .points .now) (c .before .before .before .before .before .before .before .before .before .before .before .before .before .before .before .before .before .args .triplets .now)) (openWithin (c .before .before .before .before .before .before .before .before .before .before .before .before .before .before .before .before .before .args .marks .now) (c .before .before .before .before .before .before .before .before .before .before .before .before .before .before .before .before .before .args .t * c .before .before .before .before .before .before .before .before .before .before .before .before .before .before .before .before .before .args .z .pairs) ((c .before .before .before .before .before .before .before .before .before .before .before .before .before .before .before .before .before .args .t * c .before .before .before .before .before .before .before .before .before .before .before .before .before .before .before .before .before .args .z .pairs) + c .before .before .before .before .before .before .before .before .before .before .before .before .before .before .before .before .before .args .z .pairs)) (c .before .before .before .before .before .before .before .before .before .before .before .before .before .before .before .before .before .args .flags .now)
+
+same-length-4 : tie.Need-same-length-4
+same-length-4 c =
+    ap length (c .before .before .before .before .before .fill-open-triplet .ensures .1 .1) ∙ length-closed (c .before .before .before .before .before .before .before .before .before .before .before .before .before .before .before .before .before .args .marks .now) (c .before .before .before .before .before .before .before .before .before .before .before .before .before .before .before .before .before .args .t * c .before .before .before .before .before .before .before .before .before .before .before .before .before .before .before .before .before .args .z .pairs) ((c .before .before .before .before .before .before .before .before .before .before .before .before .before .before .before .before .before .args .t * c .before .before .before .before .before .before .before .before .before .before .before .before .before .before .before .before .before .args .z .pairs) + c .before .before .before .before .before .before .before .before .before .before .before .before .before .before .before .before .before .args .z .pairs)
+
+returns-2 : tie.Need-returns-2
+returns-2 c =
+    c .before .before .before .before .before .fill-open-triplet .ensures
+
+pub fill-triplet-if-open-spec : {M : Type 1} → statement M
+fill-triplet-if-open-spec =
+    tie.close
+    (tie.spec
+    open-in-requires
+    same-length
+    returns
+    fill-open-triplet-requires
+    same-length-2
+    same-length-3
+    same-length-4
+    returns-2)

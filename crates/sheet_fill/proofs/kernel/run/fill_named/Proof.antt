@@ -1,0 +1,93 @@
+-- `sheet_fill::kernel::run::fill_named` meets its contract. Assumes nothing.
+use Prim.Native.Nat.{_*_, _+_, _/_, _<_, ℕ}
+use lib.ListN.{length}
+use mathlib.Core.Path.{_∙_, ap, refl, sym}
+use native.Mathlib.Omega.{arith}
+use Rattle.sheet_fill.proofs.PieceLaws.{named-flags, named-weights}
+use Rattle.triplet_corners.proofs.CornerLaws.{second-length, second-lent, second-triples}
+use Rattle.triplet_corners.specs.Corners.{cornerNumbers}
+use Rattle.triplet_iw.proofs.TripletLaws.{fitting, held-first, held-second, triplet-in}
+use Rattle.triplet_piece.proofs.StudyLaws.{length-computed, length-computed-flags}
+use Rattle.triplet_piece.specs.Study.{study}
+use Rattle.sheet_fill.proofs.kernel.run.fill_named.Statement.{statement}
+use Rattle.sheet_fill.proofs.kernel.run.fill_named.Tie as tie
+
+second-steps-requires : tie.Need-second-steps-requires
+second-steps-requires c κs =
+    (omega (arith, (c .before .before .before .before .pre .0) .rows-whole, (c .before .before .before .before .pre .0) .rows-high), (c .before .before .before .before .pre .0) .table)
+
+mul-magnitude-at : tie.Need-mul-magnitude-at
+mul-magnitude-at c =
+    let tb : 3 * c .before .before .before .before .before .args .t + 2 < length (c .before .before .before .before .before .args .triplets .now) = triplet-in (c .before .before .before .before .before .pre .0) (c .before .before .before .before .before .args .t) (c .before .before .before .before .before .pre .1 .0) in omega (arith, c .before .before .before .before .before .good)
+
+add-magnitude-at : tie.Need-add-magnitude-at
+add-magnitude-at c =
+    let tb : 3 * c .before .before .before .before .before .args .t + 2 < length (c .before .before .before .before .before .args .triplets .now) = triplet-in (c .before .before .before .before .before .pre .0) (c .before .before .before .before .before .args .t) (c .before .before .before .before .before .pre .1 .0) in omega (arith, c .before .before .before .before .before .good)
+
+magnitude-at-requires : tie.Need-magnitude-at-requires
+magnitude-at-requires c κs =
+    let tb : 3 * c .before .before .before .before .before .args .t + 2 < length (c .before .before .before .before .before .args .triplets .now) = triplet-in (c .before .before .before .before .before .pre .0) (c .before .before .before .before .before .args .t) (c .before .before .before .before .before .pre .1 .0) in omega arith
+
+mul-magnitude-at-2 : tie.Need-mul-magnitude-at-2
+mul-magnitude-at-2 c =
+    let tb : 3 * c .before .before .before .before .before .before .args .t + 2 < length (c .before .before .before .before .before .before .args .triplets .now) = triplet-in (c .before .before .before .before .before .before .pre .0) (c .before .before .before .before .before .before .args .t) (c .before .before .before .before .before .before .pre .1 .0) in omega (arith, c .before .before .before .before .before .before .good)
+
+add-magnitude-at-2 : tie.Need-add-magnitude-at-2
+add-magnitude-at-2 c =
+    let tb : 3 * c .before .before .before .before .before .before .args .t + 2 < length (c .before .before .before .before .before .before .args .triplets .now) = triplet-in (c .before .before .before .before .before .before .pre .0) (c .before .before .before .before .before .before .args .t) (c .before .before .before .before .before .before .pre .1 .0) in omega (arith, c .before .before .before .before .before .before .good)
+
+magnitude-at-requires-2 : tie.Need-magnitude-at-requires-2
+magnitude-at-requires-2 c κs =
+    let tb : 3 * c .before .before .before .before .before .before .args .t + 2 < length (c .before .before .before .before .before .before .args .triplets .now) = triplet-in (c .before .before .before .before .before .before .pre .0) (c .before .before .before .before .before .before .args .t) (c .before .before .before .before .before .before .pre .1 .0) in tb
+
+corner-numbers-requires : tie.Need-corner-numbers-requires
+corner-numbers-requires c κs =
+    let tb : 3 * c .before .before .before .before .before .before .before .args .t + 2 < length (c .before .before .before .before .before .before .before .args .triplets .now) = triplet-in (c .before .before .before .before .before .before .before .pre .0) (c .before .before .before .before .before .before .before .args .t) (c .before .before .before .before .before .before .before .pre .1 .0) in ((c .before .before .before .before .before .before .before .pre .0) .grid, ((c .before .before .before .before .before .before .before .pre .0) .table, (rw (c .before .magnitude-at .ensures) ((c .before .before .before .before .before .before .before .pre .0) .triplets-at (3 * c .before .before .before .before .before .before .before .args .t + 1) (omega arith)), omega (arith, (c .before .before .before .before .before .before .before .pre .0) .rows-whole, (c .before .before .before .before .before .before .before .pre .0) .rows-high))))
+
+array-share-prefix-second : tie.Need-array-share-prefix-second
+array-share-prefix-second c =
+    omega (arith, (c .before .before .before .before .before .before .before .before .pre .0) .rows-whole, (c .before .before .before .before .before .before .before .before .pre .0) .rows-high)
+
+slice-aggregate-corner-numbers : tie.Need-slice-aggregate-corner-numbers
+slice-aggregate-corner-numbers c =
+    sym (ap length (second-lent (c .before .before .before .before .before .before .before .before .before .args .tp) (c .before .before .before .before .before .before .before .before .before .args .steps .now) (c .before .before .before .before .second-steps .result) (c .before .before .before .before .second-steps .ensures)) ∙ second-length (c .before .before .before .before .before .before .before .before .before .args .tp) (c .before .before .before .before .before .before .before .before .before .args .steps .now))
+
+corner-numbers-requires-2 : tie.Need-corner-numbers-requires-2
+corner-numbers-requires-2 c κs =
+    let tb : 3 * c .before .before .before .before .before .before .before .before .before .args .t + 2 < length (c .before .before .before .before .before .before .before .before .before .args .triplets .now) = triplet-in (c .before .before .before .before .before .before .before .before .before .pre .0) (c .before .before .before .before .before .before .before .before .before .args .t) (c .before .before .before .before .before .before .before .before .before .pre .1 .0) in ((c .before .before .before .before .before .before .before .before .before .pre .0) .grid, (rw (second-lent (c .before .before .before .before .before .before .before .before .before .args .tp) (c .before .before .before .before .before .before .before .before .before .args .steps .now) (c .before .before .before .before .second-steps .result) (c .before .before .before .before .second-steps .ensures)) (second-triples (c .before .before .before .before .before .before .before .before .before .args .tp) (c .before .before .before .before .before .before .before .before .before .args .steps .now) ((c .before .before .before .before .before .before .before .before .before .pre .0) .table)), (rw (c .before .before .magnitude-at2 .ensures) ((c .before .before .before .before .before .before .before .before .before .pre .0) .triplets-at (3 * c .before .before .before .before .before .before .before .before .before .args .t + 2) tb), rw (second-lent (c .before .before .before .before .before .before .before .before .before .args .tp) (c .before .before .before .before .before .before .before .before .before .args .steps .now) (c .before .before .before .before .second-steps .result) (c .before .before .before .before .second-steps .ensures)) (omega (arith, second-length (c .before .before .before .before .before .before .before .before .before .args .tp) (c .before .before .before .before .before .before .before .before .before .args .steps .now), (c .before .before .before .before .before .before .before .before .before .pre .0) .rows-whole, (c .before .before .before .before .before .before .before .before .before .pre .0) .rows-high)))))
+
+fill-piece-requires : tie.Need-fill-piece-requires
+fill-piece-requires c κs =
+    ((((c .before .before .before .before .before .before .before .before .before .before .before .before .before .before .before .before .before .before .before .before .before .before .pre .0) .rows-low, (c .before .before .before .before .before .before .before .before .before .before .before .before .before .before .before .before .before .before .before .before .before .before .pre .0) .rows-high), (fitting (c .before .before .before .before .before .before .before .before .before .before .before .before .before .before .before .before .before .before .before .before .before .before .pre .0), c .before .before .before .before .before .before .before .before .before .before .before .before .before .before .before .before .before .before .before .before .before .before .pre .1)), ((held-first (c .before .before .before .before .before .before .before .before .before .before .before .before .before .before .before .before .before .before .before .before .before .before .pre .0) (c .before .before .before .before .before .before .before .before .before .before .before .before .before .before .before .before .before .before .before .before .before .before .args .t) _ (c .before .before .before .before .before .before .before .before .before .before .before .before .before .before .corner-numbers .ensures ∙ ap (λ (g : ℕ). cornerNumbers (c .before .before .before .before .before .before .before .before .before .before .before .before .before .before .before .before .before .before .before .before .before .before .args .grid) (c .before .before .before .before .before .before .before .before .before .before .before .before .before .before .before .before .before .before .before .before .before .before .args .addresses .now) (c .before .before .before .before .before .before .before .before .before .before .before .before .before .before .before .before .before .before .before .before .before .before .args .gp-map .now) (c .before .before .before .before .before .before .before .before .before .before .before .before .before .before .before .before .before .before .before .before .before .before .args .steps .now) g) (c .before .before .before .before .before .before .before .before .before .before .before .before .before .before .before .before .magnitude-at .ensures)) (length (c .before .before .before .before .before .before .before .before .before .before .before .before .before .before .before .before .before .before .before .before .before .before .args .steps .now) / 12) refl _ (c .before .before .before .before .before .before .before .before .before .before .before .before .before .before .before .before .before .before .before .before .before .before .pre .1 .1 .0), held-second (c .before .before .before .before .before .before .before .before .before .before .before .before .before .before .before .before .before .before .before .before .before .before .pre .0) (c .before .before .before .before .before .before .before .before .before .before .before .before .before .before .before .before .before .before .before .before .before .before .args .t) _ (c .before .before .before .before .before .before .before .before .before .before .before .before .corner-numbers2 .ensures ∙ rw (second-lent (c .before .before .before .before .before .before .before .before .before .before .before .before .before .before .before .before .before .before .before .before .before .before .args .tp) (c .before .before .before .before .before .before .before .before .before .before .before .before .before .before .before .before .before .before .before .before .before .before .args .steps .now) (c .before .before .before .before .before .before .before .before .before .before .before .before .before .before .before .before .before .second-steps .result) (c .before .before .before .before .before .before .before .before .before .before .before .before .before .before .before .before .before .second-steps .ensures), c .before .before .before .before .before .before .before .before .before .before .before .before .before .before .before .magnitude-at2 .ensures)) (length (c .before .before .before .before .before .before .before .before .before .before .before .before .before .before .before .before .before .before .before .before .before .before .args .steps .now) / 12) refl _ (c .before .before .before .before .before .before .before .before .before .before .before .before .before .before .before .before .before .before .before .before .before .before .pre .1 .1 .1)), record { size1 = refl; size2 = refl; channel0 = refl; channel1 = refl; channel2 = refl; places0 = refl; places1 = refl; places2 = refl }))
+
+same-length : tie.Need-same-length
+same-length c =
+    ap length (c .before .before .before .fill-piece .ensures .1 .0 ∙ named-weights (study (c .before .before .before .before .before .before .before .before .before .before .before .before .before .before .before .before .before .before .before .before .before .before .before .before .before .before .args .tp) (c .before .before .before .before .before .before .before .before .before .before .before .before .before .before .before .before .before .before .before .before .before .before .before .before .before .before .args .grid) (c .before .before .before .before .before .before .before .before .before .before .before .before .before .before .before .before .before .before .before .before .before .before .before .before .before .before .args .addresses .now) (c .before .before .before .before .before .before .before .before .before .before .before .before .before .before .before .before .before .before .before .before .before .before .before .before .before .before .args .gp-map .now) (c .before .before .before .before .before .before .before .before .before .before .before .before .before .before .before .before .before .before .before .before .before .before .before .before .before .before .args .steps .now) (c .before .before .before .before .before .before .before .before .before .before .before .before .before .before .before .before .before .before .before .before .before .before .before .before .before .before .args .z .bands1) (c .before .before .before .before .before .before .before .before .before .before .before .before .before .before .before .before .before .before .before .before .before .before .before .before .before .before .args .z .bands2) (c .before .before .before .before .before .before .before .before .before .before .before .before .before .before .before .before .before .before .before .before .before .before .before .before .before .before .args .frequencies1 .now) (c .before .before .before .before .before .before .before .before .before .before .before .before .before .before .before .before .before .before .before .before .before .before .before .before .before .before .args .frequencies2 .now) (c .before .before .before .before .before .before .before .before .before .before .before .before .before .before .before .before .before .before .before .before .before .before .before .before .before .before .args .points .now) (c .before .before .before .before .before .before .before .before .before .before .before .before .before .before .before .before .before .before .before .before .before .before .before .before .before .before .args .triplets .now)) (c .before .before .before .before .before .before .before .before .before .before .before .before .before .before .before .before .before .before .before .before .before .before .before .before .before .before .args .z) ((c .before .before .before .before .before .before .before .before .before .before .before .before .before .before .before .before .before .before .before .before .before .before .before .before .before .before .pre .0) .counts) (c .before .before .before .before .before .before .before .before .before .before .before .before .before .before .before .before .before .before .before .before .before .before .before .before .before .before .args .t) (c .before .before .before .before .before .before .before .before .before .before .before .before .before .before .before .before .before .before .before .before .before .before .before .before .before .before .args .b1) (c .before .before .before .before .before .before .before .before .before .before .before .before .before .before .before .before .before .before .before .before .before .before .before .before .before .before .args .b2) _ _ (length (c .before .before .before .before .before .before .before .before .before .before .before .before .before .before .before .before .before .before .before .before .before .before .before .before .before .before .args .steps .now) / 12) (c .before .before .before .before .before .before .before .before .before .before .before .before .before .before .before .before .before .before .corner-numbers .ensures ∙ ap (λ (g : ℕ). cornerNumbers (c .before .before .before .before .before .before .before .before .before .before .before .before .before .before .before .before .before .before .before .before .before .before .before .before .before .before .args .grid) (c .before .before .before .before .before .before .before .before .before .before .before .before .before .before .before .before .before .before .before .before .before .before .before .before .before .before .args .addresses .now) (c .before .before .before .before .before .before .before .before .before .before .before .before .before .before .before .before .before .before .before .before .before .before .before .before .before .before .args .gp-map .now) (c .before .before .before .before .before .before .before .before .before .before .before .before .before .before .before .before .before .before .before .before .before .before .before .before .before .before .args .steps .now) g) (c .before .before .before .before .before .before .before .before .before .before .before .before .before .before .before .before .before .before .before .before .magnitude-at .ensures)) (c .before .before .before .before .before .before .before .before .before .before .before .before .before .before .before .before .corner-numbers2 .ensures ∙ rw (second-lent (c .before .before .before .before .before .before .before .before .before .before .before .before .before .before .before .before .before .before .before .before .before .before .before .before .before .before .args .tp) (c .before .before .before .before .before .before .before .before .before .before .before .before .before .before .before .before .before .before .before .before .before .before .before .before .before .before .args .steps .now) (c .before .before .before .before .before .before .before .before .before .before .before .before .before .before .before .before .before .before .before .before .before .second-steps .result) (c .before .before .before .before .before .before .before .before .before .before .before .before .before .before .before .before .before .before .before .before .before .second-steps .ensures), c .before .before .before .before .before .before .before .before .before .before .before .before .before .before .before .before .before .before .before .magnitude-at2 .ensures)) refl (c .before .before .before .before .before .before .before .before .before .before .before .before .before .before .before .before .before .before .before .before .before .before .before .before .before .before .pre .1 .1 .0) (c .before .before .before .before .before .before .before .before .before .before .before .before .before .before .before .before .before .before .before .before .before .before .before .before .before .before .pre .1 .1 .1) (c .before .before .before .before .before .before .before .before .before .before .before .before .before .before .before .before .before .before .before .before .before .before .before .before .before .before .args .weights .now)) ∙ length-computed (study (c .before .before .before .before .before .before .before .before .before .before .before .before .before .before .before .before .before .before .before .before .before .before .before .before .before .before .args .tp) (c .before .before .before .before .before .before .before .before .before .before .before .before .before .before .before .before .before .before .before .before .before .before .before .before .before .before .args .grid) (c .before .before .before .before .before .before .before .before .before .before .before .before .before .before .before .before .before .before .before .before .before .before .before .before .before .before .args .addresses .now) (c .before .before .before .before .before .before .before .before .before .before .before .before .before .before .before .before .before .before .before .before .before .before .before .before .before .before .args .gp-map .now) (c .before .before .before .before .before .before .before .before .before .before .before .before .before .before .before .before .before .before .before .before .before .before .before .before .before .before .args .steps .now) (c .before .before .before .before .before .before .before .before .before .before .before .before .before .before .before .before .before .before .before .before .before .before .before .before .before .before .args .z .bands1) (c .before .before .before .before .before .before .before .before .before .before .before .before .before .before .before .before .before .before .before .before .before .before .before .before .before .before .args .z .bands2) (c .before .before .before .before .before .before .before .before .before .before .before .before .before .before .before .before .before .before .before .before .before .before .before .before .before .before .args .frequencies1 .now) (c .before .before .before .before .before .before .before .before .before .before .before .before .before .before .before .before .before .before .before .before .before .before .before .before .before .before .args .frequencies2 .now) (c .before .before .before .before .before .before .before .before .before .before .before .before .before .before .before .before .before .before .before .before .before .before .before .before .before .before .args .points .now) (c .before .before .before .before .before .before .before .before .before .before .before .before .before .before .before .before .before .before .before .before .before .before .before .before .before .before .args .triplets .now)) _ (c .before .before .before .before .before .before .before .before .before .before .before .before .before .before .before .before .before .before .before .before .before .before .before .before .before .before .args .weights .now)
+
+same-length-2 : tie.Need-same-length-2
+same-length-2 c =
+    ap length (c .before .before .before .fill-piece .ensures .1 .1 ∙ named-flags (study (c .before .before .before .before .before .before .before .before .before .before .before .before .before .before .before .before .before .before .before .before .before .before .before .before .before .before .args .tp) (c .before .before .before .before .before .before .before .before .before .before .before .before .before .before .before .before .before .before .before .before .before .before .before .before .before .before .args .grid) (c .before .before .before .before .before .before .before .before .before .before .before .before .before .before .before .before .before .before .before .before .before .before .before .before .before .before .args .addresses .now) (c .before .before .before .before .before .before .before .before .before .before .before .before .before .before .before .before .before .before .before .before .before .before .before .before .before .before .args .gp-map .now) (c .before .before .before .before .before .before .before .before .before .before .before .before .before .before .before .before .before .before .before .before .before .before .before .before .before .before .args .steps .now) (c .before .before .before .before .before .before .before .before .before .before .before .before .before .before .before .before .before .before .before .before .before .before .before .before .before .before .args .z .bands1) (c .before .before .before .before .before .before .before .before .before .before .before .before .before .before .before .before .before .before .before .before .before .before .before .before .before .before .args .z .bands2) (c .before .before .before .before .before .before .before .before .before .before .before .before .before .before .before .before .before .before .before .before .before .before .before .before .before .before .args .frequencies1 .now) (c .before .before .before .before .before .before .before .before .before .before .before .before .before .before .before .before .before .before .before .before .before .before .before .before .before .before .args .frequencies2 .now) (c .before .before .before .before .before .before .before .before .before .before .before .before .before .before .before .before .before .before .before .before .before .before .before .before .before .before .args .points .now) (c .before .before .before .before .before .before .before .before .before .before .before .before .before .before .before .before .before .before .before .before .before .before .before .before .before .before .args .triplets .now)) (c .before .before .before .before .before .before .before .before .before .before .before .before .before .before .before .before .before .before .before .before .before .before .before .before .before .before .args .z) ((c .before .before .before .before .before .before .before .before .before .before .before .before .before .before .before .before .before .before .before .before .before .before .before .before .before .before .pre .0) .counts) (c .before .before .before .before .before .before .before .before .before .before .before .before .before .before .before .before .before .before .before .before .before .before .before .before .before .before .args .t) (c .before .before .before .before .before .before .before .before .before .before .before .before .before .before .before .before .before .before .before .before .before .before .before .before .before .before .args .b1) (c .before .before .before .before .before .before .before .before .before .before .before .before .before .before .before .before .before .before .before .before .before .before .before .before .before .before .args .b2) _ _ (length (c .before .before .before .before .before .before .before .before .before .before .before .before .before .before .before .before .before .before .before .before .before .before .before .before .before .before .args .steps .now) / 12) (c .before .before .before .before .before .before .before .before .before .before .before .before .before .before .before .before .before .before .corner-numbers .ensures ∙ ap (λ (g : ℕ). cornerNumbers (c .before .before .before .before .before .before .before .before .before .before .before .before .before .before .before .before .before .before .before .before .before .before .before .before .before .before .args .grid) (c .before .before .before .before .before .before .before .before .before .before .before .before .before .before .before .before .before .before .before .before .before .before .before .before .before .before .args .addresses .now) (c .before .before .before .before .before .before .before .before .before .before .before .before .before .before .before .before .before .before .before .before .before .before .before .before .before .before .args .gp-map .now) (c .before .before .before .before .before .before .before .before .before .before .before .before .before .before .before .before .before .before .before .before .before .before .before .before .before .before .args .steps .now) g) (c .before .before .before .before .before .before .before .before .before .before .before .before .before .before .before .before .before .before .before .before .magnitude-at .ensures)) (c .before .before .before .before .before .before .before .before .before .before .before .before .before .before .before .before .corner-numbers2 .ensures ∙ rw (second-lent (c .before .before .before .before .before .before .before .before .before .before .before .before .before .before .before .before .before .before .before .before .before .before .before .before .before .before .args .tp) (c .before .before .before .before .before .before .before .before .before .before .before .before .before .before .before .before .before .before .before .before .before .before .before .before .before .before .args .steps .now) (c .before .before .before .before .before .before .before .before .before .before .before .before .before .before .before .before .before .before .before .before .before .second-steps .result) (c .before .before .before .before .before .before .before .before .before .before .before .before .before .before .before .before .before .before .before .before .before .second-steps .ensures), c .before .before .before .before .before .before .before .before .before .before .before .before .before .before .before .before .before .before .before .magnitude-at2 .ensures)) refl (c .before .before .before .before .before .before .before .before .before .before .before .before .before .before .before .before .before .before .before .before .before .before .before .before .before .before .pre .1 .1 .0) (c .before .before .before .before .before .before .before .before .before .before .before .before .before .before .before .before .before .before .before .before .before .before .before .before .before .before .pre .1 .1 .1) (c .before .before .before .before .before .before .before .before .before .before .before .before .before .before .before .before .before .before .before .before .before .before .before .before .before .before .args .flags .now)) ∙ length-computed-flags (study (c .before .before .before .before .before .before .before .before .before .before .before .before .before .before .before .before .before .before .before .before .before .before .before .before .before .before .args .tp) (c .before .before .before .before .before .before .before .before .before .before .before .before .before .before .before .before .before .before .before .before .before .before .before .before .before .before .args .grid) (c .before .before .before .before .before .before .before .before .before .before .before .before .before .before .before .before .before .before .before .before .before .before .before .before .before .before .args .addresses .now) (c .before .before .before .before .before .before .before .before .before .before .before .before .before .before .before .before .before .before .before .before .before .before .before .before .before .before .args .gp-map .now) (c .before .before .before .before .before .before .before .before .before .before .before .before .before .before .before .before .before .before .before .before .before .before .before .before .before .before .args .steps .now) (c .before .before .before .before .before .before .before .before .before .before .before .before .before .before .before .before .before .before .before .before .before .before .before .before .before .before .args .z .bands1) (c .before .before .before .before .before .before .before .before .before .before .before .before .before .before .before .before .before .before .before .before .before .before .before .before .before .before .args .z .bands2) (c .before .before .before .before .before .before .before .before .before .before .before .before .before .before .before .before .before .before .before .before .before .before .before .before .before .before .args .frequencies1 .now) (c .before .before .before .before .before .before .before .before .before .before .before .before .before .before .before .before .before .before .before .before .before .before .before .before .before .before .args .frequencies2 .now) (c .before .before .before .before .before .before .before .before .before .before .before .before .before .before .before .before .before .before .before .before .before .before .before .before .before .before .args .points .now) (c .before .before .before .before .before .before .before .before .before .before .before .before .before .before .before .before .before .before .before .before .before .before .before .before .before .before .args .triplets .now)) _ (c .before .before .before .before .before .before .before .before .before .before .before .before .before .before .before .before .before .before .before .before .before .before .before .before .before .before .args .flags .now)
+
+returns : tie.Need-returns
+returns c =
+    (c .before .before .before .fill-piece .ensures .1 .0 ∙ named-weights (study (c .before .before .before .before .before .before .before .before .before .before .before .before .before .before .before .before .before .before .before .before .before .before .before .before .before .before .args .tp) (c .before .before .before .before .before .before .before .before .before .before .before .before .before .before .before .before .before .before .before .before .before .before .before .before .before .before .args .grid) (c .before .before .before .before .before .before .before .before .before .before .before .before .before .before .before .before .before .before .before .before .before .before .before .before .before .before .args .addresses .now) (c .before .before .before .before .before .before .before .before .before .before .before .before .before .before .before .before .before .before .before .before .before .before .before .before .before .before .args .gp-map .now) (c .before .before .before .before .before .before .before .before .before .before .before .before .before .before .before .before .before .before .before .before .before .before .before .before .before .before .args .steps .now) (c .before .before .before .before .before .before .before .before .before .before .before .before .before .before .before .before .before .before .before .before .before .before .before .before .before .before .args .z .bands1) (c .before .before .before .before .before .before .before .before .before .before .before .before .before .before .before .before .before .before .before .before .before .before .before .before .before .before .args .z .bands2) (c .before .before .before .before .before .before .before .before .before .before .before .before .before .before .before .before .before .before .before .before .before .before .before .before .before .before .args .frequencies1 .now) (c .before .before .before .before .before .before .before .before .before .before .before .before .before .before .before .before .before .before .before .before .before .before .before .before .before .before .args .frequencies2 .now) (c .before .before .before .before .before .before .before .before .before .before .before .before .before .before .before .before .before .before .before .before .before .before .before .before .before .before .args .points .now) (c .before .before .before .before .before .before .before .before .before .before .before .before .before .before .before .before .before .before .before .before .before .before .before .before .before .before .args .triplets .now)) (c .before .before .before .before .before .before .before .before .before .before .before .before .before .before .before .before .before .before .before .before .before .before .before .before .before .before .args .z) ((c .before .before .before .before .before .before .before .before .before .before .before .before .before .before .before .before .before .before .before .before .before .before .before .before .before .before .pre .0) .counts) (c .before .before .before .before .before .before .before .before .before .before .before .before .before .before .before .before .before .before .before .before .before .before .before .before .before .before .args .t) (c .before .before .before .before .before .before .before .before .before .before .before .before .before .before .before .before .before .before .before .before .before .before .before .before .before .before .args .b1) (c .before .before .before .before .before .before .before .before .before .before .before .before .before .before .before .before .before .before .before .before .before .before .before .before .before .before .args .b2) _ _ (length (c .before .before .before .before .before .before .before .before .before .before .before .before .before .before .before .before .before .before .before .before .before .before .before .before .before .before .args .steps .now) / 12) (c .before .before .before .before .before .before .before .before .before .before .before .before .before .before .before .before .before .before .corner-numbers .ensures ∙ ap (λ (g : ℕ). cornerNumbers (c .before .before .before .before .before .before .before .before .before .before .before .before .before .before .before .before .before .before .before .before .before .before .before .before .before .before .args .grid) (c .before .before .before .before .before .before .before .before .before .before .before .before .before .before .before .before .before .before .before .before .before .before .before .before .before .before .args .addresses .now) (c .before .before .before .before .before .before .before .before .before .before .before .before .before .before .before .before .before .before .before .before .before .before .before .before .before .before .args .gp-map .now) (c .before .before .before .before .before .before .before .before .before .before .before .before .before .before .before .before .before .before .before .before .before .before .before .before .before .before .args .steps .now) g) (c .before .before .before .before .before .before .before .before .before .before .before .before .before .before .before .before .before .before .before .before .magnitude-at .ensures)) (c .before .before .before .before .before .before .before .before .before .before .before .before .before .before .before .before .corner-numbers2 .ensures ∙ rw (second-lent (c .before .before .before .before .before .before .before .before .before .before .before .before .before .before .before .before .before .before .before .before .before .before .before .before .before .before .args .tp) (c .before .before .before .before .before .before .before .before .before .before .before .before .before .before .before .before .before .before .before .before .before .before .before .before .before .before .args .steps .now) (c .before .before .before .before .before .before .before .before .before .before .before .before .before .before .before .before .before .before .before .before .before .second-steps .result) (c .before .before .before .before .before .before .before .before .before .before .before .before .before .before .before .before .before .before .before .before .before .second-steps .ensures), c .before .before .before .before .before .before .before .before .before .before .before .before .before .before .before .before .before .before .before .magnitude-at2 .ensures)) refl (c .before .before .before .before .before .before .before .before .before .before .before .before .before .before .before .before .before .before .before .before .before .before .before .before .before .before .pre .1 .1 .0) (c .before .before .before .before .before .before .before .before .before .before .before .before .before .before .before .before .before .before .before .before .before .before .before .before .before .before .pre .1 .1 .1) (c .before .before .before .before .before .before .before .before .before .before .before .before .before .before .before .before .before .before .before .before .before .before .before .before .before .before .args .weights .now), c .before .before .before .fill-piece .ensures .1 .1 ∙ named-flags (study (c .before .before .before .before .before .before .before .before .before .before .before .before .before .before .before .before .before .before .before .before .before .before .before .before .before .before .args .tp) (c .before .before .before .before .before .before .before .before .before .before .before .before .before .before .before .before .before .before .before .before .before .before .before .before .before .before .args .grid) (c .before .before .before .before .before .before .before .before .before .before .before .before .before .before .before .before .before .before .before .before .before .before .before .before .before .before .args .addresses .now) (c .before .before .before .before .before .before .before .before .before .before .before .before .before .before .before .before .before .before .before .before .before .before .before .before .before .before .args .gp-map .now) (c .before .before .before .before .before .before .before .before .before .before .before .before .before .before .before .before .before .before .before .before .before .before .before .before .before .before .args .steps .now) (c .before .before .before .before .before .before .before .before .before .before .before .before .before .before .before .before .before .before .before .before .before .before .before .before .before .before .args .z .bands1) (c .before .before .before .before .before .before .before .before .before .before .before .before .before .before .before .before .before .before .before .before .before .before .before .before .before .before .args .z .bands2) (c .before .before .before .before .before .before .before .before .before .before .before .before .before .before .before .before .before .before .before .before .before .before .before .before .before .before .args .frequencies1 .now) (c .before .before .before .before .before .before .before .before .before .before .before .before .before .before .before .before .before .before .before .before .before .before .before .before .before .before .args .frequencies2 .now) (c .before .before .before .before .before .before .before .before .before .before .before .before .before .before .before .before .before .before .before .before .before .before .before .before .before .before .args .points .now) (c .before .before .before .before .before .before .before .before .before .before .before .before .before .before .before .before .before .before .before .before .before .before .before .before .before .before .args .triplets .now)) (c .before .before .before .before .before .before .before .before .before .before .before .before .before .before .before .before .before .before .before .before .before .before .before .before .before .before .args .z) ((c .before .before .before .before .before .before .before .before .before .before .before .before .before .before .before .before .before .before .before .before .before .before .before .before .before .before .pre .0) .counts) (c .before .before .before .before .before .before .before .before .before .before .before .before .before .before .before .before .before .before .before .before .before .before .before .before .before .before .args .t) (c .before .before .before .before .before .before .before .before .before .before .before .before .before .before .before .before .before .before .before .before .before .before .before .before .before .before .args .b1) (c .before .before .before .before .before .before .before .before .before .before .before .before .before .before .before .before .before .before .before .before .before .before .before .before .before .before .args .b2) _ _ (length (c .before .before .before .before .before .before .before .before .before .before .before .before .before .before .before .before .before .before .before .before .before .before .before .before .before .before .args .steps .now) / 12) (c .before .before .before .before .before .before .before .before .before .before .before .before .before .before .before .before .before .before .corner-numbers .ensures ∙ ap (λ (g : ℕ). cornerNumbers (c .before .before .before .before .before .before .before .before .before .before .before .before .before .before .before .before .before .before .before .before .before .before .before .before .before .before .args .grid) (c .before .before .before .before .before .before .before .before .before .before .before .before .before .before .before .before .before .before .before .before .before .before .before .before .before .before .args .addresses .now) (c .before .before .before .before .before .before .before .before .before .before .before .before .before .before .before .before .before .before .before .before .before .before .before .before .before .before .args .gp-map .now) (c .before .before .before .before .before .before .before .before .before .before .before .before .before .before .before .before .before .before .before .before .before .before .before .before .before .before .args .steps .now) g) (c .before .before .before .before .before .before .before .before .before .before .before .before .before .before .before .before .before .before .before .before .magnitude-at .ensures)) (c .before .before .before .before .before .before .before .before .before .before .before .before .before .before .before .before .corner-numbers2 .ensures ∙ rw (second-lent (c .before .before .before .before .before .before .before .before .before .before .before .before .before .before .before .before .before .before .before .before .before .before .before .before .before .before .args .tp) (c .before .before .before .before .before .before .before .before .before .before .before .before .before .before .before .before .before .before .before .before .before .before .before .before .before .before .args .steps .now) (c .before .before .before .before .before .before .before .before .before .before .before .before .before .before .before .before .before .before .before .before .before .second-steps .result) (c .before .before .before .before .before .before .before .before .before .before .before .before .before .before .before .before .before .before .before .before .before .second-steps .ensures), c .before .before .before .before .before .before .before .before .before .before .before .before .before .before .before .before .before .before .before .magnitude-at2 .ensures)) refl (c .before .before .before .before .before .before .before .before .before .before .before .before .before .before .before .before .before .before .before .before .before .before .before .before .before .before .pre .1 .1 .0) (c .before .before .before .before .before .before .before .before .before .before .before .before .before .before .before .before .before .before .before .before .before .before .before .before .before .before .pre .1 .1 .1) (c .before .before .before .before .before .before .before .before .before .before .before .before .before .before .before .before .before .before .before .before .before .before .before .before .before .before .args .flags .now))
+
+pub fill-named-spec : {M : Type 1} → statement M
+fill-named-spec =
+    tie.close
+    (tie.spec
+    second-steps-requires
+    mul-magnitude-at
+    add-magnitude-at
+    magnitude-at-requires
+    mul-magnitude-at-2
+    add-magnitude-at-2
+    magnitude-at-requires-2
+    corner-numbers-requires
+    array-share-prefix-second
+    slice-aggregate-corner-numbers
+    corner-numbers-requires-2
+    fill-piece-requires
+    same-length
+    same-length-2
+    returns)

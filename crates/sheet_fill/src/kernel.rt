@@ -1,0 +1,4 @@
+// For the crate above, on a tested study and sheet.
+pub mod average;
+pub mod carry;
+pub mod run;
