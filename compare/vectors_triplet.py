@@ -106,7 +106,7 @@ class Cases:
         self.groups = []
         self.asked = []
         self.requests = []
-        self.counts = {"all": [], "one": [], "equal": []}
+        self.counts = {"all": [], "one": []}
         self.accepted = {}
 
     def seen(self, what, n=1):
@@ -169,7 +169,7 @@ class Cases:
         no = refusal(call)
         self.counts["all"].append(no)
         self.head(call)
-        start = (3, no, list(call["triplets"]), call["room"], call["places"])
+        start = (3, no, list(call["triplets"]), len(call["triplets"]), call["room"], call["places"])
         if no or not call["triplets"]:
             if not no:
                 self.met(call, [])
@@ -188,7 +188,7 @@ class Cases:
                 return [row[5][k] for k in range(ch) for row in rows], [row[4] for row in rows]
             out = line(*start, *both(rows))
             if one:
-                out += line(4, 0, *call["triplets"][3 * last:], ch * each, each, *both(rows[last * each:]))
+                out += line(4, 0, call["triplets"][3 * last:], 3, ch * each, each, *both(rows[last * each:]))
             return out
         self.ask(call, made)
 
@@ -200,7 +200,7 @@ class Cases:
             return False
         self.counts["one"].append(no)
         self.head(call)
-        self.groups[-1].append(line(4, no, *call["triplets"], call["room"], call["places"], [], []))
+        self.groups[-1].append(line(4, no, call["triplets"], 3, call["room"], call["places"], [], []))
         return True
 
     def equal(self, call, count, number, room=None, places=None):
@@ -208,17 +208,18 @@ class Cases:
         assert call["type"] == 4 and call["b1"] == call["b2"] == len(call["points"]) == 1
         call = dict(call, triplets=[number] * count, room=count // 3 if room is None else room, places=count // 3 if places is None else places)
         no = refusal(call)
-        self.counts["equal"].append(no)
+        self.counts["all"].append(no)
         self.head(call)
-        start = (5, no, count, number, call["room"], call["places"])
+        start = (3, no, [number], count, call["room"], call["places"])
         if no or not count:
-            self.groups[-1].append(line(*start, 0.0, 0))
+            self.groups[-1].append(line(*start, [], []))
             return
         def made(answer):
             values = {(row[5], row[4]) for row in answer[1:]}
             assert len(answer) == count // 3 + 1 and len(values) == 1
             w, flag = values.pop()
-            return line(*start, records.real(int(w, 16)), int(flag))
+            self.seen("triplets that are all one", count // 3)
+            return line(*start, [records.real(int(w, 16))], [int(flag)])
         self.ask(call, made)
 
     def finish(self):
@@ -394,7 +395,7 @@ def main():
     c.finish()
     data = records.blocks(c.groups)
     expected = "".join(records.summary(name, c.counts[k]) for k, name in
-                       (("all", "weights of all triplets"), ("one", "weights of one triplet"), ("equal", "weights of equal triplets")))
+                       (("all", "weights of all triplets"), ("one", "weights of one triplet")))
     with open(crate + "/stdin", "wb") as f:
         f.write(data)
     with open(crate + "/stdout", "w") as f:

@@ -3,13 +3,13 @@
 //
 //   1  grid, for the calls after it: kind, mesh, list of addresses, list of the map
 //   2  study, for the calls after it: type, both band counts, list of the table, lists of both frequencies, list of points
-//   3  weights of all triplets: refusal, list of triplets, lengths of both buffers, list of the weights, list of the flags
-//   4  weights of one triplet: refusal, triplet, lengths of both buffers, list of the weights, list of the flags
-//   5  weights of equal triplets: refusal, how many numbers they are, the number, lengths of both buffers, one weight, one flag
+//   3  weights of all triplets: refusal, list of triplets, how many numbers they are when the list goes on over and over, lengths of
+//      both buffers, and what these are to hold over and over: list of weights, list of flags
+//   4  weights of one triplet: the same
 //
 // Refusal 0 is an accepted call. Each block has its own grids and studies. Weights are compared by bits.
 ghost use mathlib.Core.Path.{_≡_};
-ghost use Prim.Native.Nat.{_≤_};
+ghost use Prim.Native.Nat.{_≤_, _<_};
 ghost use lib.ListN.{length, take};
 use replay_input::kernel as input;
 use replay_input::kernel::Cursor;
@@ -26,34 +26,29 @@ fn numbers() -> [i64; 4200]
     [0; 4200]
 }
 
-fn many_numbers() -> [i64; 196616]
-    ensures { λ r. ⌜ 196616 ≡ length r ⌝ }
-{
-    [0; 196616]
-}
-
 fn reals() -> [f64; 4200]
     ensures { λ r. ⌜ 4200 ≡ length r ⌝ }
 {
     [0.0; 4200]
 }
 
-fn many_reals() -> [f64; 65537]
-    ensures { λ r. ⌜ 65537 ≡ length r ⌝ }
+// Triplets, weights and flags of a call.
+fn many_numbers() -> [i64; 196616]
+    ensures { λ r. ⌜ 196616 ≡ length r ⌝ }
 {
-    [0.0; 65537]
+    [0; 196616]
 }
 
-fn signs() -> [i8; 4200]
-    ensures { λ r. ⌜ 4200 ≡ length r ⌝ }
+fn many_reals() -> [f64; 65540]
+    ensures { λ r. ⌜ 65540 ≡ length r ⌝ }
 {
-    [0; 4200]
+    [0.0; 65540]
 }
 
-fn many_signs() -> [i8; 65537]
-    ensures { λ r. ⌜ 65537 ≡ length r ⌝ }
+fn many_flags() -> [i8; 65540]
+    ensures { λ r. ⌜ 65540 ≡ length r ⌝ }
 {
-    [0; 65537]
+    [0; 65540]
 }
 
 // A count that a buffer of length most can hold.
@@ -75,6 +70,67 @@ fn places_of(n: u64, buf: &[i8]) -> usize
     ensures { λ r. ⌜ (r ≤ length (now (buf .entry))) × (r ≡ length (take r (now (buf .entry)))) ⌝ }
 {
     at_most(n, buf.len())
+}
+
+// ---- lists over and over
+
+// Where a list of n stands when it is gone through over and over.
+fn place_of(i: usize, n: usize) -> usize
+    requires { ⌜ 0 < n ⌝ }
+    ensures { λ r. ⌜ r < n ⌝ }
+{
+    i % n
+}
+
+// The list over and over, up to the buffer's length.
+fn repeat(list: &[i64], out: &mut [i64]) {
+    if list.len() == 0 {
+        return;
+    }
+    let mut i = 0;
+    while i < out.len() {
+        let value = list[place_of(i, list.len())];
+        out[i] = value;
+        i += 1;
+    }
+}
+
+// Whether weights are the list over and over.
+fn same_weights(weights: &[f64], list: &[f64]) -> bool {
+    if list.len() == 0 {
+        return weights.len() == 0;
+    }
+    let mut i = 0;
+    while i < weights.len() {
+        if !compare::same_bits(weights[i], list[place_of(i, list.len())]) {
+            return false;
+        }
+        i += 1;
+    }
+    true
+}
+
+// The flag that a stored number is.
+fn flag_of(n: i64) -> i8 {
+    match n {
+        0 => 0,
+        1 => 1,
+        _ => -1,
+    }
+}
+
+fn same_flags(flags: &[i8], list: &[i64]) -> bool {
+    if list.len() == 0 {
+        return flags.len() == 0;
+    }
+    let mut i = 0;
+    while i < flags.len() {
+        if flags[i] != flag_of(list[place_of(i, list.len())]) {
+            return false;
+        }
+        i += 1;
+    }
+    true
 }
 
 // ---- what the buffers hold before a call
@@ -129,74 +185,7 @@ fn are_marked(flags: &[i8]) -> bool {
     true
 }
 
-fn repeat(out: &mut [i64], value: i64) {
-    let mut i = 0;
-    while i < out.len() {
-        out[i] = value;
-        i += 1;
-    }
-}
-
-// ---- what they hold after it
-
-fn same_reals(a: &[f64], b: &[f64]) -> bool {
-    if a.len() != b.len() {
-        return false;
-    }
-    let mut i = 0;
-    while i < a.len() {
-        if !compare::same_bits(a[i], b[i]) {
-            return false;
-        }
-        i += 1;
-    }
-    true
-}
-
-fn all_real(a: &[f64], value: f64) -> bool {
-    let mut i = 0;
-    while i < a.len() {
-        if !compare::same_bits(a[i], value) {
-            return false;
-        }
-        i += 1;
-    }
-    true
-}
-
-// The flag that a stored number is.
-fn flag_of(n: i64) -> i8 {
-    match n {
-        0 => 0,
-        1 => 1,
-        _ => -1,
-    }
-}
-
-fn same_flags(a: &[i8], b: &[i64]) -> bool {
-    if a.len() != b.len() {
-        return false;
-    }
-    let mut i = 0;
-    while i < a.len() {
-        if a[i] != flag_of(b[i]) {
-            return false;
-        }
-        i += 1;
-    }
-    true
-}
-
-fn all_flag(a: &[i8], value: i64) -> bool {
-    let mut i = 0;
-    while i < a.len() {
-        if a[i] != flag_of(value) {
-            return false;
-        }
-        i += 1;
-    }
-    true
-}
+// ---- the calls
 
 // An accepted call filled the buffers with the stored weights and flags; a refused one gave its number and left them as they were.
 fn weights_agree(
@@ -210,7 +199,7 @@ fn weights_agree(
     match answer {
         WeightsAnswer::Filled => {
             if refusal == 0 {
-                same_reals(weights, stored) & same_flags(flags, stored_flags)
+                same_weights(weights, stored) & same_flags(flags, stored_flags)
             } else {
                 false
             }
@@ -225,36 +214,9 @@ fn weights_agree(
     }
 }
 
-// The same where every weight and every flag is the stored one.
-fn equal_weights_agree(
-    answer: WeightsAnswer,
-    refusal: u64,
-    weights: &[f64],
-    flags: &[i8],
-    stored: f64,
-    stored_flag: i64,
-) -> bool {
-    match answer {
-        WeightsAnswer::Filled => {
-            if refusal == 0 {
-                all_real(weights, stored) & all_flag(flags, stored_flag)
-            } else {
-                false
-            }
-        }
-        WeightsAnswer::Refused(number) => {
-            if (0 < number) & (number == refusal) {
-                is_marked(weights) & are_marked(flags)
-            } else {
-                false
-            }
-        }
-    }
-}
-
-// ---- the calls
-
-fn all_agree(
+// The call for all triplets or, where the record is of kind 4, for one.
+fn answer_of(
+    record: u64,
     shape: Shape,
     addresses: &[i64],
     map: &[i64],
@@ -263,15 +225,25 @@ fn all_agree(
     frequencies2: &[f64],
     points: &[f64],
     triplets: &[i64],
+    one: [i64; 3],
     weights: &mut [f64],
     flags: &mut [i8],
-    refusal: u64,
-    stored: &[f64],
-    stored_flags: &[i64],
-) -> bool {
-    mark(weights);
-    mark_flags(flags);
-    let answer = triplet::integration_weight(
+) -> WeightsAnswer {
+    if record == 4 {
+        return triplet_iw::integration_weight_per_triplet(
+            shape,
+            addresses,
+            map,
+            table,
+            frequencies1,
+            frequencies2,
+            points,
+            one,
+            weights,
+            flags,
+        );
+    }
+    triplet::integration_weight(
         shape,
         addresses,
         map,
@@ -282,11 +254,11 @@ fn all_agree(
         triplets,
         weights,
         flags,
-    );
-    weights_agree(answer, refusal, weights, flags, stored, stored_flags)
+    )
 }
 
-fn one_agrees(
+fn call_agrees(
+    record: u64,
     shape: Shape,
     addresses: &[i64],
     map: &[i64],
@@ -294,50 +266,20 @@ fn one_agrees(
     frequencies1: &[f64],
     frequencies2: &[f64],
     points: &[f64],
-    triplet: [i64; 3],
-    weights: &mut [f64],
-    flags: &mut [i8],
-    refusal: u64,
-    stored: &[f64],
-    stored_flags: &[i64],
-) -> bool {
-    mark(weights);
-    mark_flags(flags);
-    let answer = triplet_iw::integration_weight_per_triplet(
-        shape,
-        addresses,
-        map,
-        table,
-        frequencies1,
-        frequencies2,
-        points,
-        triplet,
-        weights,
-        flags,
-    );
-    weights_agree(answer, refusal, weights, flags, stored, stored_flags)
-}
-
-fn equal_agree(
-    shape: Shape,
-    addresses: &[i64],
-    map: &[i64],
-    table: &[i64],
-    frequencies1: &[f64],
-    frequencies2: &[f64],
-    points: &[f64],
+    list: &[i64],
+    one: [i64; 3],
     triplets: &mut [i64],
-    number: i64,
     weights: &mut [f64],
     flags: &mut [i8],
     refusal: u64,
-    stored: f64,
-    stored_flag: i64,
+    stored: &[f64],
+    stored_flags: &[i64],
 ) -> bool {
-    repeat(triplets, number);
+    repeat(list, triplets);
     mark(weights);
     mark_flags(flags);
-    let answer = triplet::integration_weight(
+    let answer = answer_of(
+        record,
         shape,
         addresses,
         map,
@@ -346,165 +288,15 @@ fn equal_agree(
         frequencies2,
         points,
         triplets,
+        one,
         weights,
         flags,
     );
-    equal_weights_agree(answer, refusal, weights, flags, stored, stored_flag)
+    weights_agree(answer, refusal, weights, flags, stored, stored_flags)
 }
 
 // ---- the cases
 
-fn all_case(
-    text: &[u8],
-    c: Cursor,
-    shape: Shape,
-    addresses: &[i64],
-    map: &[i64],
-    table: &[i64],
-    frequencies1: &[f64],
-    frequencies2: &[f64],
-    points: &[f64],
-) -> Judged {
-    let refusal = input::next_count(text, c);
-    let mut triplets = numbers();
-    let t = input::fill_wholes(text, refusal.next, &mut triplets);
-    let room = input::next_count(text, t.next);
-    let places = input::next_count(text, room.next);
-    let mut stored = reals();
-    let w = input::fill_reals(text, places.next, &mut stored);
-    let mut stored_flags = numbers();
-    let f = input::fill_wholes(text, w.next, &mut stored_flags);
-    let mut weights = reals();
-    let mut flags = signs();
-    let n = room_of(room.value, &weights);
-    let m = places_of(places.value, &flags);
-    let q = t.count;
-    let k = w.count;
-    let l = f.count;
-    let next = f.next;
-    let agrees = all_agree(
-        shape,
-        addresses,
-        map,
-        table,
-        frequencies1,
-        frequencies2,
-        points,
-        &triplets[..q],
-        &mut weights[..n],
-        &mut flags[..m],
-        refusal.value,
-        &stored[..k],
-        &stored_flags[..l],
-    );
-    Judged {
-        refusal: refusal.value,
-        agrees,
-        next,
-    }
-}
-
-fn one_case(
-    text: &[u8],
-    c: Cursor,
-    shape: Shape,
-    addresses: &[i64],
-    map: &[i64],
-    table: &[i64],
-    frequencies1: &[f64],
-    frequencies2: &[f64],
-    points: &[f64],
-) -> Judged {
-    let refusal = input::next_count(text, c);
-    let triplet = input::next_three(text, refusal.next);
-    let room = input::next_count(text, triplet.next);
-    let places = input::next_count(text, room.next);
-    let mut stored = reals();
-    let w = input::fill_reals(text, places.next, &mut stored);
-    let mut stored_flags = numbers();
-    let f = input::fill_wholes(text, w.next, &mut stored_flags);
-    let mut weights = reals();
-    let mut flags = signs();
-    let n = room_of(room.value, &weights);
-    let m = places_of(places.value, &flags);
-    let q = triplet.value;
-    let k = w.count;
-    let l = f.count;
-    let next = f.next;
-    let agrees = one_agrees(
-        shape,
-        addresses,
-        map,
-        table,
-        frequencies1,
-        frequencies2,
-        points,
-        q,
-        &mut weights[..n],
-        &mut flags[..m],
-        refusal.value,
-        &stored[..k],
-        &stored_flags[..l],
-    );
-    Judged {
-        refusal: refusal.value,
-        agrees,
-        next,
-    }
-}
-
-fn equal_case(
-    text: &[u8],
-    c: Cursor,
-    shape: Shape,
-    addresses: &[i64],
-    map: &[i64],
-    table: &[i64],
-    frequencies1: &[f64],
-    frequencies2: &[f64],
-    points: &[f64],
-) -> Judged {
-    let refusal = input::next_count(text, c);
-    let count = input::next_count(text, refusal.next);
-    let number = input::next_whole(text, count.next);
-    let room = input::next_count(text, number.next);
-    let places = input::next_count(text, room.next);
-    let stored = input::next_real(text, places.next);
-    let stored_flag = input::next_whole(text, stored.next);
-    let mut triplets = many_numbers();
-    let mut weights = many_reals();
-    let mut flags = many_signs();
-    let q = input::part_of(count.value, &triplets);
-    let n = room_of(room.value, &weights);
-    let m = places_of(places.value, &flags);
-    let g = number.value;
-    let w = stored.value;
-    let f = stored_flag.value;
-    let next = stored_flag.next;
-    let agrees = equal_agree(
-        shape,
-        addresses,
-        map,
-        table,
-        frequencies1,
-        frequencies2,
-        points,
-        &mut triplets[..q],
-        g,
-        &mut weights[..n],
-        &mut flags[..m],
-        refusal.value,
-        w,
-        f,
-    );
-    Judged {
-        refusal: refusal.value,
-        agrees,
-        next,
-    }
-}
-
-// A call of the kind that its record tells.
 fn call_case(
     text: &[u8],
     c: Cursor,
@@ -517,35 +309,29 @@ fn call_case(
     frequencies2: &[f64],
     points: &[f64],
 ) -> Judged {
-    if record == 3 {
-        return all_case(
-            text,
-            c,
-            shape,
-            addresses,
-            map,
-            table,
-            frequencies1,
-            frequencies2,
-            points,
-        );
-    }
-    if record == 4 {
-        return one_case(
-            text,
-            c,
-            shape,
-            addresses,
-            map,
-            table,
-            frequencies1,
-            frequencies2,
-            points,
-        );
-    }
-    equal_case(
-        text,
-        c,
+    let refusal = input::next_count(text, c);
+    let mut list = numbers();
+    let t = input::fill_wholes(text, refusal.next, &mut list);
+    let count = input::next_count(text, t.next);
+    let room = input::next_count(text, count.next);
+    let places = input::next_count(text, room.next);
+    let mut stored = reals();
+    let w = input::fill_reals(text, places.next, &mut stored);
+    let mut stored_flags = numbers();
+    let f = input::fill_wholes(text, w.next, &mut stored_flags);
+    let mut triplets = many_numbers();
+    let mut weights = many_reals();
+    let mut flags = many_flags();
+    let q = input::part_of(count.value, &triplets);
+    let n = room_of(room.value, &weights);
+    let m = places_of(places.value, &flags);
+    let one = [list[0], list[1], list[2]];
+    let l = t.count;
+    let k = w.count;
+    let j = f.count;
+    let next = f.next;
+    let agrees = call_agrees(
+        record,
         shape,
         addresses,
         map,
@@ -553,7 +339,20 @@ fn call_case(
         frequencies1,
         frequencies2,
         points,
-    )
+        &list[..l],
+        one,
+        &mut triplets[..q],
+        &mut weights[..n],
+        &mut flags[..m],
+        refusal.value,
+        &stored[..k],
+        &stored_flags[..j],
+    );
+    Judged {
+        refusal: refusal.value,
+        agrees,
+        next,
+    }
 }
 
 // A call on the study whose record starts at study.
@@ -643,14 +442,12 @@ fn after_study(text: &[u8], c: Cursor) -> Cursor {
 struct Counts {
     all: Count,
     one: Count,
-    equal: Count,
 }
 
 // The counts with the cases of one block.
 fn replayed(text: &[u8], before: Counts) -> Counts {
     let mut all = before.all;
     let mut one = before.one;
-    let mut equal = before.equal;
     let mut c = Cursor { at: 0 };
     let mut grid = Cursor { at: 0 };
     let mut study = Cursor { at: 0 };
@@ -673,21 +470,18 @@ fn replayed(text: &[u8], before: Counts) -> Counts {
             c = j.next;
             if record.value == 3 {
                 all = report::counted(b"all triplets", all, j.refusal, j.agrees);
-            } else if record.value == 4 {
-                one = report::counted(b"one triplet", one, j.refusal, j.agrees);
             } else {
-                equal = report::counted(b"equal triplets", equal, j.refusal, j.agrees);
+                one = report::counted(b"one triplet", one, j.refusal, j.agrees);
             }
         }
     }
-    Counts { all, one, equal }
+    Counts { all, one }
 }
 
 fn main() {
     let mut counts = Counts {
         all: report::no_cases(),
         one: report::no_cases(),
-        equal: report::no_cases(),
     };
     let mut text = io::large_buffer();
     let mut blocks: u64 = 1000;
@@ -701,8 +495,6 @@ fn main() {
     }
     let all = counts.all;
     let one = counts.one;
-    let equal = counts.equal;
     report::print_count(b"weights of all triplets", all);
     report::print_count(b"weights of one triplet", one);
-    report::print_count(b"weights of equal triplets", equal);
 }

@@ -6,19 +6,16 @@ use Rattle.vectors_triplet.proofs.main.Statement.{statement}
 use Rattle.vectors_triplet.proofs.main.Tie as tie
 
 abbrev Inv-loop : tie.InvT-loop
-Inv-loop counts₀ text₀ blocks₀ t8 t9 t10 counts text blocks = 65536 ≡ length text
+Inv-loop counts₀ text₀ blocks₀ t7 t8 counts text blocks = 65536 ≡ length text
 
 abbrev μ-loop : tie.MeasureT-loop
-μ-loop counts₀ text₀ blocks₀ t8 t9 t10 counts text blocks = blocks
+μ-loop counts₀ text₀ blocks₀ t7 t8 counts text blocks = blocks
 
 no-cases-requires : tie.Need-no-cases-requires Inv-loop μ-loop
 no-cases-requires c κs = search needs
 
 no-cases-requires-2 : tie.Need-no-cases-requires-2 Inv-loop μ-loop
 no-cases-requires-2 c κs = search needs
-
-no-cases-requires-3 : tie.Need-no-cases-requires-3 Inv-loop μ-loop
-no-cases-requires-3 c κs = search needs
 
 large-buffer-requires : tie.Need-large-buffer-requires Inv-loop μ-loop
 large-buffer-requires c κs = search needs
@@ -62,12 +59,6 @@ slice-aggregate-print-count-2 c = search needs
 print-count-requires-2 : tie.Need-print-count-requires-2 Inv-loop μ-loop
 print-count-requires-2 c κs = search needs
 
-slice-aggregate-print-count-3 : tie.Need-slice-aggregate-print-count-3 Inv-loop μ-loop
-slice-aggregate-print-count-3 c = search needs
-
-print-count-requires-3 : tie.Need-print-count-requires-3 Inv-loop μ-loop
-print-count-requires-3 c κs = search needs
-
 returns : tie.Need-returns Inv-loop μ-loop
 returns c = search needs
 
@@ -79,7 +70,6 @@ main-spec =
     μ-loop
     no-cases-requires
     no-cases-requires-2
-    no-cases-requires-3
     large-buffer-requires
     loop-holds
     sub-blocks
@@ -94,6 +84,4 @@ main-spec =
     print-count-requires
     slice-aggregate-print-count-2
     print-count-requires-2
-    slice-aggregate-print-count-3
-    print-count-requires-3
     returns)

@@ -4,10 +4,10 @@ use Rattle.vectors_triplet.proofs.replayed.Statement.{statement}
 use Rattle.vectors_triplet.proofs.replayed.Tie as tie
 
 abbrev Inv-loop : tie.InvT-loop
-Inv-loop text all₀ one₀ equal₀ c₀ grid₀ study₀ turns₀ t13 t14 t15 all one equal c grid study turns = Unit
+Inv-loop text all₀ one₀ c₀ grid₀ study₀ turns₀ t12 t13 all one c grid study turns = Unit
 
 abbrev μ-loop : tie.MeasureT-loop
-μ-loop text all₀ one₀ equal₀ c₀ grid₀ study₀ turns₀ t13 t14 t15 all one equal c grid study turns = turns
+μ-loop text all₀ one₀ c₀ grid₀ study₀ turns₀ t12 t13 all one c grid study turns = turns
 
 loop-holds : tie.Need-loop-holds Inv-loop μ-loop
 loop-holds c = search needs
@@ -63,18 +63,6 @@ loop-less-4 c = search needs
 loop-again-4 : tie.Need-loop-again-4 Inv-loop μ-loop
 loop-again-4 c = search needs
 
-slice-aggregate-counted-3 : tie.Need-slice-aggregate-counted-3 Inv-loop μ-loop
-slice-aggregate-counted-3 c = search needs
-
-counted-requires-3 : tie.Need-counted-requires-3 Inv-loop μ-loop
-counted-requires-3 c κs = search needs
-
-loop-less-5 : tie.Need-loop-less-5 Inv-loop μ-loop
-loop-less-5 c = search needs
-
-loop-again-5 : tie.Need-loop-again-5 Inv-loop μ-loop
-loop-again-5 c = search needs
-
 returns : tie.Need-returns Inv-loop μ-loop
 returns c = search needs
 
@@ -105,9 +93,5 @@ replayed-spec =
     counted-requires-2
     loop-less-4
     loop-again-4
-    slice-aggregate-counted-3
-    counted-requires-3
-    loop-less-5
-    loop-again-5
     returns
     returns-2)

@@ -6,10 +6,10 @@ use Rattle.vectors_triplet.proofs.same_flags.Statement.{statement}
 use Rattle.vectors_triplet.proofs.same_flags.Tie as tie
 
 abbrev Inv-loop : tie.InvT-loop
-Inv-loop a b i₀ i = Unit
+Inv-loop flags list i₀ i = Unit
 
 abbrev μ-loop : tie.MeasureT-loop
-μ-loop a b i₀ i = length a - i
+μ-loop flags list i₀ i = length flags - i
 
 returns : tie.Need-returns Inv-loop μ-loop
 returns c = search needs
@@ -19,6 +19,9 @@ loop-holds c = search needs
 
 shared-slice-copy-out-if2 : tie.Need-shared-slice-copy-out-if2 Inv-loop μ-loop
 shared-slice-copy-out-if2 c = search needs
+
+place-of-requires : tie.Need-place-of-requires Inv-loop μ-loop
+place-of-requires c κs = search needs
 
 mul-flag-of : tie.Need-mul-flag-of Inv-loop μ-loop
 mul-flag-of c = search needs
@@ -53,6 +56,7 @@ same-flags-spec =
     returns
     loop-holds
     shared-slice-copy-out-if2
+    place-of-requires
     mul-flag-of
     shared-slice-copy-out-flag-of
     flag-of-requires

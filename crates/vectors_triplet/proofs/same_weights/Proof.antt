@@ -1,16 +1,15 @@
--- `vectors_triplet::same_reals` is safe and ends: the measure is what is left of the first list. Assumes nothing.
-use borrow.Author.Needs.{needs}
+-- `vectors_triplet::same_weights` is safe and ends: the measure is what is left of the list. Assumes nothing.
 use Prim.Native.Nat.{_-_}
 use lib.ListN.{length}
-use mathlib.Core.Path.{_≡_}
-use Rattle.vectors_triplet.proofs.same_reals.Statement.{statement}
-use Rattle.vectors_triplet.proofs.same_reals.Tie as tie
+use borrow.Author.Needs.{needs}
+use Rattle.vectors_triplet.proofs.same_weights.Statement.{statement}
+use Rattle.vectors_triplet.proofs.same_weights.Tie as tie
 
 abbrev Inv-loop : tie.InvT-loop
-Inv-loop a b i₀ i = length a ≡ length b
+Inv-loop weights list i₀ i = Unit
 
 abbrev μ-loop : tie.MeasureT-loop
-μ-loop a b i₀ i = length a - i
+μ-loop weights list i₀ i = length weights - i
 
 returns : tie.Need-returns Inv-loop μ-loop
 returns c = search needs
@@ -23,6 +22,9 @@ mul-same-bits c = search needs
 
 shared-slice-read-same-bits : tie.Need-shared-slice-read-same-bits Inv-loop μ-loop
 shared-slice-read-same-bits c = search needs
+
+place-of-requires : tie.Need-place-of-requires Inv-loop μ-loop
+place-of-requires c κs = search needs
 
 mul-same-bits-2 : tie.Need-mul-same-bits-2 Inv-loop μ-loop
 mul-same-bits-2 c = search needs
@@ -48,8 +50,8 @@ loop-again c = search needs
 returns-3 : tie.Need-returns-3 Inv-loop μ-loop
 returns-3 c = search needs
 
-pub same-reals-spec : {M : Type 1} → statement M
-same-reals-spec =
+pub same-weights-spec : {M : Type 1} → statement M
+same-weights-spec =
     tie.close
     (tie.spec
     Inv-loop
@@ -58,6 +60,7 @@ same-reals-spec =
     loop-holds
     mul-same-bits
     shared-slice-read-same-bits
+    place-of-requires
     mul-same-bits-2
     shared-slice-read-same-bits-2
     same-bits-requires
