@@ -3,12 +3,17 @@ ghost use mathlib.Core.Path.{_≡_};
 ghost use Prim.Native.Nat.{_*_, _/_, _<_, _≤_};
 ghost use lib.Dec.{eqb};
 ghost use lib.ListN.{length};
+ghost use Rattle.questions.specs.Ask.{firstNo, afterCall};
 ghost use Rattle.triplet_corners.specs.Corners.{secondSteps};
 ghost use Rattle.triplet_piece.specs.Study.{study, rowsIn, Ready, computedWeights, computedFlags};
+ghost use Rattle.triplet_study.specs.Given.{given, studyOf};
 ghost use Rattle.triplet_iw.specs.Whole.{allWeights, allFlags};
+ghost use Rattle.triplet_iw.specs.Calls.{weightsQuestions, weightsAnswer};
+use crate::WeightsAnswer;
 use bzgrid::BzGrid;
 use triplet_channels::TpType;
 use triplet_piece::Sizes;
+use triplet_study::Shape;
 
 // All pieces of triplet `t`: its corners are looked up once. `second` is the second copy of the steps.
 pub fn fill_triplet(
@@ -118,4 +123,64 @@ pub fn fill_triplets(
             t,
         );
     }
+}
+
+// The weights and flags of all triplets of a study as a caller gives it. Questions 3 to 12.
+pub fn fill_given(
+    shape: Shape,
+    addresses: &[i64],
+    gp_map: &[i64],
+    relative_grid_address: &[i64],
+    frequencies1: &[f64],
+    frequencies2: &[f64],
+    frequency_points: &[f64],
+    triplets: &[i64],
+    weights: &mut [f64],
+    flags: &mut [i8],
+) -> WeightsAnswer
+    ensures { λ r. ⌜ r ≡ weightsAnswer (firstNo (weightsQuestions (given shape (now (addresses .entry)) (now («gp_map» .entry)) (now («relative_grid_address» .entry)) (now (frequencies1 .entry)) (now (frequencies2 .entry)) (now («frequency_points» .entry)) (now (triplets .entry))) (length (now (weights .entry))) (length (now (flags .entry))))) ⌝ }
+    ensures { λ r. ⌜ now (weights .exit) ≡ afterCall (firstNo (weightsQuestions (given shape (now (addresses .entry)) (now («gp_map» .entry)) (now («relative_grid_address» .entry)) (now (frequencies1 .entry)) (now (frequencies2 .entry)) (now («frequency_points» .entry)) (now (triplets .entry))) (length (now (weights .entry))) (length (now (flags .entry)))))
+        (allWeights (studyOf (given shape (now (addresses .entry)) (now («gp_map» .entry)) (now («relative_grid_address» .entry)) (now (frequencies1 .entry)) (now (frequencies2 .entry)) (now («frequency_points» .entry)) (now (triplets .entry)))))
+        (now (weights .entry)) ⌝ }
+    ensures { λ r. ⌜ now (flags .exit) ≡ afterCall (firstNo (weightsQuestions (given shape (now (addresses .entry)) (now («gp_map» .entry)) (now («relative_grid_address» .entry)) (now (frequencies1 .entry)) (now (frequencies2 .entry)) (now («frequency_points» .entry)) (now (triplets .entry))) (length (now (weights .entry))) (length (now (flags .entry)))))
+        (allFlags (studyOf (given shape (now (addresses .entry)) (now («gp_map» .entry)) (now («relative_grid_address» .entry)) (now (frequencies1 .entry)) (now (frequencies2 .entry)) (now («frequency_points» .entry)) (now (triplets .entry)))))
+        (now (flags .entry)) ⌝ }
+{
+    let no = triplet_study::kernel::given_no(
+        shape,
+        addresses,
+        gp_map,
+        relative_grid_address,
+        frequencies1,
+        frequencies2,
+        frequency_points,
+        triplets,
+    );
+    if no != 0 {
+        return WeightsAnswer::Refused(no);
+    }
+    let z = triplet_study::kernel::sizes_of(shape, frequency_points.len(), triplets.len() / 3);
+    if !triplet_study::kernel::lengths_ok(z, weights.len(), flags.len()) {
+        return WeightsAnswer::Refused(questions::BAD_LENGTH);
+    }
+    let bz_grid_type = shape.bz_grid_type;
+    let d_diag = shape.d_diag;
+    let tp_type = shape.tp_type;
+    let tp = triplet_channels::kernel::types::tp_type_of(tp_type);
+    let grid = bzgrid::kernel::grid_of(bz_grid_type, d_diag);
+    fill_triplets(
+        weights,
+        flags,
+        z,
+        tp,
+        grid,
+        addresses,
+        gp_map,
+        relative_grid_address,
+        frequencies1,
+        frequencies2,
+        frequency_points,
+        triplets,
+    );
+    WeightsAnswer::Filled
 }
