@@ -1,0 +1,3 @@
+-- The definitions.
+pub mod Book
+pub mod Lists
