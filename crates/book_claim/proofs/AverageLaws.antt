@@ -36,7 +36,7 @@ words-computed l b t k e h m =
 
 module _ (g : Given) (start : Sheet) (b : Book) (t : ℤ) (ids1 ids2 : List ℤ) (a : Accepted g (render g start b) (average t ids1 ids2)) where
   -- the triplet's words are computed
-  all-computed : (k : ℕ) → k < countsOf g .pairs → getD (b .words) (mag t * countsOf g .pairs + k) fresh ≡ computed
+  pub all-computed : (k : ℕ) → k < countsOf g .pairs → getD (b .words) (mag t * countsOf g .pairs + k) fresh ≡ computed
   unfolding render
   all-computed k h =
       words-computed (b .words) (countsOf g .pairs) (mag t) k (a .own .1 .1 .1 .1 .0) h

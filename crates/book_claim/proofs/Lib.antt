@@ -6,3 +6,9 @@ pub mod AcceptedLaws
 pub mod RunLaws
 pub mod AverageLaws
 pub mod Demand3
+pub mod TurnLaws
+pub mod AlongLaws
+pub mod CutLaws
+pub mod Questions
+pub mod Words
+pub mod Corollaries

@@ -68,13 +68,24 @@ flagBy g fresh j old = old
 flagBy g computed j old = flagAt (studyOf g) j
 flagBy g (averagedBy ids1 ids2) j old = averagedFlagAt (countsOf g) ids1 ids2 (computedFlagRow g j) j
 
--- the word of the piece that the flag at place j belongs to
-abbrev pub wordOfFlag : Given → Book → ℕ → Word
-wordOfFlag g b j = getD (b .words) (pieceAt (countsOf g .points) (countsOf g .pairs) j) fresh
+-- the piece of the flag at place j, by the place of its mark
+abbrev pub pieceOfFlag : Given → ℕ → ℕ
+pieceOfFlag g j = pieceAt (countsOf g .points) (countsOf g .pairs) j
 
--- and of the piece of the weight at place i: "Weights lie by channel, triplet, point, b1, b2; flags without the channel"
+-- the piece of the weight at place i: "Weights lie by channel, triplet, point, b1, b2; flags without the channel"
+abbrev pub pieceOfWeight : Given → ℕ → ℕ
+pieceOfWeight g i = pieceOfFlag g (i % countsOf g .cells)
+
+-- the word of piece q
+abbrev pub wordAt : Book → ℕ → Word
+wordAt b q = getD (b .words) q fresh
+
+-- the words that say what stands at place i of the weights, and at place j of the flags
 abbrev pub wordOfWeight : Given → Book → ℕ → Word
-wordOfWeight g b i = wordOfFlag g b (i % countsOf g .cells)
+wordOfWeight g b i = wordAt b (pieceOfWeight g i)
+
+abbrev pub wordOfFlag : Given → Book → ℕ → Word
+wordOfFlag g b j = wordAt b (pieceOfFlag g j)
 
 -- a list in which each entry x at place i has become f i x
 unfoldable pub eachEntry : {A : Type 0} → (ℕ → A → A) → List A → List A
