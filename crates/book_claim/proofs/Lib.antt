@@ -1,0 +1,14 @@
+-- The laws.
+pub mod EntryLaws
+pub mod WordLaws
+pub mod PlaceLaws
+pub mod AcceptedLaws
+pub mod RunLaws
+pub mod AverageLaws
+pub mod Demand3
+pub mod TurnLaws
+pub mod AlongLaws
+pub mod CutLaws
+pub mod Questions
+pub mod Words
+pub mod Corollaries

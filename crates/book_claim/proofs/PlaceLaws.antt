@@ -1,0 +1,68 @@
+-- Where a place of weights or flags belongs: its piece, its row of band pairs. Assumes nothing.
+use mathlib.Core.Path.{_≡_, sym, _∙_}
+use mathlib.Core.List.{List}
+use Prim.Native.Nat.{ℕ, zero, suc, _+_, _*_, _/_, _%_, _≤_, _<_}
+use native.Mathlib.Nat.{mod-lt, div-lt-iff-lt-mul, mul-zero, add-mul, mul-le-mul-right, zero-lt-suc}
+use native.Mathlib.Omega.{arith}
+use lib.Arith.{digits-div, digits-mod, digits-lt, mod-mul}
+use lib.ListN.{length, getD, drop, length-drop}
+use lib.Seq.{length-take-le, ext-getD, getD-take, getD-drop}
+use Rattle.list_laws.specs.Lists.{tabulate}
+use Rattle.list_laws.proofs.FillLaws.{length-tabulate, tabulate-at}
+use Rattle.triplet_piece.specs.Layout.{tripletAt, pairAt, pieceAt}
+use Rattle.sheet_step.specs.Steps.{rowOf}
+
+-- a place below a product: the second factor is not 0
+pub factor-pos : (i c f : ℕ) → i < c * f → 0 < f
+factor-pos i c zero h = let e : c * zero ≡ 0 = mul-zero c in omega arith
+factor-pos i c (suc f) h = zero-lt-suc f
+
+-- ---- of p points and b band pairs: the piece of cell j
+
+pub piece-lt : (p b n : ℕ) → 0 < b → 0 < p → (j : ℕ) → j < n * p * b → pieceAt p b j < n * b
+unfolding pieceAt tripletAt pairAt
+piece-lt p b n hb hp j h =
+    let r : j / b < n * p = div-lt-iff-lt-mul hb .1 h in
+    digits-lt (div-lt-iff-lt-mul hp .1 r) (mod-lt j hb)
+
+pub piece-div : (p b : ℕ) → 0 < b → (j : ℕ) → pieceAt p b j / b ≡ tripletAt p b j
+unfolding pieceAt tripletAt pairAt
+piece-div p b hb j = digits-div (j / b / p) (mod-lt j hb)
+
+-- ---- rows: b places from r * b on
+
+-- a row that holds a place of n rows lies in them
+pub row-within : (i b n : ℕ) → 0 < b → i < n * b → i / b * b + b ≤ n * b
+row-within i b n hb h =
+    let q : i / b < n = div-lt-iff-lt-mul hb .1 h in
+    let e : (i / b + 1) * b ≤ n * b = mul-le-mul-right b (omega arith) in
+    omega (arith, add-mul (i / b) 1 b)
+
+-- a row by its entries
+pub row-made : {A : Type 0} (d : A) (l : List A) (b r : ℕ) (f : ℕ → A) → r * b + b ≤ length l
+    → ((k : ℕ) → k < b → getD l (r * b + k) d ≡ f (r * b + k)) → rowOf b r l ≡ tabulate b (λ k. f (r * b + k))
+row-made d l b r f h e =
+    let n : length (rowOf b r l) ≡ b = length-take-le b (drop (r * b) l) (omega (arith, length-drop (r * b) l)) in
+    ext-getD d (rowOf b r l) (tabulate b (λ k. f (r * b + k))) (n ∙ sym (length-tabulate b (λ k. f (r * b + k))))
+    (λ k q. let q′ : k < b = rw n at q in
+    getD-take b (drop (r * b) l) k d q′ ∙ getD-drop (r * b) l k d ∙ e k q′ ∙ sym (tabulate-at b (λ k. f (r * b + k)) d k q′))
+
+-- the piece of a row's place
+pub row-piece : (p b r k : ℕ) → k < b → pieceAt p b (r * b + k) ≡ r / p * b + k
+unfolding pieceAt tripletAt pairAt
+row-piece p b r k h = rw (digits-div r h, digits-mod r h)
+
+-- and of a row's place of the weights, n rows to a channel
+module _ (p b n : ℕ) (hb : 0 < b) (hn : 0 < n) where
+  wrapped : (r k : ℕ) → k < b → (r * b + k) % (n * b) ≡ r % n * b + k
+  wrapped r k h = mod-mul (r * b + k) hn hb ∙ rw (digits-div r h, digits-mod r h)
+
+  pub wrapped-triplet : (i : ℕ) → tripletAt p b (i % (n * b)) ≡ i / b % n / p
+  unfolding tripletAt
+  wrapped-triplet i =
+      let e : i % (n * b) ≡ i / b % n * b + i % b = mod-mul i hn hb in
+      rw (e, digits-div (i / b % n) (mod-lt i hb))
+
+  pub wrapped-piece : (r k : ℕ) → k < b → pieceAt p b ((r * b + k) % (n * b)) ≡ r % n / p * b + k
+  unfolding pieceAt tripletAt pairAt
+  wrapped-piece r k h = rw (wrapped r k h, digits-div (r % n) h, digits-mod (r % n) h)

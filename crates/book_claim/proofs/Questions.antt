@@ -1,0 +1,69 @@
+-- What a call's answer says of its questions, and that an averaged triplet is refused with 15. Assumes nothing.
+use mathlib.Core.Path.{_≡_, sym, ap, _∙_}
+use mathlib.Core.Bool.{true, false, not}
+use mathlib.Core.List.{List, _++_}
+use Prim.Native.Nat.{ℕ, _*_, _<_}
+use lib.IntN.{ℤ}
+use lib.ListN.{length}
+use lib.Signed.{mag}
+use Rattle.list_laws.specs.Signed.{isBelow}
+use Rattle.list_laws.proofs.BoolLaws.{clash}
+use Rattle.questions.specs.Ask.{firstNo, AllYes}
+use Rattle.questions.proofs.AskLaws.{all-yes, none-no, FirstNo, first-no, is-first, group-yes}
+use Rattle.triplet_study.specs.Given.{Given, givenQuestions}
+use Rattle.triplet_study.proofs.GivenLaws.{given-numbered}
+use Rattle.sheet_step.specs.Marks.{isAveragedAt, areMarks, isNotAveraged}
+use Rattle.sheet_step.specs.Steps.{Sheet, Call, run, average, countsOf, areSheetLengths, isPiece, sheetQuestions, ownQuestions, callQuestions, verdict}
+use Rattle.book_claim.proofs.AcceptedLaws.{accepted, call-numbered}
+
+module _ (g : Given) (s : Sheet) (c : Call) where
+  -- ---- accepted exactly when every question of the call says yes
+
+  pub accepted-yes : verdict g s c ≡ 0 → AllYes (callQuestions g s c)
+  unfolding verdict
+  accepted-yes e = all-yes (callQuestions g s c) (call-numbered g s c) e
+
+  pub yes-accepted : AllYes (callQuestions g s c) → verdict g s c ≡ 0
+  unfolding verdict
+  yes-accepted y = none-no (callQuestions g s c) y
+
+  -- ---- refused with n exactly when n is the first that says no
+
+  pub refused-first : (n : ℕ) → 0 < n → verdict g s c ≡ n → FirstNo n (callQuestions g s c)
+  unfolding verdict
+  refused-first n h e = is-first n (callQuestions g s c) h e
+
+  pub first-refused : (n : ℕ) → FirstNo n (callQuestions g s c) → verdict g s c ≡ n
+  unfolding verdict
+  first-refused n f = ap firstNo (f .parts) ∙ first-no n (f .before) (f .after) (f .yes-before)
+
+-- ---- a triplet whose first mark is 2: no run of a piece of it and no averaging of it is accepted
+
+module _ (g : Given) (s : Sheet) (t : ℤ) (averaged : isAveragedAt (s .marks) (mag t * countsOf g .pairs) ≡ true) where
+  fifteen : isNotAveraged (countsOf g .pairs) (s .marks) (mag t) ≡ false
+  unfolding isNotAveraged
+  fifteen = ap not averaged
+
+  pub no-average : (ids1 ids2 : List ℤ) → verdict g s (average t ids1 ids2) ≡ 0 → ⊥
+  no-average ids1 ids2 e = clash (sym fifteen ∙ accepted g s (average t ids1 ids2) e .own .1 .0)
+
+  pub no-run : (b1 b2 : ℤ) → verdict g s (run t b1 b2) ≡ 0 → ⊥
+  no-run b1 b2 e = clash (sym fifteen ∙ accepted g s (run t b1 b2) e .own .1 .0)
+
+-- ---- and where the questions before say yes, both are refused with 15
+
+module _ (g : Given) (s : Sheet) (t : ℤ) (study : firstNo (givenQuestions g) ≡ 0)
+    (lengths : areSheetLengths (countsOf g) (length (s .weights)) (length (s .flags)) (length (s .marks)) ≡ true)
+    (marks : areMarks (countsOf g .pairs) (s .marks) ≡ true)
+    (averaged : isAveragedAt (s .marks) (mag t * countsOf g .pairs) ≡ true) where
+  pub averaged-average : (ids1 ids2 : List ℤ) → isBelow t (countsOf g .triplets) ≡ true → verdict g s (average t ids1 ids2) ≡ 15
+  unfolding verdict firstNo
+  averaged-average ids1 ids2 on =
+      group-yes (givenQuestions g) (sheetQuestions (countsOf g) (length (s .weights)) (length (s .flags)) (s .marks) ++ ownQuestions g s (average t ids1 ids2)) (given-numbered g) study
+      ∙ rw (lengths, marks, on, fifteen g s t averaged)
+
+  pub averaged-run : (b1 b2 : ℤ) → isPiece (countsOf g) t b1 b2 ≡ true → verdict g s (run t b1 b2) ≡ 15
+  unfolding verdict firstNo
+  averaged-run b1 b2 on =
+      group-yes (givenQuestions g) (sheetQuestions (countsOf g) (length (s .weights)) (length (s .flags)) (s .marks) ++ ownQuestions g s (run t b1 b2)) (given-numbered g) study
+      ∙ rw (lengths, marks, on, fifteen g s t averaged)

@@ -1,0 +1,223 @@
+-- One call and the word of one piece: an averaged word stays; an open one is run, or stays open; who averages. Assumes nothing.
+use mathlib.Core.Path.{_≡_, refl, sym, ap, _∙_}
+use mathlib.Core.Bool.{Bool, true, false, not, _&&_}
+use mathlib.Core.List.{List, map}
+use Prim.Native.Nat.{ℕ, zero, suc, _+_, _*_, _/_, _%_, _<_}
+use native.Mathlib.Nat.{div-add-mod', mod-lt}
+use native.Mathlib.Omega.{arith}
+use lib.Arith.{digits-div}
+use lib.Dec.{eqb, ltb}
+use lib.IntN.{ℤ}
+use lib.ListN.{length, getD, set, length-set, length-map}
+use lib.Seq.{getD-set-same, getD-set-other}
+use lib.Signed.{mag}
+use borrow.Author.Tests.{eqb-true, eqb-false, eq-eqb, not-true}
+use Rattle.list_laws.specs.Patch.{pick}
+use Rattle.list_laws.proofs.BelowLaws.{below-at}
+use Rattle.list_laws.proofs.BoolLaws.{and-right, clash}
+use Rattle.list_laws.proofs.PatchLaws.{length-patch, getD-patch}
+use Rattle.questions.specs.Ask.{afterCall}
+use Rattle.questions.proofs.AskLaws.{after-done, after-refused}
+use Rattle.triplet_study.specs.Given.{Given}
+use Rattle.sheet_step.specs.Marks.{markAt, isAveragedAt, alike, isMark, areMarks, isNotAveraged, oneIf}
+use Rattle.sheet_step.specs.Steps.{Sheet, Call, run, carry, average, countsOf, pieceOf}
+use Rattle.book_claim.specs.Book.{wordAt, Word, fresh, computed, averagedBy, Book, markOf, isOpen, carried, render, writes, bookNo, turn}
+use Rattle.book_claim.specs.Counts.{runsPiece, averages, isAveraged}
+use Rattle.book_claim.proofs.EntryLaws.{getD-map-lt}
+use Rattle.book_claim.proofs.AcceptedLaws.{Accepted, accepted, piece-in}
+use Rattle.book_claim.proofs.AverageLaws.{all-computed}
+
+-- ---- questions 13 and 15, of words
+
+averaged-mark : (w : Word) → eqb (markOf w) 2 ≡ isAveraged w
+averaged-mark fresh = refl
+averaged-mark computed = refl
+averaged-mark (averagedBy ids1 ids2) = refl
+
+alike-is : (a b : Bool) → alike a b ≡ true → a ≡ b
+unfolding alike
+alike-is true true e = refl
+alike-is true false e = clash e
+alike-is false true e = clash e
+alike-is false false e = refl
+
+averaged-at : (l : List Word) (q : ℕ) → q < length l → isAveragedAt (map markOf l) q ≡ isAveraged (getD l q fresh)
+unfolding isAveragedAt
+averaged-at l q h = ap (λ (m : ℕ). eqb m 2) (getD-map-lt markOf l q 1 fresh h) ∙ averaged-mark (getD l q fresh)
+
+-- a piece is averaged where the first of its triplet is
+triplet-alike : (l : List Word) (b q : ℕ) → areMarks b (map markOf l) ≡ true → q < length l → isAveraged (getD l q fresh) ≡ isAveragedAt (map markOf l) (q / b * b)
+unfolding areMarks isMark
+triplet-alike l b q e h =
+    let m : List ℕ = map markOf l in
+    let y : (ltb (markAt m q) 3 && alike (isAveragedAt m q) (isAveragedAt m (q / b * b))) ≡ true = below-at (length m) (isMark b m) e q (rw (length-map l markOf) h) in
+    sym (averaged-at l q h)
+    ∙ alike-is (isAveragedAt m q) (isAveragedAt m (q / b * b)) (and-right (ltb (markAt m q) 3) (alike (isAveragedAt m q) (isAveragedAt m (q / b * b))) y)
+
+-- no piece of a triplet that is not yet averaged is averaged
+none-averaged : (l : List Word) (b t q : ℕ) → areMarks b (map markOf l) ≡ true → isNotAveraged b (map markOf l) t ≡ true → q / b ≡ t → q < length l
+    → isAveraged (getD l q fresh) ≡ false
+unfolding isNotAveraged
+none-averaged l b t q e n d h = triplet-alike l b q e h ∙ rw d (not-true (isAveragedAt (map markOf l) (t * b)) n)
+
+-- ---- one call
+
+-- a carry-on leaves an averaged word
+carried-averaged : (w : Word) → isAveraged (carried w) ≡ isAveraged w
+carried-averaged fresh = refl
+carried-averaged computed = refl
+carried-averaged (averagedBy ids1 ids2) = refl
+
+carried-kept : (w : Word) → isAveraged w ≡ true → carried w ≡ w
+carried-kept fresh e = clash e
+carried-kept computed e = clash e
+carried-kept (averagedBy ids1 ids2) e = refl
+
+carried-open : (w : Word) → isOpen (carried w) ≡ (isOpen w && not (isOpen w))
+carried-open fresh = refl
+carried-open computed = refl
+carried-open (averagedBy ids1 ids2) = refl
+
+and-true : (x : Bool) → x ≡ (x && true)
+and-true true = refl
+and-true false = refl
+
+and-false : (x : Bool) → false ≡ (x && false)
+and-false true = refl
+and-false false = refl
+
+module _ (g : Given) (start : Sheet) (b : Book) where
+  -- "The first "no" refuses the call with that number, and the book stays."
+  pub book-stays : (c : Call) → (bookNo g start b c ≡ 0 → ⊥) → turn g start b c ≡ b
+  unfolding turn
+  book-stays c e = sym (after-refused (bookNo g start b c) (writes g b c) b e)
+
+  -- "Otherwise:" what the call writes
+  pub book-written : (c : Call) → bookNo g start b c ≡ 0 → turn g start b c ≡ writes g b c
+  unfolding turn
+  book-written c e = sym (after-done (bookNo g start b c) (writes g b c) b e)
+
+  -- there are as many words afterwards
+  pub turn-long : (c : Call) → length (turn g start b c .words) ≡ length (b .words)
+  unfolding turn writes
+  turn-long c = go c (bookNo g start b c)
+    where
+      go : (c : Call) (n : ℕ) → length (afterCall n (writes g b c) b .words) ≡ length (b .words)
+      go (run t b1 b2) zero = length-set (b .words) (pieceOf (countsOf g) t b1 b2) computed
+      go carry zero = length-map (b .words) carried
+      go (average t ids1 ids2) zero = length-patch (λ q. eqb (q / countsOf g .pairs) (mag t)) (λ q. averagedBy ids1 ids2) (b .words)
+      go c (suc n) = refl
+
+  -- the call is accepted: every question said yes
+  pub yes : (c : Call) → bookNo g start b c ≡ 0 → Accepted g (render g start b) c
+  unfolding bookNo
+  yes c e = accepted g (render g start b) c e
+
+  module _ (q : ℕ) (h : q < length (b .words)) where
+    -- an accepted run is not of an averaged piece
+    run-open : (t b1 b2 : ℤ) → Accepted g (render g start b) (run t b1 b2) → q ≡ pieceOf (countsOf g) t b1 b2 → isAveraged (wordAt b q) ≡ false
+    unfolding render
+    run-open t b1 b2 a e =
+        let in-row : _ = piece-in (countsOf g) t b1 b2 (a .bands) (a .own .0) in
+        none-averaged (b .words) (countsOf g .pairs) (mag t) q (a .fine) (a .own .1 .0) (rw e (digits-div (mag t) (in-row .1))) h
+
+    -- an accepted averaging is of computed pieces
+    average-computed : (t : ℤ) (ids1 ids2 : List ℤ) → Accepted g (render g start b) (average t ids1 ids2) → q / countsOf g .pairs ≡ mag t → wordAt b q ≡ computed
+    average-computed t ids1 ids2 a e =
+        let place : q ≡ mag t * countsOf g .pairs + q % countsOf g .pairs = sym (div-add-mod' q (countsOf g .pairs)) ∙ rw e in
+        ap (λ (n : ℕ). wordAt b n) place ∙ all-computed g start b t ids1 ids2 a (q % countsOf g .pairs) (mod-lt q (a .some))
+
+    -- it writes its lists beside them
+    pub average-turn : (t : ℤ) (ids1 ids2 : List ℤ) → q / countsOf g .pairs ≡ mag t → bookNo g start b (average t ids1 ids2) ≡ 0
+        → wordAt (turn g start b (average t ids1 ids2)) q ≡ averagedBy ids1 ids2
+    unfolding turn writes
+    average-turn t ids1 ids2 e z =
+        ap (λ (n : ℕ). wordAt (afterCall n (writes g b (average t ids1 ids2)) b) q) z
+        ∙ getD-patch (λ q. eqb (q / countsOf g .pairs) (mag t)) (λ q. averagedBy ids1 ids2) (b .words) q fresh h
+        ∙ ap (λ (u : Bool). pick u (averagedBy ids1 ids2) (wordAt b q)) (eq-eqb (q / countsOf g .pairs) (mag t) e)
+
+    -- ---- an averaged word stays
+
+    pub kept : (c : Call) → isAveraged (wordAt b q) ≡ true → wordAt (turn g start b c) q ≡ wordAt b q
+    unfolding turn writes
+    kept c av = go c (bookNo g start b c) refl
+      where
+        at-run : (t b1 b2 : ℤ) → Accepted g (render g start b) (run t b1 b2) → (u : Bool) → eqb q (pieceOf (countsOf g) t b1 b2) ≡ u
+            → getD (set (b .words) (pieceOf (countsOf g) t b1 b2) computed) q fresh ≡ wordAt b q
+        at-run t b1 b2 a true e = clash (sym (run-open t b1 b2 a (eqb-true q (pieceOf (countsOf g) t b1 b2) e)) ∙ av)
+        at-run t b1 b2 a false e = getD-set-other (b .words) (pieceOf (countsOf g) t b1 b2) q computed fresh (eqb-false q (pieceOf (countsOf g) t b1 b2) e)
+
+        at-average : (t : ℤ) (ids1 ids2 : List ℤ) → Accepted g (render g start b) (average t ids1 ids2) → (u : Bool) → eqb (q / countsOf g .pairs) (mag t) ≡ u
+            → pick u (averagedBy ids1 ids2) (wordAt b q) ≡ wordAt b q
+        at-average t ids1 ids2 a true e = clash (sym (ap isAveraged (average-computed t ids1 ids2 a (eqb-true (q / countsOf g .pairs) (mag t) e))) ∙ av)
+        at-average t ids1 ids2 a false e = refl
+
+        go : (c : Call) (n : ℕ) → bookNo g start b c ≡ n → wordAt (afterCall n (writes g b c) b) q ≡ wordAt b q
+        go (run t b1 b2) zero e = at-run t b1 b2 (yes (run t b1 b2) e) (eqb q (pieceOf (countsOf g) t b1 b2)) refl
+        go carry zero e = getD-map-lt carried (b .words) q fresh fresh h ∙ carried-kept (wordAt b q) av
+        go (average t ids1 ids2) zero e =
+            getD-patch (λ q. eqb (q / countsOf g .pairs) (mag t)) (λ q. averagedBy ids1 ids2) (b .words) q fresh h
+            ∙ at-average t ids1 ids2 (yes (average t ids1 ids2) e) (eqb (q / countsOf g .pairs) (mag t)) refl
+        go c (suc n) e = refl
+
+    -- ---- a word is averaged afterwards where it was before, or where the call averages its triplet, and never both
+
+    pub averaged-turn : (c : Call)
+        → oneIf (isAveraged (wordAt b q)) + afterCall (bookNo g start b c) (oneIf (averages (q / countsOf g .pairs) c)) 0 ≡ oneIf (isAveraged (wordAt (turn g start b c) q))
+    unfolding turn writes
+    averaged-turn c = go c (bookNo g start b c) refl
+      where
+        none : (x : Bool) → oneIf x + 0 ≡ oneIf x
+        none x = omega arith
+
+        at-run : (t b1 b2 : ℤ) → Accepted g (render g start b) (run t b1 b2) → (u : Bool) → eqb q (pieceOf (countsOf g) t b1 b2) ≡ u
+            → isAveraged (wordAt b q) ≡ isAveraged (getD (set (b .words) (pieceOf (countsOf g) t b1 b2) computed) q fresh)
+        at-run t b1 b2 a true e =
+            let p : q ≡ pieceOf (countsOf g) t b1 b2 = eqb-true q (pieceOf (countsOf g) t b1 b2) e in
+            let w : getD (set (b .words) (pieceOf (countsOf g) t b1 b2) computed) q fresh ≡ computed = rw (← p) (getD-set-same (b .words) q computed fresh h) in
+            run-open t b1 b2 a p ∙ sym (ap isAveraged w)
+        at-run t b1 b2 a false e = ap isAveraged (sym (getD-set-other (b .words) (pieceOf (countsOf g) t b1 b2) q computed fresh (eqb-false q (pieceOf (countsOf g) t b1 b2) e)))
+
+        at-average : (t : ℤ) (ids1 ids2 : List ℤ) → Accepted g (render g start b) (average t ids1 ids2) → (u : Bool) → eqb (q / countsOf g .pairs) (mag t) ≡ u
+            → oneIf (isAveraged (wordAt b q)) + oneIf u ≡ oneIf (isAveraged (pick u (averagedBy ids1 ids2) (wordAt b q)))
+        at-average t ids1 ids2 a true e = rw (average-computed t ids1 ids2 a (eqb-true (q / countsOf g .pairs) (mag t) e))
+        at-average t ids1 ids2 a false e = none (isAveraged (wordAt b q))
+
+        go : (c : Call) (n : ℕ) → bookNo g start b c ≡ n
+            → oneIf (isAveraged (wordAt b q)) + afterCall n (oneIf (averages (q / countsOf g .pairs) c)) 0 ≡ oneIf (isAveraged (wordAt (afterCall n (writes g b c) b) q))
+        go (run t b1 b2) zero e = none (isAveraged (wordAt b q)) ∙ ap oneIf (at-run t b1 b2 (yes (run t b1 b2) e) (eqb q (pieceOf (countsOf g) t b1 b2)) refl)
+        go carry zero e = none (isAveraged (wordAt b q)) ∙ ap oneIf (sym (ap isAveraged (getD-map-lt carried (b .words) q fresh fresh h) ∙ carried-averaged (wordAt b q)))
+        go (average t ids1 ids2) zero e =
+            at-average t ids1 ids2 (yes (average t ids1 ids2) e) (eqb (q / countsOf g .pairs) (mag t)) refl
+            ∙ ap (λ (w : Word). oneIf (isAveraged w)) (sym (getD-patch (λ q. eqb (q / countsOf g .pairs) (mag t)) (λ q. averagedBy ids1 ids2) (b .words) q fresh h))
+        go c (suc n) e = none (isAveraged (wordAt b q))
+
+    -- ---- a word is open afterwards where it was, and the call has not run its piece
+
+    pub open-turn : (c : Call) → isOpen (wordAt (turn g start b c) q) ≡ (isOpen (wordAt b q) && not (afterCall (bookNo g start b c) (runsPiece g b q c) false))
+    unfolding turn writes
+    open-turn c = go c (bookNo g start b c) refl
+      where
+        at-run : (t b1 b2 : ℤ) (u : Bool) → eqb q (pieceOf (countsOf g) t b1 b2) ≡ u
+            → isOpen (getD (set (b .words) (pieceOf (countsOf g) t b1 b2) computed) q fresh) ≡ (isOpen (wordAt b q) && not u)
+        at-run t b1 b2 true e =
+            let p : q ≡ pieceOf (countsOf g) t b1 b2 = eqb-true q (pieceOf (countsOf g) t b1 b2) e in
+            let w : getD (set (b .words) (pieceOf (countsOf g) t b1 b2) computed) q fresh ≡ computed = rw (← p) (getD-set-same (b .words) q computed fresh h) in
+            ap isOpen w ∙ and-false (isOpen (wordAt b q))
+        at-run t b1 b2 false e =
+            ap isOpen (getD-set-other (b .words) (pieceOf (countsOf g) t b1 b2) q computed fresh (eqb-false q (pieceOf (countsOf g) t b1 b2) e)) ∙ and-true (isOpen (wordAt b q))
+
+        at-average : (t : ℤ) (ids1 ids2 : List ℤ) → Accepted g (render g start b) (average t ids1 ids2) → (u : Bool) → eqb (q / countsOf g .pairs) (mag t) ≡ u
+            → isOpen (pick u (averagedBy ids1 ids2) (wordAt b q)) ≡ isOpen (wordAt b q)
+        at-average t ids1 ids2 a true e = sym (ap isOpen (average-computed t ids1 ids2 a (eqb-true (q / countsOf g .pairs) (mag t) e)))
+        at-average t ids1 ids2 a false e = refl
+
+        go : (c : Call) (n : ℕ) → bookNo g start b c ≡ n
+            → isOpen (wordAt (afterCall n (writes g b c) b) q) ≡ (isOpen (wordAt b q) && not (afterCall n (runsPiece g b q c) false))
+        go (run t b1 b2) zero e = at-run t b1 b2 (eqb q (pieceOf (countsOf g) t b1 b2)) refl
+        go carry zero e = ap isOpen (getD-map-lt carried (b .words) q fresh fresh h) ∙ carried-open (wordAt b q)
+        go (average t ids1 ids2) zero e =
+            ap isOpen (getD-patch (λ q. eqb (q / countsOf g .pairs) (mag t)) (λ q. averagedBy ids1 ids2) (b .words) q fresh h)
+            ∙ at-average t ids1 ids2 (yes (average t ids1 ids2) e) (eqb (q / countsOf g .pairs) (mag t)) refl
+            ∙ and-true (isOpen (wordAt b q))
+        go c (suc n) e = and-true (isOpen (wordAt b q))

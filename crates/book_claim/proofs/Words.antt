@@ -1,0 +1,132 @@
+-- Which word the book has for a piece after a list of calls, by the accepted calls of the list. Assumes nothing.
+use mathlib.Core.Path.{_≡_, refl, sym, ap, _∙_}
+use mathlib.Core.Bool.{Bool, true, false}
+use mathlib.Core.List.{List, [], _∷_}
+use mathlib.Core.Logic.{⊎-elim}
+use Prim.Native.Nat.{ℕ, zero, suc, _/_, _<_, _≤_}
+use native.Mathlib.Nat.{le-of-suc-le-suc, not-suc-le-zero}
+use native.Mathlib.Omega.{arith}
+use lib.IntN.{ℤ}
+use lib.ListN.{length, getD, length-replicate}
+use Rattle.list_laws.proofs.BoolLaws.{clash, lt-or-le}
+use Rattle.triplet_study.specs.Given.{Given}
+use Rattle.sheet_step.specs.Marks.{oneIf}
+use Rattle.sheet_step.specs.Steps.{Sheet, Call, average, countsOf}
+use Rattle.book_claim.specs.Book.{pieceOfWeight, pieceOfFlag, wordAt, Word, fresh, computed, averagedBy, Book, isOpen, bookNo, turn, opened, booked}
+use Rattle.book_claim.specs.Counts.{hasRun, averagings, AveragedBy, isAveraged}
+use Rattle.book_claim.proofs.EntryLaws.{getD-replicate}
+use Rattle.book_claim.proofs.RunLaws.{weight-word, flag-word}
+use Rattle.book_claim.proofs.TurnLaws.{turn-long, average-turn, yes}
+use Rattle.book_claim.proofs.AlongLaws.{booked-long, ran-accepted, stays, open-along, averaged-along, averaged-by}
+use Rattle.book_claim.proofs.CutLaws.{booked-cut}
+
+-- ---- lists and words
+
+beyond : {A : Type 0} (l : List A) (q : ℕ) (d : A) → length l ≤ q → getD l q d ≡ d
+beyond [] q d h = refl
+beyond (x ∷ l) zero d h = absurd (not-suc-le-zero h)
+beyond (x ∷ l) (suc q) d h = beyond l q d (le-of-suc-le-suc h)
+
+open-fresh : (w : Word) → isOpen w ≡ true → w ≡ fresh
+open-fresh fresh e = refl
+open-fresh computed e = clash e
+open-fresh (averagedBy ids1 ids2) e = clash e
+
+neither-computed : (w : Word) → isOpen w ≡ false → isAveraged w ≡ false → w ≡ computed
+neither-computed fresh e f = clash (sym e)
+neither-computed computed e f = refl
+neither-computed (averagedBy ids1 ids2) e f = clash (sym f)
+
+one-true : (u : Bool) → oneIf u ≡ 0 → u ≡ false
+one-true true e = absurd (let z : ⊥ = omega arith in z)
+one-true false e = refl
+
+module _ (g : Given) (start : Sheet) where
+  opened-long : length (opened start .words) ≡ length (start .marks)
+  unfolding opened
+  opened-long = length-replicate (length (start .marks)) fresh
+
+  opened-fresh : (q : ℕ) → wordAt (opened start) q ≡ fresh
+  unfolding opened
+  opened-fresh q = getD-replicate (length (start .marks)) q fresh
+
+  -- a word for each mark of the start
+  pub words-long : (calls : List Call) → length (booked g start (opened start) calls .words) ≡ length (start .marks)
+  words-long calls = booked-long g start (opened start) calls ∙ opened-long
+
+  in-opened : (q : ℕ) → q < length (start .marks) → q < length (opened start .words)
+  in-opened q h = rw opened-long h
+
+  -- ---- where a call was accepted, the piece of every weight and of every flag is on the sheet
+
+  sheet-weight : (b : Book) (c : Call) → bookNo g start b c ≡ 0 → length (b .words) ≡ length (start .marks) → (i : ℕ) → i < length (start .weights) → pieceOfWeight g i < length (start .marks)
+  sheet-weight b c z e i h = rw (← e) (weight-word g start b c (yes g start b c z) i h)
+
+  sheet-flag : (b : Book) (c : Call) → bookNo g start b c ≡ 0 → length (b .words) ≡ length (start .marks) → (j : ℕ) → j < length (start .flags) → pieceOfFlag g j < length (start .marks)
+  sheet-flag b c z e j h = rw (← e) (flag-word g start b c (yes g start b c z) j h)
+
+  module _ (calls : List Call) (q : ℕ) (r : hasRun g start (opened start) q calls ≡ true) where
+    pub ran-weight : (i : ℕ) → i < length (start .weights) → pieceOfWeight g i < length (start .marks)
+    ran-weight i h = let l : _ = ran-accepted g start q (opened start) calls r in sheet-weight (l .0) (l .1 .1 .0) (l .1 .1 .1) (l .1 .0 ∙ opened-long) i h
+
+    pub ran-flag : (j : ℕ) → j < length (start .flags) → pieceOfFlag g j < length (start .marks)
+    ran-flag j h = let l : _ = ran-accepted g start q (opened start) calls r in sheet-flag (l .0) (l .1 .1 .0) (l .1 .1 .1) (l .1 .0 ∙ opened-long) j h
+
+  module _ (calls : List Call) (t : ℕ) (ids1 ids2 : List ℤ) (a : AveragedBy g start (opened start) t ids1 ids2 calls) where
+    pub averaged-weight-on : (i : ℕ) → i < length (start .weights) → pieceOfWeight g i < length (start .marks)
+    averaged-weight-on i h = sheet-weight (booked g start (opened start) (a .before)) (average (a .named) ids1 ids2) (a .accepted) (words-long (a .before)) i h
+
+    pub averaged-flag-on : (j : ℕ) → j < length (start .flags) → pieceOfFlag g j < length (start .marks)
+    averaged-flag-on j h = sheet-flag (booked g start (opened start) (a .before)) (average (a .named) ids1 ids2) (a .accepted) (words-long (a .before)) j h
+
+  -- ---- which word a piece has, by the calls
+
+  -- a piece that no accepted call has run is open
+  pub never-ran : (calls : List Call) (q : ℕ) → hasRun g start (opened start) q calls ≡ false → wordAt (booked g start (opened start) calls) q ≡ fresh
+  never-ran calls q e = ⊎-elim inside outside (lt-or-le q (length (start .marks)))
+    where
+      inside : q < length (start .marks) → wordAt (booked g start (opened start) calls) q ≡ fresh
+      inside h =
+          open-fresh (wordAt (booked g start (opened start) calls) q)
+          (open-along g start q (opened start) calls (in-opened q h) ∙ rw (opened-fresh q, e))
+
+      outside : length (start .marks) ≤ q → wordAt (booked g start (opened start) calls) q ≡ fresh
+      outside h = beyond (booked g start (opened start) calls .words) q fresh (rw (words-long calls) h)
+
+  -- one that an accepted call has run, of a triplet that none has averaged, is computed
+  pub ran : (calls : List Call) (q : ℕ) → q < length (start .marks) → hasRun g start (opened start) q calls ≡ true
+      → averagings g start (opened start) (q / countsOf g .pairs) calls ≡ 0 → wordAt (booked g start (opened start) calls) q ≡ computed
+  ran calls q h e n =
+      let count : _ = rw (opened-fresh q) at (averaged-along g start q (opened start) calls (in-opened q h)) in
+      neither-computed (wordAt (booked g start (opened start) calls) q) (open-along g start q (opened start) calls (in-opened q h) ∙ rw (opened-fresh q, e))
+      (one-true (isAveraged (wordAt (booked g start (opened start) calls) q)) (omega (arith, count, n)))
+
+  -- the pieces of a triplet of which an averaging was accepted are averaged, with that call's lists beside them
+  pub averaged : (calls : List Call) (q : ℕ) (ids1 ids2 : List ℤ) → q < length (start .marks) → AveragedBy g start (opened start) (q / countsOf g .pairs) ids1 ids2 calls
+      → wordAt (booked g start (opened start) calls) q ≡ averagedBy ids1 ids2
+  averaged calls q ids1 ids2 h a =
+      let b : Book = booked g start (opened start) (a .before) in
+      let in-b : q < length (b .words) = rw (words-long (a .before)) h in
+      let w : wordAt (turn g start b (average (a .named) ids1 ids2)) q ≡ averagedBy ids1 ids2 = average-turn g start b q in-b (a .named) ids1 ids2 (a .triplet) (a .accepted) in
+      let in-turn : q < length (turn g start b (average (a .named) ids1 ids2) .words) = rw (turn-long g start b (average (a .named) ids1 ids2)) in-b in
+      ap (λ (l : List Call). wordAt (booked g start (opened start) l) q) (a .parts)
+      ∙ ap (λ (x : Book). wordAt x q) (booked-cut g start (opened start) (a .before) (average (a .named) ids1 ids2 ∷ a .after))
+      ∙ stays g start q (turn g start b (average (a .named) ids1 ids2)) (a .after) in-turn (ap isAveraged w)
+      ∙ w
+
+  -- an averaged word: its triplet was averaged by exactly one accepted call of the list, and that call's lists stand beside it
+  pub averaged-once : (calls : List Call) (q : ℕ) (ids1 ids2 : List ℤ) → q < length (start .marks) → wordAt (booked g start (opened start) calls) q ≡ averagedBy ids1 ids2
+      → AveragedBy g start (opened start) (q / countsOf g .pairs) ids1 ids2 calls × (averagings g start (opened start) (q / countsOf g .pairs) calls ≡ 1)
+  averaged-once calls q ids1 ids2 h e =
+      let count : _ = rw (opened-fresh q, e) at (averaged-along g start q (opened start) calls (in-opened q h)) in
+      (averaged-by g start q ids1 ids2 (opened start) calls (in-opened q h) (ap isAveraged (opened-fresh q)) e, omega (arith, count))
+
+  -- and no triplet more than once
+  pub at-most-once : (calls : List Call) (q : ℕ) → q < length (start .marks) → averagings g start (opened start) (q / countsOf g .pairs) calls ≤ 1
+  at-most-once calls q h =
+      let count : _ = rw (opened-fresh q) at (averaged-along g start q (opened start) calls (in-opened q h)) in
+      go (isAveraged (wordAt (booked g start (opened start) calls) q)) (averagings g start (opened start) (q / countsOf g .pairs) calls) (omega (arith, count))
+    where
+      go : (u : Bool) (n : ℕ) → n ≡ oneIf u → n ≤ 1
+      go true n e = omega arith
+      go false n e = omega arith

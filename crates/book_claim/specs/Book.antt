@@ -1,0 +1,147 @@
+-- The book of demand 3. It is fed the study, the sheet and tally at the start, and of each call its kind and its arguments apart from
+-- sheet and tally; no answer, and nothing that the program keeps later.
+use mathlib.Core.Bool.{Bool, true, false}
+use mathlib.Core.List.{List, [], _∷_, map}
+use Prim.Native.Nat.{ℕ, zero, suc, _+_, _*_, _/_, _%_}
+use lib.Dec.{eqb}
+use lib.Ieee.{Float}
+use lib.IntN.{ℤ}
+use lib.ListN.{length, getD, set, replicate}
+use lib.Signed.{mag}
+use Rattle.list_laws.specs.Lists.{tabulate}
+use Rattle.list_laws.specs.Patch.{pick, patch}
+use Rattle.questions.specs.Ask.{afterCall}
+use Rattle.triplet_piece.specs.Layout.{pieceAt}
+use Rattle.triplet_piece.specs.Study.{weightAt, flagAt}
+use Rattle.triplet_study.specs.Given.{Given, studyOf}
+use Rattle.sheet_step.specs.declared.SheetAnswer.{SheetAnswer}
+use Rattle.sheet_step.specs.Marks.{countBelow}
+use Rattle.sheet_step.specs.Steps.{Sheet, sheet, Call, run, carry, average, countsOf, verdict, pieceOf, averagedAt, averagedFlagAt, sheetAnswer}
+
+-- ---- what the book holds
+
+-- "a word for each piece": open, computed, or averaged with "this call's id lists .. written beside"
+pub data Word : Type 0 where
+  fresh : Word
+  computed : Word
+  averagedBy : List ℤ → List ℤ → Word
+
+-- "It holds a word for each piece .., and a tally"; the words lie as the marks do
+pub record Book : Type 0 where
+  pub words : List Word
+  pub tally : ℕ
+
+abbrev pub book : List Word → ℕ → Book
+book words tally = record { words = words; tally = tally }
+
+-- "The book is fed the study, the sheet and tally at the start": "a word for each piece, at first open, and a tally"
+unfoldable pub opened : Sheet → Book
+opened start = book (replicate (length (start .marks)) fresh) (start .tally)
+
+-- ---- the sheet that it stands for
+
+-- "Open, computed, averaged are marks 0, 1, 2"
+abbrev pub markOf : Word → ℕ
+markOf fresh = 0
+markOf computed = 1
+markOf (averagedBy ids1 ids2) = 2
+
+-- "the triplet's computed entries": the weights of the band pairs that lie beside place i, of one channel, triplet and point
+abbrev pub computedRow : Given → ℕ → List Float
+computedRow g i = tabulate (countsOf g .pairs) (λ k. weightAt (studyOf g) (i / countsOf g .pairs * countsOf g .pairs + k))
+
+-- and the flags beside place j
+abbrev pub computedFlagRow : Given → ℕ → List ℤ
+computedFlagRow g j = tabulate (countsOf g .pairs) (λ k. flagAt (studyOf g) (j / countsOf g .pairs * countsOf g .pairs + k))
+
+-- "An open piece's entries are those of the start. A computed piece's are, at every point, the weights and flag that demand 2 gives for
+-- the study. An averaged piece's are what the degenerate sets of the lists beside it make of the triplet's computed entries, at each
+-- point, each channel and the flags by themselves." The weight at place i, which was `old` at the start
+unfoldable pub weightBy : Given → Word → ℕ → Float → Float
+weightBy g fresh i old = old
+weightBy g computed i old = weightAt (studyOf g) i
+weightBy g (averagedBy ids1 ids2) i old = averagedAt (countsOf g) ids1 ids2 (computedRow g i) i
+
+-- the same sentences: the flag at place j
+unfoldable pub flagBy : Given → Word → ℕ → ℤ → ℤ
+flagBy g fresh j old = old
+flagBy g computed j old = flagAt (studyOf g) j
+flagBy g (averagedBy ids1 ids2) j old = averagedFlagAt (countsOf g) ids1 ids2 (computedFlagRow g j) j
+
+-- the piece of the flag at place j, by the place of its mark
+abbrev pub pieceOfFlag : Given → ℕ → ℕ
+pieceOfFlag g j = pieceAt (countsOf g .points) (countsOf g .pairs) j
+
+-- the piece of the weight at place i: "Weights lie by channel, triplet, point, b1, b2; flags without the channel"
+abbrev pub pieceOfWeight : Given → ℕ → ℕ
+pieceOfWeight g i = pieceOfFlag g (i % countsOf g .cells)
+
+-- the word of piece q
+abbrev pub wordAt : Book → ℕ → Word
+wordAt b q = getD (b .words) q fresh
+
+-- the words that say what stands at place i of the weights, and at place j of the flags
+abbrev pub wordOfWeight : Given → Book → ℕ → Word
+wordOfWeight g b i = wordAt b (pieceOfWeight g i)
+
+abbrev pub wordOfFlag : Given → Book → ℕ → Word
+wordOfFlag g b j = wordAt b (pieceOfFlag g j)
+
+-- a list in which each entry x at place i has become f i x
+unfoldable pub eachEntry : {A : Type 0} → (ℕ → A → A) → List A → List A
+eachEntry f [] = []
+eachEntry f (x ∷ xs) = f zero x ∷ eachEntry (λ i. f (suc i)) xs
+
+-- "the book's words as marks, the book's entries (below) as weights, and the book's tally"
+unfoldable pub render : Given → Sheet → Book → Sheet
+render g start b =
+    sheet (eachEntry (λ i old. weightBy g (wordOfWeight g b i) i old) (start .weights))
+    (eachEntry (λ j old. flagBy g (wordOfFlag g b j) j old) (start .flags))
+    (map markOf (b .words))
+    (b .tally)
+
+-- ---- what a call makes of it
+
+-- an open piece, by its word
+abbrev pub isOpen : Word → Bool
+isOpen fresh = true
+isOpen computed = false
+isOpen (averagedBy ids1 ids2) = false
+
+-- the number of open pieces
+unfoldable pub openWords : List Word → ℕ
+openWords words = countBelow (length words) (λ q. isOpen (getD words q computed))
+
+-- "each open piece becomes computed"
+abbrev pub carried : Word → Word
+carried word = pick (isOpen word) computed word
+
+-- What an accepted call writes.
+-- "Running a piece: its word becomes computed, the tally goes up by one."
+-- "Carrying on: each open piece becomes computed, the tally goes up by their number."
+-- "Averaging: the triplet's pieces become averaged, this call's id lists are written beside them, the tally stays."
+unfoldable pub writes : Given → Book → Call → Book
+writes g b (run t b1 b2) = book (set (b .words) (pieceOf (countsOf g) t b1 b2) computed) (b .tally + 1)
+writes g b carry = book (map carried (b .words)) (b .tally + openWords (b .words))
+writes g b (average t ids1 ids2) = book (patch (λ q. eqb (q / countsOf g .pairs) (mag t)) (λ q. averagedBy ids1 ids2) (b .words)) (b .tally)
+
+-- "A call is asked its questions with the book's words as marks, the book's entries (below) as weights, and the book's tally.": the number
+-- of the first "no", or 0
+unfoldable pub bookNo : Given → Sheet → Book → Call → ℕ
+bookNo g start b c = verdict g (render g start b) c
+
+-- "The first "no" refuses the call with that number, and the book stays. Otherwise:" as it is written
+unfoldable pub turn : Given → Sheet → Book → Call → Book
+turn g start b c = afterCall (bookNo g start b c) (writes g b c) b
+
+-- ---- a list of calls
+
+-- the book after each of them in turn
+abbrev pub booked : Given → Sheet → Book → List Call → Book
+booked g start b [] = b
+booked g start b (c ∷ calls) = booked g start (turn g start b c) calls
+
+-- each call's answer by the book: "refuses the call with that number", or done with the book's tally
+abbrev pub bookAnswers : Given → Sheet → Book → List Call → List SheetAnswer
+bookAnswers g start b [] = []
+bookAnswers g start b (c ∷ calls) = sheetAnswer (bookNo g start b c) (turn g start b c .tally) ∷ bookAnswers g start (turn g start b c) calls

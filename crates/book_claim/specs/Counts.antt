@@ -1,0 +1,76 @@
+-- What the readers' statements count along a list of calls: accepted runs, the runs of one piece, the averagings of one triplet, refusals.
+use mathlib.Core.Bool.{Bool, true, false, _||_}
+use mathlib.Core.List.{List, [], _∷_, _++_}
+use mathlib.Core.Path.{_≡_}
+use Prim.Native.Nat.{ℕ, _+_}
+use lib.Dec.{eqb}
+use lib.IntN.{ℤ}
+use lib.Signed.{mag}
+use Rattle.questions.specs.Ask.{afterCall}
+use Rattle.triplet_study.specs.Given.{Given}
+use Rattle.sheet_step.specs.declared.SheetAnswer.{SheetAnswer}
+use Rattle.sheet_step.specs.declared.SheetAnswer.the-variants.{Done, Refused}
+use Rattle.sheet_step.specs.Marks.{oneIf}
+use Rattle.sheet_step.specs.Steps.{Sheet, Call, run, carry, average, countsOf, pieceOf}
+use Rattle.book_claim.specs.Book.{wordAt, Word, fresh, computed, averagedBy, Book, isOpen, openWords, bookNo, turn, booked}
+
+-- ---- "The tally counts accepted runs, repeats included"
+
+-- how many runs a call makes: a run of a piece one, a carry-on one for each open piece, an averaging none
+abbrev pub runsOf : Book → Call → ℕ
+runsOf b (run t b1 b2) = 1
+runsOf b carry = openWords (b .words)
+runsOf b (average t ids1 ids2) = 0
+
+-- the accepted runs of a list of calls
+abbrev pub runsAccepted : Given → Sheet → Book → List Call → ℕ
+runsAccepted g start b [] = 0
+runsAccepted g start b (c ∷ calls) = afterCall (bookNo g start b c) (runsOf b c) 0 + runsAccepted g start (turn g start b c) calls
+
+-- ---- one piece: whether it has been run
+
+-- whether a call runs piece q: it names it, or carries on while the piece is open
+abbrev pub runsPiece : Given → Book → ℕ → Call → Bool
+runsPiece g b q (run t b1 b2) = eqb q (pieceOf (countsOf g) t b1 b2)
+runsPiece g b q carry = isOpen (wordAt b q)
+runsPiece g b q (average t ids1 ids2) = false
+
+-- whether an accepted call of the list has run it
+abbrev pub hasRun : Given → Sheet → Book → ℕ → List Call → Bool
+hasRun g start b q [] = false
+hasRun g start b q (c ∷ calls) = afterCall (bookNo g start b c) (runsPiece g b q c) false || hasRun g start (turn g start b c) q calls
+
+-- ---- one triplet: how often it has been averaged
+
+-- whether a call averages triplet t
+abbrev pub averages : ℕ → Call → Bool
+averages t (run t′ b1 b2) = false
+averages t carry = false
+averages t (average t′ ids1 ids2) = eqb t (mag t′)
+
+-- the accepted averagings of triplet t in a list of calls
+abbrev pub averagings : Given → Sheet → Book → ℕ → List Call → ℕ
+averagings g start b t [] = 0
+averagings g start b t (c ∷ calls) = afterCall (bookNo g start b c) (oneIf (averages t c)) 0 + averagings g start (turn g start b c) t calls
+
+-- the list has an accepted averaging of triplet t with these lists
+pub record AveragedBy (g : Given) (start : Sheet) (b : Book) (t : ℕ) (ids1 ids2 : List ℤ) (calls : List Call) : Type 0 where
+  pub before : List Call
+  pub after : List Call
+  pub named : ℤ
+  pub parts : calls ≡ before ++ (average named ids1 ids2 ∷ after)
+  pub triplet : t ≡ mag named
+  pub accepted : bookNo g start (booked g start b before) (average named ids1 ids2) ≡ 0
+
+-- whether a piece is averaged, by its word
+abbrev pub isAveraged : Word → Bool
+isAveraged fresh = false
+isAveraged computed = false
+isAveraged (averagedBy ids1 ids2) = true
+
+-- ---- "a sheet on which every call is refused"
+
+abbrev pub AreRefused : List SheetAnswer → Type 0
+AreRefused [] = Unit
+AreRefused (Done tally ∷ rest) = ⊥
+AreRefused (Refused n ∷ rest) = AreRefused rest

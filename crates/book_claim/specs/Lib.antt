@@ -1,0 +1,4 @@
+-- The definitions.
+pub mod Book
+pub mod Lists
+pub mod Counts
