@@ -1,0 +1,227 @@
+// The run sheet: run a named piece, carry on, average a triplet. Weights lie by channel, triplet, point, b1, b2; flags without
+// the channel; marks by triplet, b1, b2.
+ghost use mathlib.Core.Path.{_≡_};
+ghost use Rattle.triplet_study.specs.Given.{given};
+ghost use Rattle.sheet_step.specs.Steps.{sheet, run, carry, average, step, stepAnswer};
+use sheet_step::kernel::marks::COMPUTED;
+use sheet_step::kernel::marks::set_mark;
+pub use sheet_marks::Added;
+pub use sheet_marks::Counts;
+pub use sheet_marks::OpenAnswer;
+pub use sheet_marks::Tally;
+pub use sheet_marks::open_count;
+pub use sheet_step::SheetAnswer;
+pub use triplet_study::Shape;
+
+// Runs the piece of a triplet and two bands: its entries at every point, in every channel, and its mark. Questions 3 to 15, 20.
+pub fn run_piece(
+    shape: Shape,
+    addresses: &[i64],
+    gp_map: &[i64],
+    relative_grid_address: &[i64],
+    frequencies1: &[f64],
+    frequencies2: &[f64],
+    frequency_points: &[f64],
+    triplets: &[i64],
+    weights: &mut [f64],
+    flags: &mut [i8],
+    marks: &mut [u8],
+    tally: Tally,
+    triplet: i64,
+    b1: i64,
+    b2: i64,
+) -> SheetAnswer
+    ensures { λ r. ⌜ r ≡ stepAnswer (given shape (now (addresses .entry)) (now («gp_map» .entry)) (now («relative_grid_address» .entry)) (now (frequencies1 .entry)) (now (frequencies2 .entry)) (now («frequency_points» .entry)) (now (triplets .entry)))
+        (sheet (now (weights .entry)) (now (flags .entry)) (now (marks .entry)) (tally .runs)) (run triplet b1 b2) ⌝ }
+    ensures { λ r. ⌜ now (weights .exit) ≡ step (given shape (now (addresses .entry)) (now («gp_map» .entry)) (now («relative_grid_address» .entry)) (now (frequencies1 .entry)) (now (frequencies2 .entry)) (now («frequency_points» .entry)) (now (triplets .entry)))
+        (sheet (now (weights .entry)) (now (flags .entry)) (now (marks .entry)) (tally .runs)) (run triplet b1 b2) .weights ⌝ }
+    ensures { λ r. ⌜ now (flags .exit) ≡ step (given shape (now (addresses .entry)) (now («gp_map» .entry)) (now («relative_grid_address» .entry)) (now (frequencies1 .entry)) (now (frequencies2 .entry)) (now («frequency_points» .entry)) (now (triplets .entry)))
+        (sheet (now (weights .entry)) (now (flags .entry)) (now (marks .entry)) (tally .runs)) (run triplet b1 b2) .flags ⌝ }
+    ensures { λ r. ⌜ now (marks .exit) ≡ step (given shape (now (addresses .entry)) (now («gp_map» .entry)) (now («relative_grid_address» .entry)) (now (frequencies1 .entry)) (now (frequencies2 .entry)) (now («frequency_points» .entry)) (now (triplets .entry)))
+        (sheet (now (weights .entry)) (now (flags .entry)) (now (marks .entry)) (tally .runs)) (run triplet b1 b2) .marks ⌝ }
+{
+    let no = sheet_step::kernel::asks::common_no(
+        shape,
+        addresses,
+        gp_map,
+        relative_grid_address,
+        frequencies1,
+        frequencies2,
+        frequency_points,
+        triplets,
+        weights.len(),
+        flags.len(),
+        marks,
+    );
+    if no != 0 {
+        return SheetAnswer::Refused(no);
+    }
+    let z = triplet_study::kernel::sizes_of(shape, frequency_points.len(), triplets.len() / 3);
+    let own = sheet_step::kernel::asks::piece_no(z, marks, triplet, b1, b2);
+    if own != 0 {
+        return SheetAnswer::Refused(own);
+    }
+    let Added::To(next) = tally.add(1) else {
+        return SheetAnswer::Refused(questions::TALLY_FULL);
+    };
+    let tp_type = shape.tp_type;
+    let bz_grid_type = shape.bz_grid_type;
+    let d_diag = shape.d_diag;
+    let tp = triplet_channels::kernel::types::tp_type_of(tp_type);
+    let grid = bzgrid::kernel::grid_of(bz_grid_type, d_diag);
+    let t = common::kernel::magnitude(triplet);
+    let n1 = common::kernel::magnitude(b1);
+    let n2 = common::kernel::magnitude(b2);
+    sheet_fill::kernel::run::fill_named(
+        weights,
+        flags,
+        z,
+        tp,
+        grid,
+        addresses,
+        gp_map,
+        relative_grid_address,
+        frequencies1,
+        frequencies2,
+        frequency_points,
+        triplets,
+        t,
+        n1,
+        n2,
+    );
+    let pairs = z.pairs;
+    let bands2 = z.bands2;
+    set_mark(marks, t * pairs + (n1 * bands2 + n2), COMPUTED);
+    SheetAnswer::Done(next)
+}
+
+// Runs all pieces marked 0, in ascending order. Questions 3 to 13, 20 for all runs of the call.
+pub fn carry_on(
+    shape: Shape,
+    addresses: &[i64],
+    gp_map: &[i64],
+    relative_grid_address: &[i64],
+    frequencies1: &[f64],
+    frequencies2: &[f64],
+    frequency_points: &[f64],
+    triplets: &[i64],
+    weights: &mut [f64],
+    flags: &mut [i8],
+    marks: &mut [u8],
+    tally: Tally,
+) -> SheetAnswer
+    ensures { λ r. ⌜ r ≡ stepAnswer (given shape (now (addresses .entry)) (now («gp_map» .entry)) (now («relative_grid_address» .entry)) (now (frequencies1 .entry)) (now (frequencies2 .entry)) (now («frequency_points» .entry)) (now (triplets .entry)))
+        (sheet (now (weights .entry)) (now (flags .entry)) (now (marks .entry)) (tally .runs)) carry ⌝ }
+    ensures { λ r. ⌜ now (weights .exit) ≡ step (given shape (now (addresses .entry)) (now («gp_map» .entry)) (now («relative_grid_address» .entry)) (now (frequencies1 .entry)) (now (frequencies2 .entry)) (now («frequency_points» .entry)) (now (triplets .entry)))
+        (sheet (now (weights .entry)) (now (flags .entry)) (now (marks .entry)) (tally .runs)) carry .weights ⌝ }
+    ensures { λ r. ⌜ now (flags .exit) ≡ step (given shape (now (addresses .entry)) (now («gp_map» .entry)) (now («relative_grid_address» .entry)) (now (frequencies1 .entry)) (now (frequencies2 .entry)) (now («frequency_points» .entry)) (now (triplets .entry)))
+        (sheet (now (weights .entry)) (now (flags .entry)) (now (marks .entry)) (tally .runs)) carry .flags ⌝ }
+    ensures { λ r. ⌜ now (marks .exit) ≡ step (given shape (now (addresses .entry)) (now («gp_map» .entry)) (now («relative_grid_address» .entry)) (now (frequencies1 .entry)) (now (frequencies2 .entry)) (now («frequency_points» .entry)) (now (triplets .entry)))
+        (sheet (now (weights .entry)) (now (flags .entry)) (now (marks .entry)) (tally .runs)) carry .marks ⌝ }
+{
+    let no = sheet_step::kernel::asks::common_no(
+        shape,
+        addresses,
+        gp_map,
+        relative_grid_address,
+        frequencies1,
+        frequencies2,
+        frequency_points,
+        triplets,
+        weights.len(),
+        flags.len(),
+        marks,
+    );
+    if no != 0 {
+        return SheetAnswer::Refused(no);
+    }
+    let z = triplet_study::kernel::sizes_of(shape, frequency_points.len(), triplets.len() / 3);
+    let runs = sheet_step::kernel::marks::open_pieces(marks);
+    let Added::To(next) = tally.add(runs) else {
+        return SheetAnswer::Refused(questions::TALLY_FULL);
+    };
+    let tp_type = shape.tp_type;
+    let bz_grid_type = shape.bz_grid_type;
+    let d_diag = shape.d_diag;
+    let tp = triplet_channels::kernel::types::tp_type_of(tp_type);
+    let grid = bzgrid::kernel::grid_of(bz_grid_type, d_diag);
+    sheet_fill::kernel::carry::fill_open(
+        weights,
+        flags,
+        marks,
+        z,
+        tp,
+        grid,
+        addresses,
+        gp_map,
+        relative_grid_address,
+        frequencies1,
+        frequencies2,
+        frequency_points,
+        triplets,
+    );
+    SheetAnswer::Done(next)
+}
+
+// Averages a triplet over the degenerate sets of two id lists: each channel, then the flags; its marks become 2. Questions 3 to 19.
+pub fn average_triplet(
+    shape: Shape,
+    addresses: &[i64],
+    gp_map: &[i64],
+    relative_grid_address: &[i64],
+    frequencies1: &[f64],
+    frequencies2: &[f64],
+    frequency_points: &[f64],
+    triplets: &[i64],
+    weights: &mut [f64],
+    flags: &mut [i8],
+    marks: &mut [u8],
+    tally: Tally,
+    triplet: i64,
+    degenerate_ids1: &[i64],
+    degenerate_ids2: &[i64],
+) -> SheetAnswer
+    ensures { λ r. ⌜ r ≡ stepAnswer (given shape (now (addresses .entry)) (now («gp_map» .entry)) (now («relative_grid_address» .entry)) (now (frequencies1 .entry)) (now (frequencies2 .entry)) (now («frequency_points» .entry)) (now (triplets .entry)))
+        (sheet (now (weights .entry)) (now (flags .entry)) (now (marks .entry)) (tally .runs)) (average triplet (now («degenerate_ids1» .entry)) (now («degenerate_ids2» .entry))) ⌝ }
+    ensures { λ r. ⌜ now (weights .exit) ≡ step (given shape (now (addresses .entry)) (now («gp_map» .entry)) (now («relative_grid_address» .entry)) (now (frequencies1 .entry)) (now (frequencies2 .entry)) (now («frequency_points» .entry)) (now (triplets .entry)))
+        (sheet (now (weights .entry)) (now (flags .entry)) (now (marks .entry)) (tally .runs)) (average triplet (now («degenerate_ids1» .entry)) (now («degenerate_ids2» .entry))) .weights ⌝ }
+    ensures { λ r. ⌜ now (flags .exit) ≡ step (given shape (now (addresses .entry)) (now («gp_map» .entry)) (now («relative_grid_address» .entry)) (now (frequencies1 .entry)) (now (frequencies2 .entry)) (now («frequency_points» .entry)) (now (triplets .entry)))
+        (sheet (now (weights .entry)) (now (flags .entry)) (now (marks .entry)) (tally .runs)) (average triplet (now («degenerate_ids1» .entry)) (now («degenerate_ids2» .entry))) .flags ⌝ }
+    ensures { λ r. ⌜ now (marks .exit) ≡ step (given shape (now (addresses .entry)) (now («gp_map» .entry)) (now («relative_grid_address» .entry)) (now (frequencies1 .entry)) (now (frequencies2 .entry)) (now («frequency_points» .entry)) (now (triplets .entry)))
+        (sheet (now (weights .entry)) (now (flags .entry)) (now (marks .entry)) (tally .runs)) (average triplet (now («degenerate_ids1» .entry)) (now («degenerate_ids2» .entry))) .marks ⌝ }
+{
+    let no = sheet_step::kernel::asks::common_no(
+        shape,
+        addresses,
+        gp_map,
+        relative_grid_address,
+        frequencies1,
+        frequencies2,
+        frequency_points,
+        triplets,
+        weights.len(),
+        flags.len(),
+        marks,
+    );
+    if no != 0 {
+        return SheetAnswer::Refused(no);
+    }
+    let z = triplet_study::kernel::sizes_of(shape, frequency_points.len(), triplets.len() / 3);
+    let own = sheet_step::kernel::asks::average_no(
+        z,
+        weights,
+        marks,
+        triplet,
+        degenerate_ids1,
+        degenerate_ids2,
+    );
+    if own != 0 {
+        return SheetAnswer::Refused(own);
+    }
+    let t = common::kernel::magnitude(triplet);
+    sheet_fill::kernel::average::average_weights(z, weights, t, degenerate_ids1, degenerate_ids2);
+    sheet_fill::kernel::average::average_flags(z, flags, t, degenerate_ids1, degenerate_ids2);
+    let pairs = z.pairs;
+    sheet_step::kernel::marks::average_marks(pairs, marks, t);
+    SheetAnswer::Done(tally)
+}
