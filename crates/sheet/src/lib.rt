@@ -3,14 +3,14 @@
 ghost use mathlib.Core.Path.{_≡_};
 ghost use Rattle.triplet_study.specs.Given.{given};
 ghost use Rattle.sheet_step.specs.Steps.{sheet, run, carry, average, step, stepAnswer};
-use sheet_step::kernel::marks::COMPUTED;
-use sheet_step::kernel::marks::set_mark;
 pub use sheet_marks::Added;
 pub use sheet_marks::Counts;
 pub use sheet_marks::OpenAnswer;
 pub use sheet_marks::Tally;
 pub use sheet_marks::open_count;
 pub use sheet_step::SheetAnswer;
+use sheet_step::kernel::marks::COMPUTED;
+use sheet_step::kernel::marks::set_mark;
 pub use triplet_study::Shape;
 
 // Runs the piece of a triplet and two bands: its entries at every point, in every channel, and its mark. Questions 3 to 15, 20.

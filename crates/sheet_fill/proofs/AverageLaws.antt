@@ -56,10 +56,10 @@ module _ (z : Sizes) (h : Counted z) (ids1 ids2 : List ℤ) (same : z .bands1 �
   channel-back t c w y ey fits =
       let k : c * z .cells + t * (z .points * z .pairs) + z .points * z .pairs - (c * z .cells + t * (z .points * z .pairs)) ≡ z .points * z .pairs = omega arith in
       let start : c * z .cells + t * (z .points * z .pairs) ≡ (c * z .triplets + t) * (z .points * z .pairs)
-                = ap (λ (n : ℕ). c * n + t * (z .points * z .pairs)) (cells-by-size z h) ∙ ap (λ (n : ℕ). n + t * (z .points * z .pairs)) (sym (mul-assoc c (z .triplets) (z .points * z .pairs))) ∙ sym (add-mul (c * z .triplets) t (z .points * z .pairs)) in
+      = ap (λ (n : ℕ). c * n + t * (z .points * z .pairs)) (cells-by-size z h) ∙ ap (λ (n : ℕ). n + t * (z .points * z .pairs)) (sym (mul-assoc c (z .triplets) (z .points * z .pairs))) ∙ sym (add-mul (c * z .triplets) t (z .points * z .pairs)) in
       let made : y ≡ eachPart (z .pairs) (averaged (z .bands1) ids1 ids2) (z .points) (part (c * z .cells + t * (z .points * z .pairs)) (z .points * z .pairs) w)
-               = ey ∙ ap (λ (n : ℕ). eachPart n (averaged (z .bands1) ids1 ids2) (z .points) (take (c * z .cells + t * (z .points * z .pairs) + z .points * z .pairs - (c * z .cells + t * (z .points * z .pairs))) (drop (c * z .cells + t * (z .points * z .pairs)) w))) (sym square)
-               ∙ ap (λ (n : ℕ). eachPart (z .pairs) (averaged (z .bands1) ids1 ids2) (z .points) (take n (drop (c * z .cells + t * (z .points * z .pairs)) w))) k in
+      = ey ∙ ap (λ (n : ℕ). eachPart n (averaged (z .bands1) ids1 ids2) (z .points) (take (c * z .cells + t * (z .points * z .pairs) + z .points * z .pairs - (c * z .cells + t * (z .points * z .pairs))) (drop (c * z .cells + t * (z .points * z .pairs)) w))) (sym square)
+      ∙ ap (λ (n : ℕ). eachPart (z .pairs) (averaged (z .bands1) ids1 ids2) (z .points) (take n (drop (c * z .cells + t * (z .points * z .pairs)) w))) k in
       ap (λ (n : ℕ). take (c * z .cells + t * (z .points * z .pairs)) w ++ (y ++ drop n (drop (c * z .cells + t * (z .points * z .pairs)) w))) k
       ∙ group-back nan (z .points) (z .pairs) (averaged (z .bands1) ids1 ids2) (h .pairs-some) (h .points-some) keeps (c * z .triplets + t) (c * z .cells + t * (z .points * z .pairs)) w y start fits made
 
@@ -87,6 +87,7 @@ module _ (z : Sizes) (h : Counted z) (ids1 ids2 : List ℤ) (same : z .bands1 �
       flat : (u : Bool) → pick u true false ≡ u
       flat true = refl
       flat false = refl
+
       go : (i : ℕ) → i < z .channels * z .cells → strided (z .triplets) t c (i / z .pairs / z .points) ≡ eqb (tripletAt (z .points) (z .pairs) (i % z .cells)) t
       go i k =
           let hn : 0 < z .triplets = omega arith in
@@ -108,8 +109,8 @@ module _ (z : Sizes) (h : Counted z) (ids1 ids2 : List ℤ) (same : z .bands1 �
   flags-back t l y lt fits ey =
       let k : t * (z .points * z .pairs) + z .points * z .pairs - t * (z .points * z .pairs) ≡ z .points * z .pairs = omega arith in
       let made : y ≡ eachPart (z .pairs) (averagedFlags (z .bands1) ids1 ids2) (z .points) (part (t * (z .points * z .pairs)) (z .points * z .pairs) l)
-               = ey ∙ ap (λ (n : ℕ). eachPart n (averagedFlags (z .bands1) ids1 ids2) (z .points) (take (t * (z .points * z .pairs) + z .points * z .pairs - t * (z .points * z .pairs)) (drop (t * (z .points * z .pairs)) l))) (sym square)
-               ∙ ap (λ (n : ℕ). eachPart (z .pairs) (averagedFlags (z .bands1) ids1 ids2) (z .points) (take n (drop (t * (z .points * z .pairs)) l))) k in
+      = ey ∙ ap (λ (n : ℕ). eachPart n (averagedFlags (z .bands1) ids1 ids2) (z .points) (take (t * (z .points * z .pairs) + z .points * z .pairs - t * (z .points * z .pairs)) (drop (t * (z .points * z .pairs)) l))) (sym square)
+      ∙ ap (λ (n : ℕ). eachPart (z .pairs) (averagedFlags (z .bands1) ids1 ids2) (z .points) (take n (drop (t * (z .points * z .pairs)) l))) k in
       ap (λ (n : ℕ). take (t * (z .points * z .pairs)) l ++ (y ++ drop n (drop (t * (z .points * z .pairs)) l))) k
       ∙ group-back (pos 0) (z .points) (z .pairs) (averagedFlags (z .bands1) ids1 ids2) (h .pairs-some) (h .points-some) keeps-flags t (t * (z .points * z .pairs)) l y refl fits made
 

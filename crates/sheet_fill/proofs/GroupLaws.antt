@@ -28,6 +28,7 @@ lent-back d a k l y h e i = go (leb a i) refl (ltb i (a + k)) refl
   where
     la : length (take a l) ≡ a
     la = length-take-le a l (omega arith)
+
     go : (u : Bool) → leb a i ≡ u → (v : Bool) → ltb i (a + k) ≡ v
         → getD (take a l ++ (y ++ drop k (drop a l))) i d ≡ pick u (pick v (getD y (i - a) d) (getD l i d)) (getD l i d)
     go false p v q =
@@ -72,9 +73,9 @@ row-kept d b r own new l h e =
     let n₂ : length (rowOf b r l) ≡ b = length-take-le b (drop (r * b) l) (omega (arith, length-drop (r * b) l)) in
     ext-getD d (rowOf b r (patch own new l)) (rowOf b r l) (n₁ ∙ sym n₂)
     (λ k q. let q′ : k < b = rw n₁ at q in
-        getD-take b (drop (r * b) (patch own new l)) k d q′ ∙ getD-drop (r * b) (patch own new l) k d
-        ∙ getD-patch own new l (r * b + k) d (omega arith) ∙ (rw (e k q′))
-        ∙ sym (getD-take b (drop (r * b) l) k d q′ ∙ getD-drop (r * b) l k d))
+    getD-take b (drop (r * b) (patch own new l)) k d q′ ∙ getD-drop (r * b) (patch own new l) k d
+    ∙ getD-patch own new l (r * b + k) d (omega arith) ∙ (rw (e k q′))
+    ∙ sym (getD-take b (drop (r * b) l) k d q′ ∙ getD-drop (r * b) l k d))
 
 -- a group that was lent and came back made
 module _ {A : Type 0} (d : A) (p b : ℕ) (f : List A → List A) (hb : 0 < b) (hp : 0 < p) (keeps : (l : List A) → length (f l) ≡ b) where
@@ -88,6 +89,7 @@ module _ {A : Type 0} (d : A) (p b : ℕ) (f : List A → List A) (hb : 0 < b) (
     where
       ly : length y ≡ p * b
       ly = ap length ey ∙ each-length b f keeps p (part a (p * b) l)
+
       go : (i : ℕ) (u : Bool) → eqb (i / b / p) q ≡ u
           → pick (leb a i) (pick (ltb i (a + p * b)) (getD y (i - a) d) (getD l i d)) (getD l i d) ≡ pick u (madeAt b f d l i) (getD l i d)
       go i true g =
@@ -150,6 +152,7 @@ module _ {A : Type 0} (d : A) (p b : ℕ) (f : List A → List A) (m t : ℕ) (h
       flat : (u : Bool) → pick u false false ≡ false
       flat true = refl
       flat false = refl
+
       go : (i : ℕ) → i < length l → (x : A) (u : Bool) → eqb (i / b / p) (n * m + t) ≡ u
           → pick u (madeAt b f d (patch (λ i. strided m t n (i / b / p)) (madeAt b f d l) l) i) (pick (strided m t n (i / b / p)) (madeAt b f d l i) x)
           ≡ pick (strided m t (n + 1) (i / b / p)) (madeAt b f d l i) x
@@ -157,7 +160,7 @@ module _ {A : Type 0} (d : A) (p b : ℕ) (f : List A → List A) (m t : ℕ) (h
           let g′ : i / b / p ≡ n * m + t = eqb-true (i / b / p) (n * m + t) g in
           let w : i / b * b + b ≤ length l = rw e (row-within i b r hb (rw e at h)) in
           let k : rowOf b (i / b) (patch (λ i. strided m t n (i / b / p)) (madeAt b f d l) l) ≡ rowOf b (i / b) l
-                = row-kept d b (i / b) (λ i. strided m t n (i / b / p)) (madeAt b f d l) l w (λ k q. rw (digits-div (i / b) q, g′, digits-mod n ht, digits-div n ht, le-ltb n n (omega arith)) (flat (eqb t t))) in
+          = row-kept d b (i / b) (λ i. strided m t n (i / b / p)) (madeAt b f d l) l w (λ k q. rw (digits-div (i / b) q, g′, digits-mod n ht, digits-div n ht, le-ltb n n (omega arith)) (flat (eqb t t))) in
           rw (k, g′, strided-last m t n ht)
       go i h x false g = rw (strided-else m t n (i / b / p) (eqb-false (i / b / p) (n * m + t) g))
 

@@ -96,9 +96,9 @@ module _ (m : List ℕ) where
   closed-join lo mid hi a b =
       patch-patch (within lo mid) (λ n. closed (markAt m n)) (within mid hi) (λ n. closed (markAt (closedWithin m lo mid) n)) (within lo hi) (λ n. closed (markAt m n)) m
       (λ n _ x. ⊎-elim
-          (λ l. rw (within-low mid hi n l, lower-half lo mid hi n b l))
-          (λ l. rw (within-high lo mid n l, kept lo mid n (within-high lo mid n l), upper-half lo mid hi n a l))
-          (lt-or-le n mid))
+      (λ l. rw (within-low mid hi n l, lower-half lo mid hi n b l))
+      (λ l. rw (within-high lo mid n l, kept lo mid n (within-high lo mid n l), upper-half lo mid hi n a l))
+      (lt-or-le n mid))
 
   -- one piece
   open-one : (q n : ℕ) → pick (isOpenAt m q) (eqb n q) false ≡ openWithin m q (q + 1) n

@@ -118,6 +118,7 @@ room tally runs next e = go (ltb (tally + runs) (2 ^ 63)) refl e
         is-to : Added → Type 0
         is-to (To t) = Unit
         is-to (Full n) = ⊥
+
         differ : To next ≡ Full 20 → ⊥
         differ q = subst is-to q tt
 
@@ -132,6 +133,7 @@ no-room tally runs n e = go (ltb (tally + runs) (2 ^ 63)) refl e
         is-full : Added → Type 0
         is-full (To t) = ⊥
         is-full (Full n) = Unit
+
         differ : Full n ≡ To (record { runs = tally + runs }) → ⊥
         differ q = subst is-full q tt
 

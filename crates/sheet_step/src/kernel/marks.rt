@@ -6,7 +6,9 @@ ghost use Rattle.sheet_step.specs.Marks.{markAt, isOpenAt, isMark, areMa
 
 // Open, computed, averaged.
 pub const OPEN: u8 = 0;
+
 pub const COMPUTED: u8 = 1;
+
 pub const AVERAGED: u8 = 2;
 
 // The mark of piece `q`.
