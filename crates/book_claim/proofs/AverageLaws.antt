@@ -14,16 +14,19 @@ use lib.Signed.{mag}
 use borrow.Author.Tests.{eqb-true}
 use Rattle.list_laws.proofs.BelowLaws.{below-at}
 use Rattle.list_laws.proofs.SignedLaws.{below-lt}
+use Rattle.list_laws.specs.Lists.{rowOf}
+use Rattle.list_laws.proofs.MapLaws.{map-patch, getD-map-lt}
+use Rattle.list_laws.proofs.GroupLaws.{row-within, row-made}
 use Rattle.triplet_piece.specs.declared.Sizes.{Sizes}
 use Rattle.triplet_piece.specs.Layout.{tripletAt, pieceAt}
 use Rattle.triplet_piece.specs.Study.{weightAt, flagAt}
 use Rattle.triplet_study.specs.Given.{Given, studyOf}
 use Rattle.sheet_step.specs.Marks.{isComputedAt, areComputed, averagedMarks}
-use Rattle.sheet_step.specs.Steps.{Sheet, average, countsOf, rowOf, averagedAt, averagedFlagAt, tripletAveraged, tripletFlagsAveraged, effect}
+use Rattle.sheet_step.specs.Steps.{Sheet, average, countsOf, averagedAt, averagedFlagAt, tripletAveraged, tripletFlagsAveraged, effect}
 use Rattle.book_claim.specs.Book.{Word, fresh, computed, averagedBy, Book, markOf, computedRow, computedFlagRow, weightBy, flagBy, wordOfWeight, wordOfFlag, render, writes}
-use Rattle.book_claim.proofs.EntryLaws.{getD-each, patch-each, map-patch, getD-map-lt}
+use Rattle.book_claim.proofs.EntryLaws.{getD-each, patch-each}
 use Rattle.book_claim.proofs.WordLaws.{average-entry, computed-mark}
-use Rattle.book_claim.proofs.PlaceLaws.{factor-pos, piece-div, row-within, row-made, row-piece, wrapped-triplet, wrapped-piece}
+use Rattle.book_claim.proofs.PlaceLaws.{factor-pos, piece-div, row-piece, wrapped-triplet, wrapped-piece}
 use Rattle.book_claim.proofs.AcceptedLaws.{Accepted}
 use Rattle.book_claim.proofs.RunLaws.{sheet-same, weights-long, flags-long, words-long, weight-word, flag-word}
 

@@ -6,13 +6,14 @@ use Prim.Native.Nat.{ℕ, _+_, _/_, _<_}
 use lib.Ieee.{Float}
 use lib.IntN.{ℤ}
 use lib.ListN.{length, getD, replicate}
+use Rattle.list_laws.proofs.MapLaws.{getD-map-lt}
 use Rattle.triplet_piece.specs.Study.{weightAt, flagAt}
 use Rattle.triplet_study.specs.Given.{Given, studyOf}
 use Rattle.sheet_step.specs.Steps.{Sheet, Call, carry, countsOf, averagedAt, averagedFlagAt, verdict}
 use Rattle.book_claim.specs.Book.{pieceOfWeight, pieceOfFlag, wordAt, Word, fresh, Book, markOf, computedRow, computedFlagRow, weightBy, flagBy, wordOfWeight, wordOfFlag, render, opened, booked, bookAnswers}
 use Rattle.book_claim.specs.Lists.{played, answers}
 use Rattle.book_claim.specs.Counts.{runsAccepted, hasRun, averagings, AveragedBy, AreRefused}
-use Rattle.book_claim.proofs.EntryLaws.{getD-each, getD-map-lt}
+use Rattle.book_claim.proofs.EntryLaws.{getD-each}
 use Rattle.book_claim.proofs.RunLaws.{weights-long, flags-long, marks-long}
 use Rattle.book_claim.proofs.Demand3.{demand-3}
 use Rattle.book_claim.proofs.AlongLaws.{tally-along}

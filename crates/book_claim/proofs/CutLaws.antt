@@ -2,12 +2,13 @@
 use mathlib.Core.Path.{_≡_, refl, sym, ap, subst, _∙_}
 use mathlib.Core.Bool.{Bool, true, false}
 use mathlib.Core.List.{List, [], _∷_, _++_}
-use Prim.Native.Nat.{ℕ, zero, suc, _+_, _<_}
+use Prim.Native.Nat.{ℕ, zero, suc, _<_}
 use native.Mathlib.Omega.{arith}
 use lib.Dec.{eqb}
 use lib.ListN.{length, getD}
 use borrow.Author.Tests.{eqb-false}
 use Rattle.list_laws.specs.Patch.{pick}
+use Rattle.list_laws.proofs.MapLaws.{getD-map-lt}
 use Rattle.questions.proofs.AskLaws.{after-done, after-refused}
 use Rattle.triplet_study.specs.Given.{Given}
 use Rattle.sheet_step.specs.declared.SheetAnswer.{SheetAnswer}
@@ -16,7 +17,6 @@ use Rattle.sheet_step.specs.Steps.{Sheet, Call, carry, verdict, effect, step, s
 use Rattle.book_claim.specs.Book.{Book, turn, bookNo, booked, bookAnswers}
 use Rattle.book_claim.specs.Lists.{played, answers}
 use Rattle.book_claim.specs.Counts.{AreRefused}
-use Rattle.book_claim.proofs.EntryLaws.{getD-map-lt}
 
 module _ (g : Given) where
   -- ---- "A cut leaves sheet and tally as the call before it left them"

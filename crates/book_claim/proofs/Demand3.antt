@@ -3,6 +3,7 @@ use mathlib.Core.Path.{_≡_, refl, sym, ap, ap₂, _∙_}
 use mathlib.Core.List.{List, [], _∷_}
 use Prim.Native.Nat.{ℕ, zero, suc, _%_}
 use lib.ListN.{length, getD, replicate}
+use Rattle.list_laws.proofs.MapLaws.{map-replicate, getD-replicate}
 use Rattle.questions.specs.Ask.{afterCall}
 use Rattle.triplet_piece.specs.Layout.{pieceAt}
 use Rattle.triplet_study.specs.Given.{Given}
@@ -10,7 +11,7 @@ use Rattle.sheet_step.specs.declared.SheetAnswer.{SheetAnswer}
 use Rattle.sheet_step.specs.Steps.{Sheet, Call, run, carry, average, countsOf, verdict, effect, step, stepAnswer, sheetAnswer}
 use Rattle.book_claim.specs.Book.{fresh, Book, markOf, weightBy, flagBy, wordOfWeight, wordOfFlag, render, writes, bookNo, turn, opened, booked, bookAnswers}
 use Rattle.book_claim.specs.Lists.{played, answers}
-use Rattle.book_claim.proofs.EntryLaws.{each-none, map-replicate, getD-replicate}
+use Rattle.book_claim.proofs.EntryLaws.{each-none}
 use Rattle.book_claim.proofs.AcceptedLaws.{Accepted, accepted}
 use Rattle.book_claim.proofs.RunLaws.{sheet-same, run-same, carry-same}
 use Rattle.book_claim.proofs.AverageLaws.{average-same}

@@ -1,16 +1,10 @@
 -- Where a place of weights or flags belongs: its piece, its row of band pairs. Assumes nothing.
-use mathlib.Core.Path.{_≡_, sym, _∙_}
-use mathlib.Core.List.{List}
-use Prim.Native.Nat.{ℕ, zero, suc, _+_, _*_, _/_, _%_, _≤_, _<_}
-use native.Mathlib.Nat.{mod-lt, div-lt-iff-lt-mul, mul-zero, add-mul, mul-le-mul-right, zero-lt-suc}
+use mathlib.Core.Path.{_≡_, _∙_}
+use Prim.Native.Nat.{ℕ, zero, suc, _+_, _*_, _/_, _%_, _<_}
+use native.Mathlib.Nat.{mod-lt, div-lt-iff-lt-mul, mul-zero, zero-lt-suc}
 use native.Mathlib.Omega.{arith}
 use lib.Arith.{digits-div, digits-mod, digits-lt, mod-mul}
-use lib.ListN.{length, getD, drop, length-drop}
-use lib.Seq.{length-take-le, ext-getD, getD-take, getD-drop}
-use Rattle.list_laws.specs.Lists.{tabulate}
-use Rattle.list_laws.proofs.FillLaws.{length-tabulate, tabulate-at}
 use Rattle.triplet_piece.specs.Layout.{tripletAt, pairAt, pieceAt}
-use Rattle.sheet_step.specs.Steps.{rowOf}
 
 -- a place below a product: the second factor is not 0
 pub factor-pos : (i c f : ℕ) → i < c * f → 0 < f
@@ -30,22 +24,6 @@ unfolding pieceAt tripletAt pairAt
 piece-div p b hb j = digits-div (j / b / p) (mod-lt j hb)
 
 -- ---- rows: b places from r * b on
-
--- a row that holds a place of n rows lies in them
-pub row-within : (i b n : ℕ) → 0 < b → i < n * b → i / b * b + b ≤ n * b
-row-within i b n hb h =
-    let q : i / b < n = div-lt-iff-lt-mul hb .1 h in
-    let e : (i / b + 1) * b ≤ n * b = mul-le-mul-right b (omega arith) in
-    omega (arith, add-mul (i / b) 1 b)
-
--- a row by its entries
-pub row-made : {A : Type 0} (d : A) (l : List A) (b r : ℕ) (f : ℕ → A) → r * b + b ≤ length l
-    → ((k : ℕ) → k < b → getD l (r * b + k) d ≡ f (r * b + k)) → rowOf b r l ≡ tabulate b (λ k. f (r * b + k))
-row-made d l b r f h e =
-    let n : length (rowOf b r l) ≡ b = length-take-le b (drop (r * b) l) (omega (arith, length-drop (r * b) l)) in
-    ext-getD d (rowOf b r l) (tabulate b (λ k. f (r * b + k))) (n ∙ sym (length-tabulate b (λ k. f (r * b + k))))
-    (λ k q. let q′ : k < b = rw n at q in
-    getD-take b (drop (r * b) l) k d q′ ∙ getD-drop (r * b) l k d ∙ e k q′ ∙ sym (tabulate-at b (λ k. f (r * b + k)) d k q′))
 
 -- the piece of a row's place
 pub row-piece : (p b r k : ℕ) → k < b → pieceAt p b (r * b + k) ≡ r / p * b + k

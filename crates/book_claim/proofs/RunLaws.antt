@@ -4,13 +4,14 @@ use Prim.Native.Nat.{ℕ, _+_, _*_, _%_, _<_}
 use native.Mathlib.Nat.{mod-lt}
 use lib.IntN.{ℤ}
 use lib.ListN.{length, length-map}
+use Rattle.list_laws.proofs.MapLaws.{map-set, map-map}
 use Rattle.triplet_piece.specs.Layout.{pieceAt}
 use Rattle.triplet_piece.specs.Study.{computedWeights, computedFlags}
 use Rattle.triplet_study.specs.Given.{Given}
 use Rattle.sheet_step.specs.Marks.{closed, carriedMarks}
 use Rattle.sheet_step.specs.Steps.{Sheet, sheet, Call, run, carry, countsOf, pieceOf, effect}
 use Rattle.book_claim.specs.Book.{computed, Book, markOf, carried, weightBy, flagBy, wordOfWeight, wordOfFlag, render, writes}
-use Rattle.book_claim.proofs.EntryLaws.{length-each, patch-each, map-set, map-map}
+use Rattle.book_claim.proofs.EntryLaws.{length-each, patch-each}
 use Rattle.book_claim.proofs.WordLaws.{run-entry, carry-entry, carried-mark, open-count}
 use Rattle.book_claim.proofs.PlaceLaws.{factor-pos, piece-lt}
 use Rattle.book_claim.proofs.AcceptedLaws.{Accepted, named}

@@ -16,14 +16,15 @@ use Rattle.list_laws.specs.Patch.{pick}
 use Rattle.list_laws.proofs.BelowLaws.{below-at}
 use Rattle.list_laws.proofs.BoolLaws.{and-right, clash}
 use Rattle.list_laws.proofs.PatchLaws.{length-patch, getD-patch}
+use Rattle.list_laws.specs.Lists.{oneIf}
+use Rattle.list_laws.proofs.MapLaws.{getD-map-lt}
 use Rattle.questions.specs.Ask.{afterCall}
 use Rattle.questions.proofs.AskLaws.{after-done, after-refused}
 use Rattle.triplet_study.specs.Given.{Given}
-use Rattle.sheet_step.specs.Marks.{markAt, isAveragedAt, alike, isMark, areMarks, isNotAveraged, oneIf}
+use Rattle.sheet_step.specs.Marks.{markAt, isAveragedAt, alike, isMark, areMarks, isNotAveraged}
 use Rattle.sheet_step.specs.Steps.{Sheet, Call, run, carry, average, countsOf, pieceOf}
 use Rattle.book_claim.specs.Book.{wordAt, Word, fresh, computed, averagedBy, Book, markOf, isOpen, carried, render, writes, bookNo, turn}
 use Rattle.book_claim.specs.Counts.{runsPiece, averages, isAveraged}
-use Rattle.book_claim.proofs.EntryLaws.{getD-map-lt}
 use Rattle.book_claim.proofs.AcceptedLaws.{Accepted, accepted, piece-in}
 use Rattle.book_claim.proofs.AverageLaws.{all-computed}
 

@@ -2,7 +2,7 @@
 use mathlib.Core.Path.{_≡_, refl, sym, ap, _∙_}
 use mathlib.Core.Bool.{Bool, true, false}
 use mathlib.Core.List.{List, map}
-use Prim.Native.Nat.{ℕ, zero, suc, _/_, _<_}
+use Prim.Native.Nat.{ℕ, _/_, _<_}
 use native.Mathlib.Omega.{arith}
 use lib.Dec.{eqb}
 use lib.IntN.{ℤ}
@@ -11,9 +11,9 @@ use lib.Seq.{getD-set-same, getD-set-other}
 use borrow.Author.Tests.{eqb-true, eqb-false}
 use Rattle.list_laws.specs.Patch.{pick, patch}
 use Rattle.list_laws.proofs.PatchLaws.{getD-patch}
-use Rattle.sheet_step.specs.Marks.{isOpenAt, countBelow, openPieces, closed}
+use Rattle.list_laws.proofs.MapLaws.{getD-map-lt, count-ext}
+use Rattle.sheet_step.specs.Marks.{isOpenAt, openPieces, closed}
 use Rattle.book_claim.specs.Book.{Word, fresh, computed, averagedBy, markOf, isOpen, openWords, carried}
-use Rattle.book_claim.proofs.EntryLaws.{getD-map-lt}
 
 -- ---- one entry: v is what a run writes there, x what was there at the start, by w what a word w says
 
@@ -63,12 +63,6 @@ pub computed-mark : (w : Word) → markOf w ≡ 1 → w ≡ computed
 computed-mark fresh e = absurd (let z : ⊥ = omega arith in z)
 computed-mark computed e = refl
 computed-mark (averagedBy ids1 ids2) e = absurd (let z : ⊥ = omega arith in z)
-
--- counting by tests that agree
-pub count-ext : (n : ℕ) (p p′ : ℕ → Bool) → ((i : ℕ) → i < n → p i ≡ p′ i) → countBelow n p ≡ countBelow n p′
-unfolding countBelow
-count-ext zero p p′ h = refl
-count-ext (suc n) p p′ h = rw (count-ext n p p′ (λ i b. h i (omega arith)), h n (omega arith))
 
 -- the open pieces of the words are those of their marks
 pub open-count : (l : List Word) → openPieces (map markOf l) ≡ openWords l

@@ -9,12 +9,12 @@ use native.Mathlib.Omega.{arith}
 use lib.IntN.{ℤ}
 use lib.ListN.{length, getD, length-replicate}
 use Rattle.list_laws.proofs.BoolLaws.{clash, lt-or-le}
+use Rattle.list_laws.specs.Lists.{oneIf}
+use Rattle.list_laws.proofs.MapLaws.{getD-replicate}
 use Rattle.triplet_study.specs.Given.{Given}
-use Rattle.sheet_step.specs.Marks.{oneIf}
 use Rattle.sheet_step.specs.Steps.{Sheet, Call, average, countsOf}
 use Rattle.book_claim.specs.Book.{pieceOfWeight, pieceOfFlag, wordAt, Word, fresh, computed, averagedBy, Book, isOpen, bookNo, turn, opened, booked}
 use Rattle.book_claim.specs.Counts.{hasRun, averagings, AveragedBy, isAveraged}
-use Rattle.book_claim.proofs.EntryLaws.{getD-replicate}
 use Rattle.book_claim.proofs.RunLaws.{weight-word, flag-word}
 use Rattle.book_claim.proofs.TurnLaws.{turn-long, average-turn, yes}
 use Rattle.book_claim.proofs.AlongLaws.{booked-long, ran-accepted, stays, open-along, averaged-along, averaged-by}

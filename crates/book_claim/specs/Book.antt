@@ -8,14 +8,13 @@ use lib.Ieee.{Float}
 use lib.IntN.{ℤ}
 use lib.ListN.{length, getD, set, replicate}
 use lib.Signed.{mag}
-use Rattle.list_laws.specs.Lists.{tabulate}
+use Rattle.list_laws.specs.Lists.{tabulate, countBelow}
 use Rattle.list_laws.specs.Patch.{pick, patch}
 use Rattle.questions.specs.Ask.{afterCall}
 use Rattle.triplet_piece.specs.Layout.{pieceAt}
 use Rattle.triplet_piece.specs.Study.{weightAt, flagAt}
 use Rattle.triplet_study.specs.Given.{Given, studyOf}
 use Rattle.sheet_step.specs.declared.SheetAnswer.{SheetAnswer}
-use Rattle.sheet_step.specs.Marks.{countBelow}
 use Rattle.sheet_step.specs.Steps.{Sheet, sheet, Call, run, carry, average, countsOf, verdict, pieceOf, averagedAt, averagedFlagAt, sheetAnswer}
 
 -- ---- what the book holds

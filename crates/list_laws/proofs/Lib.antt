@@ -11,3 +11,6 @@ pub mod MatrixLaws
 pub mod EqualLaws
 pub mod SizeLaws
 pub mod ColumnLaws
+pub mod StrideLaws
+pub mod GroupLaws
+pub mod MapLaws

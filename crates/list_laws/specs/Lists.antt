@@ -49,3 +49,16 @@ onPart start len f l = take start l ++ (f (part start len l) ++ drop len (drop s
 unfoldable pub onParts : {A : Type 0} → ℕ → ℕ → (List A → List A) → ℕ → List A → List A
 onParts start len f zero l = l
 onParts start len f (suc count) l = onPart (start + count * len) len f (onParts start len f count l)
+
+-- row r of a list of rows, b entries each
+abbrev pub rowOf : {A : Type 0} → ℕ → ℕ → List A → List A
+rowOf b r l = part (r * b) b l
+
+-- 1 where the test holds
+abbrev pub oneIf : Bool → ℕ
+oneIf b = cond b 1 0
+
+-- how many places below n pass the test
+unfoldable pub countBelow : ℕ → (ℕ → Bool) → ℕ
+countBelow zero p = 0
+countBelow (suc n) p = countBelow n p + oneIf (p n)

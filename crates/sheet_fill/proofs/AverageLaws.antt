@@ -2,31 +2,31 @@
 use mathlib.Core.Path.{_≡_, refl, sym, ap, _∙_}
 use mathlib.Core.Bool.{Bool, true, false}
 use mathlib.Core.List.{List, _++_}
-use Prim.Native.Nat.{ℕ, zero, suc, _+_, _-_, _*_, _/_, _%_, _≤_, _<_}
+use Prim.Native.Nat.{ℕ, _+_, _-_, _*_, _/_, _%_, _≤_, _<_}
 use native.Mathlib.Nat.{mod-lt, div-lt-iff-lt-mul, add-mul, mul-assoc, one-le-mul}
 use native.Mathlib.Omega.{arith}
 use lib.Arith.{digits-div, mod-mul}
-use lib.Dec.{eqb, ltb}
+use lib.Dec.{eqb}
 use lib.Ieee.{Float, nan}
 use lib.IntN.{ℤ, pos}
 use lib.ListN.{length, take, drop}
 use borrow.Author.Tests.{lt-ltb}
 use Rattle.list_laws.specs.Lists.{part}
 use Rattle.list_laws.specs.Matrix.{eachPart}
-use Rattle.list_laws.specs.Patch.{pick, patch}
+use Rattle.list_laws.specs.Patch.{pick}
 use Rattle.list_laws.proofs.PatchLaws.{length-patch, patch-ext}
+use Rattle.list_laws.proofs.StrideLaws.{strided}
+use Rattle.list_laws.specs.Groups.{groupMade}
+use Rattle.list_laws.proofs.GroupLaws.{group-back, someGroups, groups-more}
 use Rattle.ieee_laws.specs.Zeros.{plusZero}
 use Rattle.triplet_piece.specs.declared.Sizes.{Sizes}
 use Rattle.triplet_piece.specs.Layout.{tripletAt}
-use Rattle.triplet_piece.proofs.StrideLaws.{strided}
 use Rattle.averaging.specs.Weights.{averaged, averagedPoints}
 use Rattle.averaging.specs.Flags.{averagedFlags, averagedFlagPoints}
 use Rattle.averaging.proofs.WeightLaws.{averaged-length}
 use Rattle.averaging.proofs.FlagLaws.{flags-length}
 use Rattle.sheet_step.specs.Steps.{tripletAveraged, tripletFlagsAveraged, Counted}
 use Rattle.sheet_step.proofs.CountLaws.{cells-by-size}
-use Rattle.sheet_fill.specs.Groups.{groupMade}
-use Rattle.sheet_fill.proofs.GroupLaws.{group-back, someGroups, groups-more}
 
 -- the triplet of a place of the weights
 group-triplet : (p b n i : ℕ) → 0 < b → 0 < n → 0 < p → tripletAt p b (i % (n * p * b)) ≡ i / b / p % n

@@ -1,21 +1,20 @@
 -- A carry-on over the triplets: each turn is one more stretch, and the last ends the sheet. Assumes nothing.
 use mathlib.Core.Path.{_≡_, refl, sym, ap, _∙_}
-use mathlib.Core.Bool.{Bool, true, false}
+use mathlib.Core.Bool.{true, false}
 use mathlib.Core.List.{List}
-use Prim.Native.Nat.{ℕ, zero, suc, _+_, _-_, _*_, _≤_, _<_}
+use Prim.Native.Nat.{ℕ, _+_, _-_, _*_, _≤_, _<_}
 use native.Mathlib.Omega.{arith}
 use lib.Ieee.{Float}
 use lib.IntN.{ℤ}
 use lib.ListN.{length}
-use mathlib.Core.Logic.{⊎-elim}
 use Rattle.list_laws.specs.Patch.{pick}
-use Rattle.list_laws.proofs.BoolLaws.{lt-or-le}
 use Rattle.list_laws.proofs.ProductLaws.{row-next}
+use Rattle.list_laws.proofs.MapLaws.{none-counted}
 use Rattle.triplet_piece.specs.Study.{Study, computedWeights, computedFlags}
 use Rattle.triplet_piece.proofs.StudyLaws.{weights-join, flags-join, weights-alike, flags-alike, weights-nothing, flags-nothing}
-use Rattle.sheet_step.specs.Marks.{isOpenAt, oneIf, countBelow, openIn, carriedMarks}
+use Rattle.sheet_step.specs.Marks.{isOpenAt, openIn}
 use Rattle.sheet_fill.specs.Within.{openWithin, closedWithin}
-use Rattle.sheet_fill.proofs.WithinLaws.{open-none, open-join, open-all, closed-join, closed-all, shut, shut-marks}
+use Rattle.sheet_fill.proofs.WithinLaws.{open-none, open-join, open-all, closed-join, shut, shut-marks}
 
 -- ---- a stretch of none, a stretch after a stretch, the whole sheet
 
@@ -51,18 +50,6 @@ module _ (s : Study) (m m' : List ℕ) (pairs t : ℕ) (e : m' ≡ closedWithin 
   marks-more = rw (e, ← next) (closed-join m 0 (t * pairs) (t * pairs + pairs) (omega arith) (omega arith))
 
 -- ---- a triplet with no open piece
-
-none-counted : (n : ℕ) (p : ℕ → Bool) → countBelow n p ≡ 0 → (k : ℕ) → k < n → p k ≡ false
-unfolding countBelow
-none-counted zero p e k l = absurd (omega arith)
-none-counted (suc n) p e k l =
-    ⊎-elim (λ g. none-counted n p (omega arith) k g)
-    (λ g. let h : k ≡ n = omega arith in ap p h ∙ none (p n) (omega arith))
-    (lt-or-le k n)
-  where
-    none : (b : Bool) → oneIf b ≡ 0 → b ≡ false
-    none true z = absurd (omega arith)
-    none false z = refl
 
 module _ (m : List ℕ) (pairs t : ℕ) (e : openIn pairs m t ≡ 0) where
   pub all-shut : (n : ℕ) → t * pairs ≤ n → n < t * pairs + pairs → isOpenAt m n ≡ false

@@ -2,5 +2,4 @@
 pub mod WithinLaws
 pub mod PieceLaws
 pub mod CarryLaws
-pub mod GroupLaws
 pub mod AverageLaws

@@ -1,19 +1,15 @@
 -- Counts that passed question 9, and how many flags they give. Assumes nothing.
-use mathlib.Core.Path.{_≡_, refl, sym, _∙_}
-use mathlib.Core.Bool.{Bool, true, false, _&&_}
-use mathlib.Core.List.{List}
-use Prim.Native.Nat.{ℕ, zero, suc, _+_, _*_, _≤_, _<_}
+use mathlib.Core.Path.{_≡_, refl}
+use mathlib.Core.Bool.{true, _&&_}
+use Prim.Native.Nat.{ℕ, zero, suc, _*_, _≤_}
 use native.Mathlib.Nat.{mul-le-mul}
-use native.Mathlib.Omega.{arith}
-use lib.IntN.{ℤ}
 use lib.Signed.{mag}
-use Rattle.list_laws.specs.Patch.{pick}
 use Rattle.list_laws.specs.Signed.{isBetween}
 use Rattle.list_laws.proofs.BoolLaws.{and-left, and-right}
 use Rattle.list_laws.proofs.SignedLaws.{between-high}
 use Rattle.sheet_marks.specs.declared.Counts.{Counts}
-use Rattle.sheet_marks.specs.declared.OpenAnswer.the-variants.{Open, Refused}
-use Rattle.sheet_marks.specs.OpenCount.{areCounts, cellsPerTriplet, isZeroAt, oneIf, zerosFrom, openAnswer}
+use Rattle.sheet_marks.specs.declared.OpenAnswer.the-variants.{Refused}
+use Rattle.sheet_marks.specs.OpenCount.{areCounts, cellsPerTriplet, openAnswer}
 
 module _ (c : Counts) (e : areCounts c ≡ true) where
   bands : (isBetween 1 64 (c .«num_band1») && isBetween 1 64 (c .«num_band2»)) && isBetween 1 1024 (c .«num_band0») ≡ true
@@ -43,15 +39,6 @@ module _ (c : Counts) (e : areCounts c ≡ true) where
 
   pub all-cells-le : mag (c .«num_triplets») * cellsPerTriplet c ≤ 274877906944
   all-cells-le = mul-le-mul triplets-le cells-le
-
-pub one-le : (b : Bool) → oneIf b ≤ 1
-one-le true = omega arith
-one-le false = omega arith
-
-pub zeros-le : (flags : List ℤ) (start n : ℕ) → zerosFrom flags start n ≤ n
-unfolding zerosFrom
-zeros-le flags start zero = omega arith
-zeros-le flags start (suc n) = omega (arith, zeros-le flags start n, one-le (isZeroAt flags (start + n)))
 
 pub open-refused : (n m : ℕ) → (n ≡ 0 → ⊥) → Refused n ≡ openAnswer n m
 open-refused zero m h = absurd (h refl)

@@ -6,8 +6,7 @@ use lib.Dec.{eqb}
 use lib.IntN.{ℤ, pos}
 use lib.ListN.{length}
 use lib.Signed.{mag}
-use Rattle.list_laws.specs.Lists.{at}
-use Rattle.list_laws.specs.Patch.{pick}
+use Rattle.list_laws.specs.Lists.{at, countBelow}
 use Rattle.list_laws.specs.Signed.{eqZ, isBelow, isBetween}
 use Rattle.questions.specs.Ask.{Question, asks, firstNo}
 use Rattle.sheet_marks.specs.declared.Counts.{Counts}
@@ -36,14 +35,9 @@ openQuestions c length triplet =
 abbrev pub isZeroAt : List ℤ → ℕ → Bool
 isZeroAt flags k = eqZ (at flags k) (pos 0)
 
--- 1 where the test holds
-abbrev pub oneIf : Bool → ℕ
-oneIf b = pick b 1 0
-
 -- how many of the n flags from `start` on are 0
 unfoldable pub zerosFrom : List ℤ → ℕ → ℕ → ℕ
-zerosFrom flags start zero = 0
-zerosFrom flags start (suc n) = zerosFrom flags start n + oneIf (isZeroAt flags (start + n))
+zerosFrom flags start n = countBelow n (λ k. isZeroAt flags (start + k))
 
 -- by the number of the first no: 0 gives the count
 abbrev pub openAnswer : ℕ → ℕ → OpenAnswer

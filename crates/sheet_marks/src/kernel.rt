@@ -3,8 +3,9 @@ ghost use mathlib.Core.Path.{_≡_};
 ghost use mathlib.Core.Bool.{true};
 ghost use Prim.Native.Nat.{_+_, _*_, _≤_, _<_};
 ghost use lib.ListN.{length};
+ghost use Rattle.list_laws.specs.Lists.{oneIf};
 ghost use Rattle.questions.specs.Ask.{firstNo};
-ghost use Rattle.sheet_marks.specs.OpenCount.{areCounts, cellsPerTriplet, cellsOf, openQuestions, isZeroAt, oneIf, zerosFrom};
+ghost use Rattle.sheet_marks.specs.OpenCount.{areCounts, cellsPerTriplet, cellsOf, openQuestions, isZeroAt, zerosFrom};
 use crate::Counts;
 
 // 2^63

@@ -1,42 +1,21 @@
 -- Reading, counting and setting marks. Assumes nothing.
-use mathlib.Core.Path.{_≡_, refl, sym, ap, _∙_}
+use mathlib.Core.Path.{_≡_, refl, sym, _∙_}
 use mathlib.Core.Bool.{Bool, true, false}
-use mathlib.Core.List.{List, [], _∷_}
-use Prim.Native.Nat.{ℕ, zero, suc, _+_, _*_, _/_, _%_, _≤_, _<_}
-use native.Mathlib.Nat.{not-suc-le-zero, le-of-suc-le-suc, mod-lt, div-add-mod'}
+use mathlib.Core.List.{List}
+use Prim.Native.Nat.{ℕ, _+_, _*_, _/_, _%_, _≤_, _<_}
+use native.Mathlib.Nat.{mod-lt, div-add-mod'}
 use native.Mathlib.Omega.{arith}
 use lib.Arith.{digits-div, digits-mod}
 use lib.Dec.{eqb, ltb}
-use lib.ListN.{length, getD, set}
+use lib.ListN.{length, set}
 use borrow.Author.Tests.{eq-eqb, lt-ltb, le-ltb, ltb-true, ltb-false, eqb-true}
 use Rattle.list_laws.specs.Patch.{pick, patch}
 use Rattle.list_laws.proofs.PatchLaws.{length-patch, patch-more, patch-none, patch-ext}
-use Rattle.sheet_step.specs.Marks.{oneIf, countBelow, averagedMarks}
-
--- within a list the default does not matter
-pub getD-any : {A : Type 0} (l : List A) (i : ℕ) (d e : A) → i < length l → getD l i d ≡ getD l i e
-getD-any [] i d e h = absurd (not-suc-le-zero h)
-getD-any (x ∷ l) zero d e h = refl
-getD-any (x ∷ l) (suc i) d e h = getD-any l i d e (le-of-suc-le-suc h)
+use Rattle.sheet_step.specs.Marks.{averagedMarks}
 
 -- the first place of a row is not beyond
 pub row-start : (q b n : ℕ) → q < n → q / b * b < n
 row-start q b n h = omega (arith, div-add-mod' q b)
-
--- ---- counting
-
-one-le : (b : Bool) → oneIf b ≤ 1
-one-le true = omega arith
-one-le false = omega arith
-
-pub count-le : (n : ℕ) (p : ℕ → Bool) → countBelow n p ≤ n
-unfolding countBelow
-count-le zero p = omega arith
-count-le (suc n) p = omega (arith, count-le n p, one-le (p n))
-
-pub count-next : (n m : ℕ) (p : ℕ → Bool) → m ≡ countBelow n p → (one : ℕ) → one ≡ oneIf (p n) → (m + one ≤ n + 1) × (m + one ≡ countBelow (suc n) p)
-unfolding countBelow
-count-next n m p e one h = (omega (arith, count-le n p, one-le (p n)), rw (e, h))
 
 -- ---- the marks of a triplet, the first n of them set to 2
 

@@ -1,10 +1,10 @@
 -- The marks of a sheet: "one byte a piece by triplet, b1, b2: 0 open, 1 computed, 2 averaged".
 use mathlib.Core.Bool.{Bool, not, _&&_, _||_}
 use mathlib.Core.List.{List, map}
-use Prim.Native.Nat.{ℕ, zero, suc, _+_, _*_, _/_}
+use Prim.Native.Nat.{ℕ, _+_, _*_, _/_}
 use lib.Dec.{eqb, ltb}
 use lib.ListN.{length, getD}
-use Rattle.list_laws.specs.Lists.{allBelow}
+use Rattle.list_laws.specs.Lists.{allBelow, countBelow}
 use Rattle.list_laws.specs.Patch.{pick, patch}
 
 -- the mark of piece q; a place beyond the sheet is no open piece
@@ -40,15 +40,6 @@ isNotAveraged pairs marks t = not (isAveragedAt marks (t * pairs))
 -- Question 18: "Are all the triplet's marks 1?"
 unfoldable pub areComputed : ℕ → List ℕ → ℕ → Bool
 areComputed pairs marks t = allBelow pairs (λ k. isComputedAt marks (t * pairs + k))
-
--- 1 where the test holds
-abbrev pub oneIf : Bool → ℕ
-oneIf b = pick b 1 0
-
--- how many places below n pass the test
-unfoldable pub countBelow : ℕ → (ℕ → Bool) → ℕ
-countBelow zero p = 0
-countBelow (suc n) p = countBelow n p + oneIf (p n)
 
 -- how many pieces are open
 unfoldable pub openPieces : List ℕ → ℕ

@@ -8,7 +8,7 @@ use lib.IntN.{ℤ, pos}
 use lib.Ieee.{Float, nan}
 use lib.ListN.{getD, length, set}
 use lib.Signed.{mag}
-use Rattle.list_laws.specs.Lists.{allBelow, part}
+use Rattle.list_laws.specs.Lists.{allBelow, part, rowOf}
 use Rattle.list_laws.specs.Patch.{patch}
 use Rattle.list_laws.specs.Signed.{isBelow}
 use Rattle.questions.specs.Ask.{Question, asks, firstNo, afterCall}
@@ -19,7 +19,6 @@ use Rattle.triplet_piece.specs.Study.{sizesOf, computedWeights, computedFlags}
 use Rattle.triplet_study.specs.Given.{Given, givenQuestions, studyOf, areLengths}
 use Rattle.averaging.specs.Weights.{averaged}
 use Rattle.averaging.specs.Flags.{averagedFlags}
-use Rattle.sheet_marks.specs.declared.Tally.{Tally}
 use Rattle.sheet_step.specs.declared.SheetAnswer.{SheetAnswer}
 use Rattle.sheet_step.specs.declared.SheetAnswer.the-variants.{Done, Refused}
 use Rattle.sheet_step.specs.Marks.{isOpenAt, areMarks, isNotAveraged, areComputed, openPieces, carriedMarks, averagedMarks}
@@ -128,10 +127,6 @@ verdict g s c = firstNo (callQuestions g s c)
 -- the piece of a triplet and two bands, by the place of its mark
 abbrev pub pieceOf : Sizes → ℤ → ℤ → ℤ → ℕ
 pieceOf z t b1 b2 = mag t * z .pairs + (mag b1 * z .bands2 + mag b2)
-
--- row r of a list: one point of one triplet, of one channel
-abbrev pub rowOf : {A : Type 0} → ℕ → ℕ → List A → List A
-rowOf pairs r l = part (r * pairs) pairs l
 
 -- "what the degenerate sets of the lists .. make of" a row of weights, and of flags: its entry at place i
 abbrev pub averagedAt : Sizes → List ℤ → List ℤ → List Float → ℕ → Float

@@ -2,8 +2,7 @@
 use mathlib.Core.Path.{_≡_, refl, sym, ap, _∙_}
 use mathlib.Core.Bool.{Bool, true, false}
 use mathlib.Core.List.{List}
-use mathlib.Core.Logic.{⊎-elim}
-use Prim.Native.Nat.{ℕ, zero, suc, _+_, _*_, _/_, _%_, _≤_, _<_}
+use Prim.Native.Nat.{ℕ, _+_, _*_, _/_, _%_, _≤_, _<_}
 use native.Mathlib.Nat.{div-add-mod', mod-lt, div-lt-iff-lt-mul, mul-le-mul}
 use native.Mathlib.Omega.{arith}
 use lib.Arith.{digits-div, digits-mod}
@@ -11,16 +10,15 @@ use lib.Dec.{eqb, ltb}
 use lib.Ieee.{Float}
 use lib.IntN.{ℤ}
 use lib.ListN.{length}
-use borrow.Author.Tests.{eq-eqb, ne-eqb, lt-ltb, le-ltb, ltb-true, ltb-false, eqb-true, eqb-false}
+use borrow.Author.Tests.{eq-eqb, lt-ltb, le-ltb, ltb-true, ltb-false, eqb-true, eqb-false}
 use Rattle.list_laws.specs.Patch.{pick}
-use Rattle.questions.specs.Grids.{triplesIn}
+use Rattle.list_laws.proofs.StrideLaws.{both-none, both-all}
 use Rattle.triplet_channels.specs.Values.{Held}
-use Rattle.triplet_corners.specs.Corners.{secondSteps, cornerNumbers}
+use Rattle.triplet_corners.specs.Corners.{secondSteps}
 use Rattle.triplet_corners.proofs.CornerLaws.{corners-held, second-length}
 use Rattle.triplet_piece.specs.declared.Sizes.{Sizes}
 use Rattle.triplet_piece.specs.Layout.{pieceWeights, pieceFlags, Fitting}
 use Rattle.triplet_piece.specs.Study.{Study, rowsIn, outputsOfCorners, firstCorners, secondCorners, outputsOf, sizesOf, computedWeights, computedFlags, Ready}
-use Rattle.triplet_piece.proofs.StrideLaws.{both-none, both-all}
 use Rattle.triplet_piece.proofs.LayoutLaws.{weights-same, flags-same}
 use Rattle.triplet_piece.proofs.StudyLaws.{study-fits, piece-weights, piece-flags, weights-join, flags-join, weights-nothing, flags-nothing, weights-alike, flags-alike}
 

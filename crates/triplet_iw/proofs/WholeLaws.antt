@@ -1,8 +1,8 @@
 -- Once every triplet is computed, all weights and flags are. Assumes nothing.
-use mathlib.Core.Path.{_≡_, refl, sym, ap, _∙_}
-use mathlib.Core.Bool.{Bool, true}
+use mathlib.Core.Path.{_≡_, refl, ap, _∙_}
+use mathlib.Core.Bool.{true}
 use mathlib.Core.List.{List}
-use Prim.Native.Nat.{ℕ, zero, suc, _+_, _*_, _/_, _%_, _≤_, _<_}
+use Prim.Native.Nat.{ℕ, zero, suc, _*_, _/_, _%_, _≤_, _<_}
 use native.Mathlib.Nat.{mod-lt, div-lt-iff-lt-mul}
 use native.Mathlib.Omega.{arith}
 use lib.Arith.{digits-div}
@@ -12,10 +12,10 @@ use lib.IntN.{ℤ, pos}
 use lib.ListN.{length}
 use borrow.Author.Tests.{lt-ltb}
 use Rattle.list_laws.specs.Lists.{tabulate}
+use Rattle.list_laws.proofs.StrideLaws.{patch-whole}
 use Rattle.triplet_piece.specs.declared.Sizes.{Sizes}
 use Rattle.triplet_piece.specs.Layout.{tripletAt, pairAt, pieceAt}
 use Rattle.triplet_piece.specs.Study.{Study, sizesOf, weightAt, flagAt, computedWeights, computedFlags, Ready}
-use Rattle.triplet_piece.proofs.StrideLaws.{patch-whole}
 use Rattle.triplet_iw.specs.Whole.{allWeights, allFlags}
 use Rattle.triplet_iw.proofs.TripletLaws.{pairs-some}
 

@@ -2,21 +2,21 @@
 use mathlib.Core.Path.{_≡_, refl, sym, ap, _∙_}
 use mathlib.Core.Bool.{Bool, true, false}
 use mathlib.Core.List.{List}
-use Prim.Native.Nat.{ℕ, zero, suc, _+_, _*_, _/_, _%_, _≤_, _<_}
+use Prim.Native.Nat.{ℕ, _+_, _*_, _/_, _%_, _≤_, _<_}
 use native.Mathlib.Nat.{div-add-mod', mod-lt, div-lt-iff-lt-mul, le-mul-of-pos-right}
 use native.Mathlib.Omega.{arith}
 use lib.Arith.{digits-div, digits-mod, digits-lt}
 use lib.Dec.{eqb, ltb}
 use lib.Ieee.{Float}
 use lib.IntN.{ℤ}
-use lib.ListN.{length, getD, set}
+use lib.ListN.{length, set}
 use borrow.Author.Tests.{eq-eqb, lt-ltb, le-ltb, ltb-true, ltb-false, eqb-true, eqb-false}
 use Rattle.list_laws.specs.Patch.{pick, patch}
 use Rattle.list_laws.proofs.PatchLaws.{length-patch, patch-more, patch-none, patch-ext, patch-patch}
+use Rattle.list_laws.proofs.StrideLaws.{digits-eq, strided, strided-last, strided-else, both-none, both-all}
 use Rattle.triplet_channels.specs.declared.Outputs.{Outputs}
 use Rattle.triplet_piece.specs.declared.Sizes.{Sizes}
 use Rattle.triplet_piece.specs.Layout.{tripletAt, pointAt, pairAt, pieceAt, cellOf, channelOf, cellWeights, pieceWeights, pieceFlags, Fitting}
-use Rattle.triplet_piece.proofs.StrideLaws.{digits-eq, strided, strided-last, strided-else, both-none, both-all}
 
 -- ---- the weights of one cell
 

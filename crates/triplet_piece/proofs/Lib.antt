@@ -1,4 +1,3 @@
 -- Laws that several proofs cite.
-pub mod StrideLaws
 pub mod LayoutLaws
 pub mod StudyLaws

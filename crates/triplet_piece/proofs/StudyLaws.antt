@@ -1,25 +1,19 @@
 -- A piece that is written is one that is computed; computed pieces join. Assumes nothing.
-use mathlib.Core.Path.{_≡_, refl, sym, ap, _∙_}
+use mathlib.Core.Path.{_≡_, refl, sym, _∙_}
 use mathlib.Core.Bool.{Bool, true, false}
 use mathlib.Core.List.{List}
-use Prim.Native.Nat.{ℕ, zero, suc, _+_, _*_, _/_, _%_, _≤_, _<_}
-use native.Mathlib.Nat.{div-add-mod', mod-lt, div-lt-iff-lt-mul}
-use native.Mathlib.Omega.{arith}
+use Prim.Native.Nat.{ℕ, _+_, _*_, _/_, _%_, _≤_, _<_}
 use lib.Arith.{digits-div, digits-mod}
-use lib.Dec.{eqb, ltb}
-use lib.Ieee.{Float, nan}
-use lib.IntN.{ℤ, pos}
-use lib.ListN.{length, getD}
-use borrow.Author.Tests.{eq-eqb, ne-eqb, lt-ltb, le-ltb, ltb-true, ltb-false, eqb-true, eqb-false}
-use Rattle.list_laws.specs.Lists.{tabulate}
-use Rattle.list_laws.specs.Patch.{pick, patch}
+use lib.Dec.{eqb}
+use lib.Ieee.{Float}
+use lib.IntN.{ℤ}
+use lib.ListN.{length}
+use borrow.Author.Tests.{eqb-true}
+use Rattle.list_laws.specs.Patch.{pick}
 use Rattle.list_laws.proofs.PatchLaws.{length-patch, patch-none, patch-ext, patch-patch}
 use Rattle.list_laws.proofs.ProductLaws.{digit-lt}
-use Rattle.triplet_channels.specs.declared.Outputs.{Outputs}
-use Rattle.triplet_piece.specs.declared.Sizes.{Sizes}
-use Rattle.triplet_piece.specs.Layout.{tripletAt, pointAt, pairAt, pieceAt, channelOf, pieceWeights, pieceFlags, Fitting}
+use Rattle.triplet_piece.specs.Layout.{pointAt, pieceAt, channelOf, pieceWeights, pieceFlags, Fitting}
 use Rattle.triplet_piece.specs.Study.{Study, outputsOf, sizesOf, outputsAtCell, weightAt, flagAt, computedWeights, computedFlags}
-use Rattle.triplet_piece.proofs.StrideLaws.{patch-whole, both-all}
 use Rattle.triplet_piece.proofs.LayoutLaws.{piece-is}
 
 -- the counts of a study fit

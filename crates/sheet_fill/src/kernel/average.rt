@@ -3,9 +3,9 @@ ghost use mathlib.Core.Path.{_≡_};
 ghost use Prim.Native.Nat.{_+_, _*_, _<_, _≤_};
 ghost use lib.Ieee.{nan};
 ghost use lib.ListN.{length};
+ghost use Rattle.list_laws.specs.Groups.{groupMade};
 ghost use Rattle.averaging.specs.Weights.{averaged};
 ghost use Rattle.sheet_step.specs.Steps.{tripletAveraged, tripletFlagsAveraged, Counted};
-ghost use Rattle.sheet_fill.specs.Groups.{groupMade};
 use triplet_piece::Sizes;
 
 // The weights of triplet `t` in channel `c`.

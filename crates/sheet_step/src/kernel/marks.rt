@@ -2,7 +2,8 @@
 ghost use mathlib.Core.Path.{_≡_};
 ghost use Prim.Native.Nat.{_+_, _*_, _≤_, _<_};
 ghost use lib.ListN.{length, set};
-ghost use Rattle.sheet_step.specs.Marks.{markAt, isOpenAt, isMark, areMarks, isNotAveraged, areComputed, oneIf, openPieces, openIn, averagedMarks};
+ghost use Rattle.list_laws.specs.Lists.{oneIf};
+ghost use Rattle.sheet_step.specs.Marks.{markAt, isOpenAt, isMark, areMarks, isNotAveraged, areComputed, openPieces, openIn, averagedMarks};
 
 // Open, computed, averaged.
 pub const OPEN: u8 = 0;

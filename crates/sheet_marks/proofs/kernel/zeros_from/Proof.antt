@@ -1,24 +1,25 @@
 -- `sheet_marks::kernel::zeros_from` meets its contract. Assumes nothing.
-use Prim.Native.Nat.{_-_, _≤_}
+use Prim.Native.Nat.{_+_, _-_, _≤_}
 use borrow.Author.Needs.{needs}
 use mathlib.Core.Path.{_∙_, _≡_, refl}
 use native.Mathlib.Numerals.{add-one}
 use native.Mathlib.Omega.{arith}
-use Rattle.sheet_marks.proofs.CountLaws.{one-le, zeros-le}
-use Rattle.sheet_marks.specs.OpenCount.{zerosFrom}
+use Rattle.list_laws.specs.Lists.{countBelow}
+use Rattle.list_laws.proofs.MapLaws.{count-next}
+use Rattle.sheet_marks.specs.OpenCount.{isZeroAt, zerosFrom}
 use Rattle.sheet_marks.proofs.kernel.zeros_from.Statement.{statement}
 use Rattle.sheet_marks.proofs.kernel.zeros_from.Tie as tie
 
 abbrev Inv-loop : tie.InvT-loop
 Inv-loop flags start n count₀ i₀ count i =
-    (i ≤ n) × (count ≡ zerosFrom flags start i)
+    (i ≤ n) × (count ≡ countBelow i (λ k. isZeroAt flags (start + k)))
 
 abbrev μ-loop : tie.MeasureT-loop
 μ-loop flags start n count₀ i₀ count i =
     n - i
 
 loop-holds : tie.Need-loop-holds Inv-loop μ-loop
-unfolding zerosFrom
+unfolding countBelow
 loop-holds c =
     (omega arith, refl)
 
@@ -36,7 +37,7 @@ one-if-requires c κs =
 
 add-count : tie.Need-add-count Inv-loop μ-loop
 add-count c =
-    omega (arith, c .one-if .ensures, one-le (c .before .is-zero-at .result), c .before .before .before .loop .inv .1, zeros-le (c .before .before .before .before .args .flags .now) (c .before .before .before .before .args .start) (c .before .before .before .loop .i))
+    omega (arith, count-next (c .before .before .before .loop .i) (c .before .before .before .loop .count) (λ k. isZeroAt (c .before .before .before .before .args .flags .now) (c .before .before .before .before .args .start + k)) (c .before .before .before .loop .inv .1) (c .one-if .result) (c .one-if .ensures ∙ rw (c .before .is-zero-at .ensures)) .0)
 
 add-i : tie.Need-add-i Inv-loop μ-loop
 add-i c =
@@ -47,11 +48,11 @@ loop-less c =
     omega arith
 
 loop-again : tie.Need-loop-again Inv-loop μ-loop
-unfolding zerosFrom
 loop-again c =
-    (omega arith, rw (add-one, c .before .before .before .loop .inv .1, c .one-if .ensures, c .before .is-zero-at .ensures))
+    (omega arith, rw add-one (count-next (c .before .before .before .loop .i) (c .before .before .before .loop .count) (λ k. isZeroAt (c .before .before .before .before .args .flags .now) (c .before .before .before .before .args .start + k)) (c .before .before .before .loop .inv .1) (c .one-if .result) (c .one-if .ensures ∙ rw (c .before .is-zero-at .ensures)) .1))
 
 returns : tie.Need-returns Inv-loop μ-loop
+unfolding zerosFrom
 returns c =
     let e : c .before .loop .i ≡ c .before .before .args .n = omega arith in c .before .loop .inv .1 ∙ rw e
 

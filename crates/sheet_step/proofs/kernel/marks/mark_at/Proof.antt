@@ -1,6 +1,6 @@
 -- `sheet_step::kernel::marks::mark_at` meets its contract. Assumes nothing.
 use borrow.Author.Needs.{needs}
-use Rattle.sheet_step.proofs.MarkLaws.{getD-any}
+use Rattle.list_laws.proofs.MapLaws.{getD-any}
 use Rattle.sheet_step.proofs.kernel.marks.mark_at.Statement.{statement}
 use Rattle.sheet_step.proofs.kernel.marks.mark_at.Tie as tie
 

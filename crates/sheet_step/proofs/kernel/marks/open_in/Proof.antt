@@ -4,8 +4,9 @@ use borrow.Author.Needs.{needs}
 use mathlib.Core.Path.{_∙_, _≡_, refl}
 use native.Mathlib.Numerals.{add-one}
 use native.Mathlib.Omega.{arith}
-use Rattle.sheet_step.proofs.MarkLaws.{count-next}
-use Rattle.sheet_step.specs.Marks.{countBelow, isOpenAt, openIn}
+use Rattle.list_laws.proofs.MapLaws.{count-next}
+use Rattle.list_laws.specs.Lists.{countBelow}
+use Rattle.sheet_step.specs.Marks.{isOpenAt, openIn}
 use Rattle.sheet_step.proofs.kernel.marks.open_in.Statement.{statement}
 use Rattle.sheet_step.proofs.kernel.marks.open_in.Tie as tie
 

@@ -5,8 +5,9 @@ use lib.ListN.{length}
 use mathlib.Core.Path.{_∙_, _≡_, refl}
 use native.Mathlib.Numerals.{add-one}
 use native.Mathlib.Omega.{arith}
-use Rattle.sheet_step.proofs.MarkLaws.{count-next}
-use Rattle.sheet_step.specs.Marks.{countBelow, isOpenAt, openPieces}
+use Rattle.list_laws.proofs.MapLaws.{count-next}
+use Rattle.list_laws.specs.Lists.{countBelow}
+use Rattle.sheet_step.specs.Marks.{isOpenAt, openPieces}
 use Rattle.sheet_step.proofs.kernel.marks.open_pieces.Statement.{statement}
 use Rattle.sheet_step.proofs.kernel.marks.open_pieces.Tie as tie
 
