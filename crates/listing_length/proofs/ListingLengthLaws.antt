@@ -6,6 +6,7 @@ use mathlib.Core.List.{List, [], _∷_, _++_}
 use mathlib.Core.Logic.{_⊎_, inl, inr}
 use native.Mathlib.Nat.{mul-le-mul-right}
 use native.Mathlib.Omega.{arith}
+use lib.Dec.{ltb}
 use lib.Ieee.{Float, nan, binary64, toBits}
 use lib.IntN.{ℤ, pos}
 use lib.ListN.{length, getD, length-append}
@@ -18,7 +19,7 @@ use Rattle.listing.specs.Listings.{number, frontOf, weightEnd, weightOf, weight
 use Rattle.listing.proofs.ListingLaws.{front-lengths, line-length, listing-length, refusal-length}
 use Rattle.listing_length.specs.Totals.{total, digitsOf, digitsBelow}
 use Rattle.listing_length.proofs.TotalLaws.{rows-length, total-is, total-add, total-same, total-grid}
-use Rattle.listing_length.proofs.DigitLaws.{Digits, one, two, three, four, digits-of, below-is}
+use Rattle.listing_length.proofs.DigitLaws.{below-is}
 use Rattle.listing_length.proofs.LongestLaws.{columns, one-channel, four-columns}
 
 number-length : (n end : ℕ) → length (number n end) ≡ digitsOf n + 1
@@ -107,12 +108,15 @@ unfolding columns
 longest-reached weights flags n =
     omega (arith, listing-bytes 195 21 1 1 1 weights flags n, below-is 195 (omega arith), below-is 21 (omega arith), below-is 1 (omega arith))
 
--- a refusal with a number of one or two digits
-pub refusal-short : (n : ℕ) → n < 100 → length (refusalOf n) ≤ 11
-refusal-short n h = go (digits-of n (omega arith))
+places-most : (f n : ℕ) → places f n ≤ suc f
+unfolding places
+places-most zero n = omega arith
+places-most (suc f) n = go (ltb n 10) (places-most f (n / 10))
   where
-    go : Digits n → length (refusalOf n) ≤ 11
-    go (one l e) = omega (arith, refusal-length n, number-length n 10)
-    go (two l m e) = omega (arith, refusal-length n, number-length n 10)
-    go (three l m e) = absurd (omega arith)
-    go (four l e) = absurd (omega arith)
+    go : (t : Bool) → places f (n / 10) ≤ suc f → cond t 1 (suc (places f (n / 10))) ≤ suc (suc f)
+    go true h = omega arith
+    go false h = omega arith
+
+-- a refusal, whatever its number
+pub refusal-short : (n : ℕ) → length (refusalOf n) ≤ 29
+refusal-short n = omega (arith, refusal-length n, number-length n 10, places-most 19 n)

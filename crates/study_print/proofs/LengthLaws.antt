@@ -1,4 +1,4 @@
--- How many bytes a study takes at least: 23 for each point and 14 for each triplet. Assumes nothing.
+-- How many bytes the sections of a study take at least, and so how many numbers a text can hold. Assumes nothing.
 use Prim.Native.Nat.{ℕ, zero, suc, _+_, _*_, _/_, _≤_, _<_}
 use mathlib.Core.Path.{_≡_, refl, sym, ap, _∙_}
 use mathlib.Core.Bool.{Bool, true, false, cond}
@@ -63,16 +63,38 @@ module _ {A : Type 0} (spell : A → List ℕ) (least : ℕ) (low : (v : A) → 
         length-append (line spell tag (take n vs)) (10 ∷ textOf (section spell tag n k (drop n vs))),
       )
 
+-- how many numbers a study has at most
+pub record Small (s : Study) : Type 0 where
+  pub addresses : length (s .addresses) ≤ 16384
+  pub map : length (s .map) ≤ 16384
+  pub f1 : length (s .f1) ≤ 16384
+  pub f2 : length (s .f2) ≤ 16384
+  pub points : length (s .points) ≤ 712
+  pub triplets : length (s .triplets) / 3 ≤ 1170
+
 module _ (s : Study) where
+  addresses-bytes : length (s .addresses) ≡ length (s .addresses) / 3 * 3 → length (s .addresses) / 3 * 11 ≤ length (textOf (section signed addrTag 3 (length (s .addresses) / 3) (s .addresses)))
+  addresses-bytes e = section-bytes signed 1 signed-some addrTag 3 (length (s .addresses) / 3) (s .addresses) e
+
+  map-bytes : length (s .map) * 6 ≤ length (textOf (section signed mapTag 1 (length (s .map)) (s .map)))
+  map-bytes = section-bytes signed 1 signed-some mapTag 1 (length (s .map)) (s .map) (sym (mul-one (length (s .map))))
+
+  f1-bytes : length (s .f1) * 20 ≤ length (textOf (section hexadecimal f1Tag 1 (length (s .f1)) (s .f1)))
+  f1-bytes = section-bytes hexadecimal 16 pattern-length f1Tag 1 (length (s .f1)) (s .f1) (sym (mul-one (length (s .f1))))
+
+  f2-bytes : length (s .f2) * 20 ≤ length (textOf (section hexadecimal f2Tag 1 (length (s .f2)) (s .f2)))
+  f2-bytes = section-bytes hexadecimal 16 pattern-length f2Tag 1 (length (s .f2)) (s .f2) (sym (mul-one (length (s .f2))))
+
   points-bytes : length (s .points) * 23 ≤ length (textOf (section hexadecimal pointTag 1 (length (s .points)) (s .points)))
   points-bytes = section-bytes hexadecimal 16 pattern-length pointTag 1 (length (s .points)) (s .points) (sym (mul-one (length (s .points))))
 
   triplets-bytes : length (s .triplets) ≡ length (s .triplets) / 3 * 3 → length (s .triplets) / 3 * 14 ≤ length (textOf (section signed tripletTag 3 (length (s .triplets) / 3) (s .triplets)))
   triplets-bytes e = section-bytes signed 1 signed-some tripletTag 3 (length (s .triplets) / 3) (s .triplets) e
 
-  pub study-bytes : Printable s → length (s .points) * 23 + length (s .triplets) / 3 * 14 ≤ 16384
+  -- each section by what its rows take at least
+  all-bytes : Printable s → length (s .addresses) / 3 * 11 + length (s .map) * 6 + length (s .f1) * 20 + length (s .f2) * 20 + length (s .points) * 23 + length (s .triplets) / 3 * 14 ≤ 16384
   unfolding printed studyLines
-  study-bytes p =
+  all-bytes p =
       let t : List (List ℕ) = section signed tripletTag 3 (length (s .triplets) / 3) (s .triplets) in
       let k : List (List ℕ) = section hexadecimal pointTag 1 (length (s .points)) (s .points) in
       let b : List (List ℕ) = section hexadecimal f2Tag 1 (length (s .f2)) (s .f2) in
@@ -82,6 +104,10 @@ module _ (s : Study) where
       omega (
         arith,
         p .short,
+        addresses-bytes (p .whole-addresses),
+        map-bytes,
+        f1-bytes,
+        f2-bytes,
         points-bytes,
         triplets-bytes (p .whole-triplets),
         textOf-append k t,
@@ -91,3 +117,13 @@ module _ (s : Study) where
         textOf-append d (m ++ (a ++ (b ++ (k ++ t)))),
         textOf-append (headLines (s .head)) (d ++ (m ++ (a ++ (b ++ (k ++ t))))),
       )
+
+  pub study-small : Printable s → Small s
+  study-small p = record {
+    addresses = omega (arith, all-bytes p, p .whole-addresses);
+    map = omega (arith, all-bytes p);
+    f1 = omega (arith, all-bytes p);
+    f2 = omega (arith, all-bytes p);
+    points = omega (arith, all-bytes p);
+    triplets = omega (arith, all-bytes p);
+  }
