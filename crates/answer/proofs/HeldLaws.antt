@@ -8,7 +8,7 @@ use native.Mathlib.Nat.{zero-add}
 use native.Mathlib.Omega.{arith}
 use lib.IntN.{ℤ}
 use lib.Ieee.{Float}
-use lib.ListN.{length, take, drop}
+use lib.ListN.{length, take, drop, length-append}
 use lib.Seq.{take-all, length-take-le}
 use Rattle.list_laws.specs.Lists.{tabulate}
 use Rattle.list_laws.specs.Signed.{isBetween}
@@ -92,3 +92,7 @@ module _ (text : List ℕ) (r : StudyRead) (x₁ x₂ : List ℤ) (x₃ x₄ x�
     points = front-fits k x₅ (omega (arith, small .points)) (omega arith);
     triplets = front-fits t x₆ (omega (arith, small .triplets)) (omega arith);
   }
+
+-- the answer lies within the buffer: for callers
+pub answer-within : (r : ℕ) (text old new : List ℕ) → r ≡ length (answerOf text) → new ≡ answered (answerOf text) old → r ≤ length new
+answer-within r text old new e g = omega (arith, e, ap length g, length-append (answerOf text) (drop (length (answerOf text)) old))
