@@ -24,12 +24,12 @@ while [ "$seed" -lt $((first + seeds)) ]; do
   seed=$((seed + 1))
 done
 # Each seed's line is "seed S: N studies (..); M damaged (..); longest answer L bytes; D differ".
-awk '/^seed /{ ok += 1; s += $3; for (i = 1; i <= NF; i++) { if ($i == "damaged") d += $(i - 1); if ($i == "bytes;" && $(i - 1) > l) l = $(i - 1); if ($i == "differ") b += $(i - 1) } }
-  END { printf "%d seeds: %d studies and %d damaged texts, longest answer %d bytes, %d differ\n", ok, s, d, l, b; exit !(ok > 0 && b == 0) }' "$tmp/log" || failed=1
-[ "$(grep -c '^seed ' "$tmp/log")" -eq "$seeds" ] || { echo "a seed did not end"; failed=1; }
+awk '/^no studies/{ none += 1 } /^seed /{ ok += 1; s += $3; for (i = 1; i <= NF; i++) { if ($i == "damaged") d += $(i - 1); if ($i == "bytes;" && $(i - 1) > l) l = $(i - 1); if ($i == "differ") b += $(i - 1) } }
+  END { printf "%d seeds: %d studies and %d damaged texts, longest answer %d bytes, %d differ; %d seeds without studies\n", ok, s, d, l, b, none; exit !(ok > 0 && b == 0) }' "$tmp/log" || failed=1
+[ "$(grep -c '^seed \|^no studies' "$tmp/log")" -eq "$seeds" ] || { echo "a seed did not end"; failed=1; }
 
 if command -v valgrind > /dev/null; then
-  python3 "$here/studies.py" keep "$oracle" "$tmp/texts" "$first" 60
+  python3 "$here/studies.py" keep "$oracle" "$tmp/texts" 20261115 60
   clean=0
   for t in "$tmp"/texts/*; do
     "$program" < "$t" > "$tmp/plain"

@@ -91,7 +91,12 @@ def fuzz(folder, program, seed, most):
     judge = Judge(study_check.check, oracle)
     r = gen.Rng(seed ^ 0x5DEECE66D)
     counts, broken, bad, longest_answer = collections.Counter(), collections.Counter(), 0, 0
-    for name, text, _ in gen.build(seed):
+    try:
+        studies = gen.build(seed)
+    except OverflowError as e:                          # a few seeds make it repeat a list too often; none of their studies is run
+        print("no studies for seed %d: the generator stopped (%s)" % (seed, e))
+        return 0
+    for name, text, _ in studies:
         for k in range(1 + most):
             kind, t = ("study", text) if k == 0 else damage.damaged(r, text)
             number, want = judge(t)
