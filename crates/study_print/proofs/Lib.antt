@@ -1,3 +1,6 @@
 pub mod LineLaws
 pub mod FieldLaws
 pub mod StudyTextLaws
+pub mod OnlyLaws
+pub mod StudyOnlyLaws
+pub mod LengthLaws

@@ -1,0 +1,98 @@
+-- A study that a text holds: its numbers lie within the buffers, and its answer is the text's. Assumes nothing.
+use mathlib.Core.Path.{_≡_, refl, sym, ap, _∙_}
+use mathlib.Core.Bool.{Bool, true}
+use mathlib.Core.List.{List, [], _∷_, _++_}
+use mathlib.Core.Logic.{_⊎_, inl, inr}
+use Prim.Native.Nat.{ℕ, zero, suc, _+_, _/_, _≤_, _<_}
+use native.Mathlib.Nat.{zero-add}
+use native.Mathlib.Omega.{arith}
+use lib.IntN.{ℤ}
+use lib.Ieee.{Float}
+use lib.ListN.{length, take, drop, length-append}
+use lib.Seq.{take-all, length-take-le}
+use Rattle.list_laws.specs.Lists.{tabulate}
+use Rattle.list_laws.specs.Signed.{isBetween}
+use Rattle.list_laws.proofs.BoolLaws.{lt-or-le}
+use Rattle.list_laws.proofs.FillLaws.{length-tabulate}
+use Rattle.writing.specs.Written.{written}
+use Rattle.listing.specs.Listings.{refusalOf}
+use Rattle.study.specs.declared.Head.{Head}
+use Rattle.study.specs.declared.StudyRead.{StudyRead}
+use Rattle.study.specs.declared.StudyRead.the-variants as S
+use Rattle.study.specs.Studies.{Study, Holds, holds, holdsNone, studyOf}
+use Rattle.study.specs.Told.{toldStudy}
+use Rattle.study_print.proofs.StudyOnlyLaws.{PrintedOnly, printed-only}
+use Rattle.study_print.proofs.LengthLaws.{Small, study-small}
+use Rattle.answer_weights.specs.Asked.{Asked, asked}
+use Rattle.answer_weights.specs.Answers.{answerTo}
+use Rattle.answer.specs.Texts.{floatsOf, answerOfHeld, answerOf, answered}
+
+pub length-floats : (patterns : List ℕ) → length (floatsOf patterns) ≡ length patterns
+unfolding floatsOf
+length-floats patterns = length-tabulate (length patterns) _
+
+-- a front shorter than the list takes no more than the list has
+front-fits : {A : Type 0} (n : ℕ) (l : List A) → length (take n l) ≤ 16384 → 16384 < length l → n ≤ length l
+front-fits n l h k = go (lt-or-le (length l) n)
+  where
+    go : (length l < n) ⊎ (n ≤ length l) → n ≤ length l
+    go (inl m) = absurd (omega (arith, h, k, ap length (take-all n l (omega arith))))
+    go (inr m) = m
+
+-- bytes written at the start are the answer, then the old bytes
+pub answered-so : (r : ℕ) (l m old new : List ℕ) → r ≡ length l → new ≡ written 0 l old → l ≡ m → (r ≡ length m) × (new ≡ answered m old)
+unfolding written
+answered-so r l m old new p q e = (p ∙ ap length e, q ∙ rw (zero-add, e))
+
+pub answered-from : (r : ℕ) (l m old new : List ℕ) → r ≡ 0 + length l → new ≡ written 0 l old → l ≡ m → (r ≡ length m) × (new ≡ answered m old)
+answered-from r l m old new p q e = answered-so r l m old new (omega (arith, p)) q e
+
+-- a text that holds no study
+pub none-held : (text : List ℕ) (r : StudyRead) (x₁ x₂ : List ℤ) (x₃ x₄ x₅ : List ℕ) (x₆ : List ℤ) → studyOf text ≡ toldStudy r x₁ x₂ x₃ x₄ x₅ x₆ → r ≡ S.Bad → refusalOf 1 ≡ answerOf text
+unfolding answerOf
+none-held text r x₁ x₂ x₃ x₄ x₅ x₆ e g = rw (e, g)
+
+-- a text that holds one
+module _ (text : List ℕ) (r : StudyRead) (x₁ x₂ : List ℤ) (x₃ x₄ x₅ : List ℕ) (x₆ : List ℤ) (h : Head) (a m i j k t : ℕ)
+    (e : studyOf text ≡ toldStudy r x₁ x₂ x₃ x₄ x₅ x₆) (g : r ≡ S.Read h a m i j k t) where
+  abbrev held : Study
+  held = record { head = h; addresses = take a x₁; map = take m x₂; f1 = take i x₃; f2 = take j x₄; points = take k x₅; triplets = take t x₆ }
+
+  holds-it : studyOf text ≡ holds held
+  holds-it = e ∙ ap (λ (y : StudyRead). toldStudy y x₁ x₂ x₃ x₄ x₅ x₆) g
+
+  printed-so : PrintedOnly text held
+  printed-so = printed-only text held holds-it
+
+  small : Small held
+  small = study-small held (printed-so .printable)
+
+  pub held-answer : answerTo (asked h (take a x₁) (take m x₂) (floatsOf (take i x₃)) (floatsOf (take j x₄)) (floatsOf (take k x₅)) (take t x₆)) ≡ answerOf text
+  unfolding answerOf
+  held-answer = rw holds-it
+
+  pub held-ready : (isBetween 0 3 (h .diag) ≡ true) × ((length (take i x₃) ≤ 16384) × ((length (take j x₄) ≤ 16384) × ((length (take k x₅) ≤ 712) × (length (take t x₆) / 3 ≤ 1170))))
+  held-ready = (printed-so .printable .diag-range, (small .f1, (small .f2, (small .points, small .triplets))))
+
+  -- the numbers of each section lie within its buffer
+  pub record Within : Type 0 where
+    pub addresses : a ≤ length x₁
+    pub map : m ≤ length x₂
+    pub f1 : i ≤ length x₃
+    pub f2 : j ≤ length x₄
+    pub points : k ≤ length x₅
+    pub triplets : t ≤ length x₆
+
+  pub within : 16387 ≡ length x₁ → 16385 ≡ length x₂ → 16385 ≡ length x₃ → 16385 ≡ length x₄ → 16385 ≡ length x₅ → 16387 ≡ length x₆ → Within
+  within l₁ l₂ l₃ l₄ l₅ l₆ = record {
+    addresses = front-fits a x₁ (small .addresses) (omega arith);
+    map = front-fits m x₂ (small .map) (omega arith);
+    f1 = front-fits i x₃ (small .f1) (omega arith);
+    f2 = front-fits j x₄ (small .f2) (omega arith);
+    points = front-fits k x₅ (omega (arith, small .points)) (omega arith);
+    triplets = front-fits t x₆ (omega (arith, small .triplets)) (omega arith);
+  }
+
+-- the answer lies within the buffer: for callers
+pub answer-within : (r : ℕ) (text old new : List ℕ) → r ≡ length (answerOf text) → new ≡ answered (answerOf text) old → r ≤ length new
+answer-within r text old new e g = omega (arith, e, ap length g, length-append (answerOf text) (drop (length (answerOf text)) old))

@@ -1,0 +1,154 @@
+-- `answer::answer` meets its contract. Assumes nothing.
+use borrow.Author.Needs.{needs}
+use lib.Seq.{length-take-le}
+use mathlib.Core.Path.{sym}
+use native.Mathlib.Omega.{arith}
+use Rattle.answer.proofs.HeldLaws.{answered-from, answered-so, held-answer, held-ready, none-held, within}
+use Rattle.listing_length.proofs.ListingLengthLaws.{refusal-short}
+use Rattle.answer.proofs.answer.Statement.{statement}
+use Rattle.answer.proofs.answer.Tie as tie
+
+triples-requires : tie.Need-triples-requires
+triples-requires c κs = search needs
+
+numbers-requires : tie.Need-numbers-requires
+numbers-requires c κs = search needs
+
+patterns-requires : tie.Need-patterns-requires
+patterns-requires c κs = search needs
+
+patterns-requires-2 : tie.Need-patterns-requires-2
+patterns-requires-2 c κs = search needs
+
+patterns-requires-3 : tie.Need-patterns-requires-3
+patterns-requires-3 c κs = search needs
+
+triples-requires-2 : tie.Need-triples-requires-2
+triples-requires-2 c κs = search needs
+
+slice-aggregate-read-study : tie.Need-slice-aggregate-read-study
+slice-aggregate-read-study c = search needs
+
+slice-aggregate-read-study-2 : tie.Need-slice-aggregate-read-study-2
+slice-aggregate-read-study-2 c = search needs
+
+slice-aggregate-read-study-3 : tie.Need-slice-aggregate-read-study-3
+slice-aggregate-read-study-3 c = search needs
+
+slice-aggregate-read-study-4 : tie.Need-slice-aggregate-read-study-4
+slice-aggregate-read-study-4 c = search needs
+
+slice-aggregate-read-study-5 : tie.Need-slice-aggregate-read-study-5
+slice-aggregate-read-study-5 c = search needs
+
+slice-aggregate-read-study-6 : tie.Need-slice-aggregate-read-study-6
+slice-aggregate-read-study-6 c = search needs
+
+read-study-requires : tie.Need-read-study-requires
+read-study-requires c κs = search needs
+
+enum-known-h : tie.Need-enum-known-h
+enum-known-h c = search needs
+
+enum-told : tie.Need-enum-told
+enum-told c = search needs
+
+put-refusal-requires : tie.Need-put-refusal-requires
+put-refusal-requires c κs =
+    omega (arith, refusal-short 1)
+
+returns : tie.Need-returns
+returns c =
+    let s : _ = c .before .before .before .before .before .before .before .before .before .before .before .before .before .before .before .before .before .before .before .before .before .before .before .before in let p : _ = c .put-refusal in answered-from _ _ _ _ _ (p .ensures .0) (p .ensures .1) (none-held (s .args .text .now) (c .before .before .before .before .before .before .before .before .before .before .read-study .result) (c .before .before .before .before .before .before .before .before .before .before .read-study .last .1 .0) (c .before .before .before .before .before .before .before .before .before .before .read-study .last .1 .1 .0) (c .before .before .before .before .before .before .before .before .before .before .read-study .last .1 .1 .1 .0) (c .before .before .before .before .before .before .before .before .before .before .read-study .last .1 .1 .1 .1 .0) (c .before .before .before .before .before .before .before .before .before .before .read-study .last .1 .1 .1 .1 .1 .0) (c .before .before .before .before .before .before .before .before .before .before .read-study .last .1 .1 .1 .1 .1 .1 .0) (c .before .before .before .before .before .before .before .before .before .before .read-study .ensures) (c .before .before .enum-told .given .1))
+
+array-share-prefix-addresses : tie.Need-array-share-prefix-addresses
+array-share-prefix-addresses c =
+    let s : _ = c .before .before .before .before .before .before .before .before .before .before .before .before .before .before .before .before .before .before .before .before .before .before .before .before in let w : _ = within (s .args .text .now) (c .before .before .before .before .before .before .before .before .before .before .read-study .result) (c .before .before .before .before .before .before .before .before .before .before .read-study .last .1 .0) (c .before .before .before .before .before .before .before .before .before .before .read-study .last .1 .1 .0) (c .before .before .before .before .before .before .before .before .before .before .read-study .last .1 .1 .1 .0) (c .before .before .before .before .before .before .before .before .before .before .read-study .last .1 .1 .1 .1 .0) (c .before .before .before .before .before .before .before .before .before .before .read-study .last .1 .1 .1 .1 .1 .0) (c .before .before .before .before .before .before .before .before .before .before .read-study .last .1 .1 .1 .1 .1 .1 .0) (c .before .before .h .given .0 .0) (c .before .before .h .given .0 .1 .0) (c .before .before .h .given .0 .1 .1 .0) (c .before .before .h .given .0 .1 .1 .1 .0) (c .before .before .h .given .0 .1 .1 .1 .1 .0) (c .before .before .h .given .0 .1 .1 .1 .1 .1 .0) (c .before .before .h .given .0 .1 .1 .1 .1 .1 .1 .0) (c .before .before .before .before .before .before .before .before .before .before .read-study .ensures) (c .before .before .h .given .1) (omega (arith, c .before .before .before .before .before .before .before .before .before .before .before .before .before .before .before .before .before .before .before .before .before .before .triples .ensures, c .before .before .before .before .before .before .before .before .before .before .read-study .kept .1 .0)) (omega (arith, c .before .before .before .before .before .before .before .before .before .before .before .before .before .before .before .before .before .before .before .before .before .numbers .ensures, c .before .before .before .before .before .before .before .before .before .before .read-study .kept .1 .1 .0)) (omega (arith, c .before .before .before .before .before .before .before .before .before .before .before .before .before .before .before .before .before .before .before .before .patterns .ensures, c .before .before .before .before .before .before .before .before .before .before .read-study .kept .1 .1 .1 .0)) (omega (arith, c .before .before .before .before .before .before .before .before .before .before .before .before .before .before .before .before .before .before .before .patterns2 .ensures, c .before .before .before .before .before .before .before .before .before .before .read-study .kept .1 .1 .1 .1 .0)) (omega (arith, c .before .before .before .before .before .before .before .before .before .before .before .before .before .before .before .before .before .before .patterns3 .ensures, c .before .before .before .before .before .before .before .before .before .before .read-study .kept .1 .1 .1 .1 .1 .0)) (omega (arith, c .before .before .before .before .before .before .before .before .before .before .before .before .before .before .before .before .before .triples2 .ensures, c .before .before .before .before .before .before .before .before .before .before .read-study .kept .1 .1 .1 .1 .1 .1 .0)) in w .addresses
+
+slice-aggregate-put-held : tie.Need-slice-aggregate-put-held
+slice-aggregate-put-held c =
+    let s : _ = c .before .before .before .before .before .before .before .before .before .before .before .before .before .before .before .before .before .before .before .before .before .before .before .before .before in let w : _ = within (s .args .text .now) (c .before .before .before .before .before .before .before .before .before .before .before .read-study .result) (c .before .before .before .before .before .before .before .before .before .before .before .read-study .last .1 .0) (c .before .before .before .before .before .before .before .before .before .before .before .read-study .last .1 .1 .0) (c .before .before .before .before .before .before .before .before .before .before .before .read-study .last .1 .1 .1 .0) (c .before .before .before .before .before .before .before .before .before .before .before .read-study .last .1 .1 .1 .1 .0) (c .before .before .before .before .before .before .before .before .before .before .before .read-study .last .1 .1 .1 .1 .1 .0) (c .before .before .before .before .before .before .before .before .before .before .before .read-study .last .1 .1 .1 .1 .1 .1 .0) (c .before .before .before .h .given .0 .0) (c .before .before .before .h .given .0 .1 .0) (c .before .before .before .h .given .0 .1 .1 .0) (c .before .before .before .h .given .0 .1 .1 .1 .0) (c .before .before .before .h .given .0 .1 .1 .1 .1 .0) (c .before .before .before .h .given .0 .1 .1 .1 .1 .1 .0) (c .before .before .before .h .given .0 .1 .1 .1 .1 .1 .1 .0) (c .before .before .before .before .before .before .before .before .before .before .before .read-study .ensures) (c .before .before .before .h .given .1) (omega (arith, c .before .before .before .before .before .before .before .before .before .before .before .before .before .before .before .before .before .before .before .before .before .before .before .triples .ensures, c .before .before .before .before .before .before .before .before .before .before .before .read-study .kept .1 .0)) (omega (arith, c .before .before .before .before .before .before .before .before .before .before .before .before .before .before .before .before .before .before .before .before .before .before .numbers .ensures, c .before .before .before .before .before .before .before .before .before .before .before .read-study .kept .1 .1 .0)) (omega (arith, c .before .before .before .before .before .before .before .before .before .before .before .before .before .before .before .before .before .before .before .before .before .patterns .ensures, c .before .before .before .before .before .before .before .before .before .before .before .read-study .kept .1 .1 .1 .0)) (omega (arith, c .before .before .before .before .before .before .before .before .before .before .before .before .before .before .before .before .before .before .before .before .patterns2 .ensures, c .before .before .before .before .before .before .before .before .before .before .before .read-study .kept .1 .1 .1 .1 .0)) (omega (arith, c .before .before .before .before .before .before .before .before .before .before .before .before .before .before .before .before .before .before .before .patterns3 .ensures, c .before .before .before .before .before .before .before .before .before .before .before .read-study .kept .1 .1 .1 .1 .1 .0)) (omega (arith, c .before .before .before .before .before .before .before .before .before .before .before .before .before .before .before .before .before .before .triples2 .ensures, c .before .before .before .before .before .before .before .before .before .before .before .read-study .kept .1 .1 .1 .1 .1 .1 .0)) in sym (length-take-le (c .before .before .before .h .given .0 .1 .0) (c .before .before .before .before .before .before .before .before .before .before .before .read-study .last .1 .0) (w .addresses))
+
+array-share-prefix-map : tie.Need-array-share-prefix-map
+array-share-prefix-map c =
+    let s : _ = c .before .before .before .before .before .before .before .before .before .before .before .before .before .before .before .before .before .before .before .before .before .before .before .before .before in let w : _ = within (s .args .text .now) (c .before .before .before .before .before .before .before .before .before .before .before .read-study .result) (c .before .before .before .before .before .before .before .before .before .before .before .read-study .last .1 .0) (c .before .before .before .before .before .before .before .before .before .before .before .read-study .last .1 .1 .0) (c .before .before .before .before .before .before .before .before .before .before .before .read-study .last .1 .1 .1 .0) (c .before .before .before .before .before .before .before .before .before .before .before .read-study .last .1 .1 .1 .1 .0) (c .before .before .before .before .before .before .before .before .before .before .before .read-study .last .1 .1 .1 .1 .1 .0) (c .before .before .before .before .before .before .before .before .before .before .before .read-study .last .1 .1 .1 .1 .1 .1 .0) (c .before .before .before .h .given .0 .0) (c .before .before .before .h .given .0 .1 .0) (c .before .before .before .h .given .0 .1 .1 .0) (c .before .before .before .h .given .0 .1 .1 .1 .0) (c .before .before .before .h .given .0 .1 .1 .1 .1 .0) (c .before .before .before .h .given .0 .1 .1 .1 .1 .1 .0) (c .before .before .before .h .given .0 .1 .1 .1 .1 .1 .1 .0) (c .before .before .before .before .before .before .before .before .before .before .before .read-study .ensures) (c .before .before .before .h .given .1) (omega (arith, c .before .before .before .before .before .before .before .before .before .before .before .before .before .before .before .before .before .before .before .before .before .before .before .triples .ensures, c .before .before .before .before .before .before .before .before .before .before .before .read-study .kept .1 .0)) (omega (arith, c .before .before .before .before .before .before .before .before .before .before .before .before .before .before .before .before .before .before .before .before .before .before .numbers .ensures, c .before .before .before .before .before .before .before .before .before .before .before .read-study .kept .1 .1 .0)) (omega (arith, c .before .before .before .before .before .before .before .before .before .before .before .before .before .before .before .before .before .before .before .before .before .patterns .ensures, c .before .before .before .before .before .before .before .before .before .before .before .read-study .kept .1 .1 .1 .0)) (omega (arith, c .before .before .before .before .before .before .before .before .before .before .before .before .before .before .before .before .before .before .before .before .patterns2 .ensures, c .before .before .before .before .before .before .before .before .before .before .before .read-study .kept .1 .1 .1 .1 .0)) (omega (arith, c .before .before .before .before .before .before .before .before .before .before .before .before .before .before .before .before .before .before .before .patterns3 .ensures, c .before .before .before .before .before .before .before .before .before .before .before .read-study .kept .1 .1 .1 .1 .1 .0)) (omega (arith, c .before .before .before .before .before .before .before .before .before .before .before .before .before .before .before .before .before .before .triples2 .ensures, c .before .before .before .before .before .before .before .before .before .before .before .read-study .kept .1 .1 .1 .1 .1 .1 .0)) in w .map
+
+slice-aggregate-put-held-2 : tie.Need-slice-aggregate-put-held-2
+slice-aggregate-put-held-2 c =
+    let s : _ = c .before .before .before .before .before .before .before .before .before .before .before .before .before .before .before .before .before .before .before .before .before .before .before .before .before .before in let w : _ = within (s .args .text .now) (c .before .before .before .before .before .before .before .before .before .before .before .before .read-study .result) (c .before .before .before .before .before .before .before .before .before .before .before .before .read-study .last .1 .0) (c .before .before .before .before .before .before .before .before .before .before .before .before .read-study .last .1 .1 .0) (c .before .before .before .before .before .before .before .before .before .before .before .before .read-study .last .1 .1 .1 .0) (c .before .before .before .before .before .before .before .before .before .before .before .before .read-study .last .1 .1 .1 .1 .0) (c .before .before .before .before .before .before .before .before .before .before .before .before .read-study .last .1 .1 .1 .1 .1 .0) (c .before .before .before .before .before .before .before .before .before .before .before .before .read-study .last .1 .1 .1 .1 .1 .1 .0) (c .before .before .before .before .h .given .0 .0) (c .before .before .before .before .h .given .0 .1 .0) (c .before .before .before .before .h .given .0 .1 .1 .0) (c .before .before .before .before .h .given .0 .1 .1 .1 .0) (c .before .before .before .before .h .given .0 .1 .1 .1 .1 .0) (c .before .before .before .before .h .given .0 .1 .1 .1 .1 .1 .0) (c .before .before .before .before .h .given .0 .1 .1 .1 .1 .1 .1 .0) (c .before .before .before .before .before .before .before .before .before .before .before .before .read-study .ensures) (c .before .before .before .before .h .given .1) (omega (arith, c .before .before .before .before .before .before .before .before .before .before .before .before .before .before .before .before .before .before .before .before .before .before .before .before .triples .ensures, c .before .before .before .before .before .before .before .before .before .before .before .before .read-study .kept .1 .0)) (omega (arith, c .before .before .before .before .before .before .before .before .before .before .before .before .before .before .before .before .before .before .before .before .before .before .before .numbers .ensures, c .before .before .before .before .before .before .before .before .before .before .before .before .read-study .kept .1 .1 .0)) (omega (arith, c .before .before .before .before .before .before .before .before .before .before .before .before .before .before .before .before .before .before .before .before .before .before .patterns .ensures, c .before .before .before .before .before .before .before .before .before .before .before .before .read-study .kept .1 .1 .1 .0)) (omega (arith, c .before .before .before .before .before .before .before .before .before .before .before .before .before .before .before .before .before .before .before .before .before .patterns2 .ensures, c .before .before .before .before .before .before .before .before .before .before .before .before .read-study .kept .1 .1 .1 .1 .0)) (omega (arith, c .before .before .before .before .before .before .before .before .before .before .before .before .before .before .before .before .before .before .before .before .patterns3 .ensures, c .before .before .before .before .before .before .before .before .before .before .before .before .read-study .kept .1 .1 .1 .1 .1 .0)) (omega (arith, c .before .before .before .before .before .before .before .before .before .before .before .before .before .before .before .before .before .before .before .triples2 .ensures, c .before .before .before .before .before .before .before .before .before .before .before .before .read-study .kept .1 .1 .1 .1 .1 .1 .0)) in sym (length-take-le (c .before .before .before .before .h .given .0 .1 .1 .0) (c .before .before .before .before .before .before .before .before .before .before .before .before .read-study .last .1 .1 .0) (w .map))
+
+array-share-prefix-f1 : tie.Need-array-share-prefix-f1
+array-share-prefix-f1 c =
+    let s : _ = c .before .before .before .before .before .before .before .before .before .before .before .before .before .before .before .before .before .before .before .before .before .before .before .before .before .before in let w : _ = within (s .args .text .now) (c .before .before .before .before .before .before .before .before .before .before .before .before .read-study .result) (c .before .before .before .before .before .before .before .before .before .before .before .before .read-study .last .1 .0) (c .before .before .before .before .before .before .before .before .before .before .before .before .read-study .last .1 .1 .0) (c .before .before .before .before .before .before .before .before .before .before .before .before .read-study .last .1 .1 .1 .0) (c .before .before .before .before .before .before .before .before .before .before .before .before .read-study .last .1 .1 .1 .1 .0) (c .before .before .before .before .before .before .before .before .before .before .before .before .read-study .last .1 .1 .1 .1 .1 .0) (c .before .before .before .before .before .before .before .before .before .before .before .before .read-study .last .1 .1 .1 .1 .1 .1 .0) (c .before .before .before .before .h .given .0 .0) (c .before .before .before .before .h .given .0 .1 .0) (c .before .before .before .before .h .given .0 .1 .1 .0) (c .before .before .before .before .h .given .0 .1 .1 .1 .0) (c .before .before .before .before .h .given .0 .1 .1 .1 .1 .0) (c .before .before .before .before .h .given .0 .1 .1 .1 .1 .1 .0) (c .before .before .before .before .h .given .0 .1 .1 .1 .1 .1 .1 .0) (c .before .before .before .before .before .before .before .before .before .before .before .before .read-study .ensures) (c .before .before .before .before .h .given .1) (omega (arith, c .before .before .before .before .before .before .before .before .before .before .before .before .before .before .before .before .before .before .before .before .before .before .before .before .triples .ensures, c .before .before .before .before .before .before .before .before .before .before .before .before .read-study .kept .1 .0)) (omega (arith, c .before .before .before .before .before .before .before .before .before .before .before .before .before .before .before .before .before .before .before .before .before .before .before .numbers .ensures, c .before .before .before .before .before .before .before .before .before .before .before .before .read-study .kept .1 .1 .0)) (omega (arith, c .before .before .before .before .before .before .before .before .before .before .before .before .before .before .before .before .before .before .before .before .before .before .patterns .ensures, c .before .before .before .before .before .before .before .before .before .before .before .before .read-study .kept .1 .1 .1 .0)) (omega (arith, c .before .before .before .before .before .before .before .before .before .before .before .before .before .before .before .before .before .before .before .before .before .patterns2 .ensures, c .before .before .before .before .before .before .before .before .before .before .before .before .read-study .kept .1 .1 .1 .1 .0)) (omega (arith, c .before .before .before .before .before .before .before .before .before .before .before .before .before .before .before .before .before .before .before .before .patterns3 .ensures, c .before .before .before .before .before .before .before .before .before .before .before .before .read-study .kept .1 .1 .1 .1 .1 .0)) (omega (arith, c .before .before .before .before .before .before .before .before .before .before .before .before .before .before .before .before .before .before .before .triples2 .ensures, c .before .before .before .before .before .before .before .before .before .before .before .before .read-study .kept .1 .1 .1 .1 .1 .1 .0)) in w .f1
+
+slice-aggregate-put-held-3 : tie.Need-slice-aggregate-put-held-3
+slice-aggregate-put-held-3 c =
+    let s : _ = c .before .before .before .before .before .before .before .before .before .before .before .before .before .before .before .before .before .before .before .before .before .before .before .before .before .before .before in let w : _ = within (s .args .text .now) (c .before .before .before .before .before .before .before .before .before .before .before .before .before .read-study .result) (c .before .before .before .before .before .before .before .before .before .before .before .before .before .read-study .last .1 .0) (c .before .before .before .before .before .before .before .before .before .before .before .before .before .read-study .last .1 .1 .0) (c .before .before .before .before .before .before .before .before .before .before .before .before .before .read-study .last .1 .1 .1 .0) (c .before .before .before .before .before .before .before .before .before .before .before .before .before .read-study .last .1 .1 .1 .1 .0) (c .before .before .before .before .before .before .before .before .before .before .before .before .before .read-study .last .1 .1 .1 .1 .1 .0) (c .before .before .before .before .before .before .before .before .before .before .before .before .before .read-study .last .1 .1 .1 .1 .1 .1 .0) (c .before .before .before .before .before .h .given .0 .0) (c .before .before .before .before .before .h .given .0 .1 .0) (c .before .before .before .before .before .h .given .0 .1 .1 .0) (c .before .before .before .before .before .h .given .0 .1 .1 .1 .0) (c .before .before .before .before .before .h .given .0 .1 .1 .1 .1 .0) (c .before .before .before .before .before .h .given .0 .1 .1 .1 .1 .1 .0) (c .before .before .before .before .before .h .given .0 .1 .1 .1 .1 .1 .1 .0) (c .before .before .before .before .before .before .before .before .before .before .before .before .before .read-study .ensures) (c .before .before .before .before .before .h .given .1) (omega (arith, c .before .before .before .before .before .before .before .before .before .before .before .before .before .before .before .before .before .before .before .before .before .before .before .before .before .triples .ensures, c .before .before .before .before .before .before .before .before .before .before .before .before .before .read-study .kept .1 .0)) (omega (arith, c .before .before .before .before .before .before .before .before .before .before .before .before .before .before .before .before .before .before .before .before .before .before .before .before .numbers .ensures, c .before .before .before .before .before .before .before .before .before .before .before .before .before .read-study .kept .1 .1 .0)) (omega (arith, c .before .before .before .before .before .before .before .before .before .before .before .before .before .before .before .before .before .before .before .before .before .before .before .patterns .ensures, c .before .before .before .before .before .before .before .before .before .before .before .before .before .read-study .kept .1 .1 .1 .0)) (omega (arith, c .before .before .before .before .before .before .before .before .before .before .before .before .before .before .before .before .before .before .before .before .before .before .patterns2 .ensures, c .before .before .before .before .before .before .before .before .before .before .before .before .before .read-study .kept .1 .1 .1 .1 .0)) (omega (arith, c .before .before .before .before .before .before .before .before .before .before .before .before .before .before .before .before .before .before .before .before .before .patterns3 .ensures, c .before .before .before .before .before .before .before .before .before .before .before .before .before .read-study .kept .1 .1 .1 .1 .1 .0)) (omega (arith, c .before .before .before .before .before .before .before .before .before .before .before .before .before .before .before .before .before .before .before .before .triples2 .ensures, c .before .before .before .before .before .before .before .before .before .before .before .before .before .read-study .kept .1 .1 .1 .1 .1 .1 .0)) in sym (length-take-le (c .before .before .before .before .before .h .given .0 .1 .1 .1 .0) (c .before .before .before .before .before .before .before .before .before .before .before .before .before .read-study .last .1 .1 .1 .0) (w .f1))
+
+array-share-prefix-f2 : tie.Need-array-share-prefix-f2
+array-share-prefix-f2 c =
+    let s : _ = c .before .before .before .before .before .before .before .before .before .before .before .before .before .before .before .before .before .before .before .before .before .before .before .before .before .before .before in let w : _ = within (s .args .text .now) (c .before .before .before .before .before .before .before .before .before .before .before .before .before .read-study .result) (c .before .before .before .before .before .before .before .before .before .before .before .before .before .read-study .last .1 .0) (c .before .before .before .before .before .before .before .before .before .before .before .before .before .read-study .last .1 .1 .0) (c .before .before .before .before .before .before .before .before .before .before .before .before .before .read-study .last .1 .1 .1 .0) (c .before .before .before .before .before .before .before .before .before .before .before .before .before .read-study .last .1 .1 .1 .1 .0) (c .before .before .before .before .before .before .before .before .before .before .before .before .before .read-study .last .1 .1 .1 .1 .1 .0) (c .before .before .before .before .before .before .before .before .before .before .before .before .before .read-study .last .1 .1 .1 .1 .1 .1 .0) (c .before .before .before .before .before .h .given .0 .0) (c .before .before .before .before .before .h .given .0 .1 .0) (c .before .before .before .before .before .h .given .0 .1 .1 .0) (c .before .before .before .before .before .h .given .0 .1 .1 .1 .0) (c .before .before .before .before .before .h .given .0 .1 .1 .1 .1 .0) (c .before .before .before .before .before .h .given .0 .1 .1 .1 .1 .1 .0) (c .before .before .before .before .before .h .given .0 .1 .1 .1 .1 .1 .1 .0) (c .before .before .before .before .before .before .before .before .before .before .before .before .before .read-study .ensures) (c .before .before .before .before .before .h .given .1) (omega (arith, c .before .before .before .before .before .before .before .before .before .before .before .before .before .before .before .before .before .before .before .before .before .before .before .before .before .triples .ensures, c .before .before .before .before .before .before .before .before .before .before .before .before .before .read-study .kept .1 .0)) (omega (arith, c .before .before .before .before .before .before .before .before .before .before .before .before .before .before .before .before .before .before .before .before .before .before .before .before .numbers .ensures, c .before .before .before .before .before .before .before .before .before .before .before .before .before .read-study .kept .1 .1 .0)) (omega (arith, c .before .before .before .before .before .before .before .before .before .before .before .before .before .before .before .before .before .before .before .before .before .before .before .patterns .ensures, c .before .before .before .before .before .before .before .before .before .before .before .before .before .read-study .kept .1 .1 .1 .0)) (omega (arith, c .before .before .before .before .before .before .before .before .before .before .before .before .before .before .before .before .before .before .before .before .before .before .patterns2 .ensures, c .before .before .before .before .before .before .before .before .before .before .before .before .before .read-study .kept .1 .1 .1 .1 .0)) (omega (arith, c .before .before .before .before .before .before .before .before .before .before .before .before .before .before .before .before .before .before .before .before .before .patterns3 .ensures, c .before .before .before .before .before .before .before .before .before .before .before .before .before .read-study .kept .1 .1 .1 .1 .1 .0)) (omega (arith, c .before .before .before .before .before .before .before .before .before .before .before .before .before .before .before .before .before .before .before .before .triples2 .ensures, c .before .before .before .before .before .before .before .before .before .before .before .before .before .read-study .kept .1 .1 .1 .1 .1 .1 .0)) in w .f2
+
+slice-aggregate-put-held-4 : tie.Need-slice-aggregate-put-held-4
+slice-aggregate-put-held-4 c =
+    let s : _ = c .before .before .before .before .before .before .before .before .before .before .before .before .before .before .before .before .before .before .before .before .before .before .before .before .before .before .before .before in let w : _ = within (s .args .text .now) (c .before .before .before .before .before .before .before .before .before .before .before .before .before .before .read-study .result) (c .before .before .before .before .before .before .before .before .before .before .before .before .before .before .read-study .last .1 .0) (c .before .before .before .before .before .before .before .before .before .before .before .before .before .before .read-study .last .1 .1 .0) (c .before .before .before .before .before .before .before .before .before .before .before .before .before .before .read-study .last .1 .1 .1 .0) (c .before .before .before .before .before .before .before .before .before .before .before .before .before .before .read-study .last .1 .1 .1 .1 .0) (c .before .before .before .before .before .before .before .before .before .before .before .before .before .before .read-study .last .1 .1 .1 .1 .1 .0) (c .before .before .before .before .before .before .before .before .before .before .before .before .before .before .read-study .last .1 .1 .1 .1 .1 .1 .0) (c .before .before .before .before .before .before .h .given .0 .0) (c .before .before .before .before .before .before .h .given .0 .1 .0) (c .before .before .before .before .before .before .h .given .0 .1 .1 .0) (c .before .before .before .before .before .before .h .given .0 .1 .1 .1 .0) (c .before .before .before .before .before .before .h .given .0 .1 .1 .1 .1 .0) (c .before .before .before .before .before .before .h .given .0 .1 .1 .1 .1 .1 .0) (c .before .before .before .before .before .before .h .given .0 .1 .1 .1 .1 .1 .1 .0) (c .before .before .before .before .before .before .before .before .before .before .before .before .before .before .read-study .ensures) (c .before .before .before .before .before .before .h .given .1) (omega (arith, c .before .before .before .before .before .before .before .before .before .before .before .before .before .before .before .before .before .before .before .before .before .before .before .before .before .before .triples .ensures, c .before .before .before .before .before .before .before .before .before .before .before .before .before .before .read-study .kept .1 .0)) (omega (arith, c .before .before .before .before .before .before .before .before .before .before .before .before .before .before .before .before .before .before .before .before .before .before .before .before .before .numbers .ensures, c .before .before .before .before .before .before .before .before .before .before .before .before .before .before .read-study .kept .1 .1 .0)) (omega (arith, c .before .before .before .before .before .before .before .before .before .before .before .before .before .before .before .before .before .before .before .before .before .before .before .before .patterns .ensures, c .before .before .before .before .before .before .before .before .before .before .before .before .before .before .read-study .kept .1 .1 .1 .0)) (omega (arith, c .before .before .before .before .before .before .before .before .before .before .before .before .before .before .before .before .before .before .before .before .before .before .before .patterns2 .ensures, c .before .before .before .before .before .before .before .before .before .before .before .before .before .before .read-study .kept .1 .1 .1 .1 .0)) (omega (arith, c .before .before .before .before .before .before .before .before .before .before .before .before .before .before .before .before .before .before .before .before .before .before .patterns3 .ensures, c .before .before .before .before .before .before .before .before .before .before .before .before .before .before .read-study .kept .1 .1 .1 .1 .1 .0)) (omega (arith, c .before .before .before .before .before .before .before .before .before .before .before .before .before .before .before .before .before .before .before .before .before .triples2 .ensures, c .before .before .before .before .before .before .before .before .before .before .before .before .before .before .read-study .kept .1 .1 .1 .1 .1 .1 .0)) in sym (length-take-le (c .before .before .before .before .before .before .h .given .0 .1 .1 .1 .1 .0) (c .before .before .before .before .before .before .before .before .before .before .before .before .before .before .read-study .last .1 .1 .1 .1 .0) (w .f2))
+
+array-share-prefix-points : tie.Need-array-share-prefix-points
+array-share-prefix-points c =
+    let s : _ = c .before .before .before .before .before .before .before .before .before .before .before .before .before .before .before .before .before .before .before .before .before .before .before .before .before .before .before .before in let w : _ = within (s .args .text .now) (c .before .before .before .before .before .before .before .before .before .before .before .before .before .before .read-study .result) (c .before .before .before .before .before .before .before .before .before .before .before .before .before .before .read-study .last .1 .0) (c .before .before .before .before .before .before .before .before .before .before .before .before .before .before .read-study .last .1 .1 .0) (c .before .before .before .before .before .before .before .before .before .before .before .before .before .before .read-study .last .1 .1 .1 .0) (c .before .before .before .before .before .before .before .before .before .before .before .before .before .before .read-study .last .1 .1 .1 .1 .0) (c .before .before .before .before .before .before .before .before .before .before .before .before .before .before .read-study .last .1 .1 .1 .1 .1 .0) (c .before .before .before .before .before .before .before .before .before .before .before .before .before .before .read-study .last .1 .1 .1 .1 .1 .1 .0) (c .before .before .before .before .before .before .h .given .0 .0) (c .before .before .before .before .before .before .h .given .0 .1 .0) (c .before .before .before .before .before .before .h .given .0 .1 .1 .0) (c .before .before .before .before .before .before .h .given .0 .1 .1 .1 .0) (c .before .before .before .before .before .before .h .given .0 .1 .1 .1 .1 .0) (c .before .before .before .before .before .before .h .given .0 .1 .1 .1 .1 .1 .0) (c .before .before .before .before .before .before .h .given .0 .1 .1 .1 .1 .1 .1 .0) (c .before .before .before .before .before .before .before .before .before .before .before .before .before .before .read-study .ensures) (c .before .before .before .before .before .before .h .given .1) (omega (arith, c .before .before .before .before .before .before .before .before .before .before .before .before .before .before .before .before .before .before .before .before .before .before .before .before .before .before .triples .ensures, c .before .before .before .before .before .before .before .before .before .before .before .before .before .before .read-study .kept .1 .0)) (omega (arith, c .before .before .before .before .before .before .before .before .before .before .before .before .before .before .before .before .before .before .before .before .before .before .before .before .before .numbers .ensures, c .before .before .before .before .before .before .before .before .before .before .before .before .before .before .read-study .kept .1 .1 .0)) (omega (arith, c .before .before .before .before .before .before .before .before .before .before .before .before .before .before .before .before .before .before .before .before .before .before .before .before .patterns .ensures, c .before .before .before .before .before .before .before .before .before .before .before .before .before .before .read-study .kept .1 .1 .1 .0)) (omega (arith, c .before .before .before .before .before .before .before .before .before .before .before .before .before .before .before .before .before .before .before .before .before .before .before .patterns2 .ensures, c .before .before .before .before .before .before .before .before .before .before .before .before .before .before .read-study .kept .1 .1 .1 .1 .0)) (omega (arith, c .before .before .before .before .before .before .before .before .before .before .before .before .before .before .before .before .before .before .before .before .before .before .patterns3 .ensures, c .before .before .before .before .before .before .before .before .before .before .before .before .before .before .read-study .kept .1 .1 .1 .1 .1 .0)) (omega (arith, c .before .before .before .before .before .before .before .before .before .before .before .before .before .before .before .before .before .before .before .before .before .triples2 .ensures, c .before .before .before .before .before .before .before .before .before .before .before .before .before .before .read-study .kept .1 .1 .1 .1 .1 .1 .0)) in w .points
+
+slice-aggregate-put-held-5 : tie.Need-slice-aggregate-put-held-5
+slice-aggregate-put-held-5 c =
+    let s : _ = c .before .before .before .before .before .before .before .before .before .before .before .before .before .before .before .before .before .before .before .before .before .before .before .before .before .before .before .before .before in let w : _ = within (s .args .text .now) (c .before .before .before .before .before .before .before .before .before .before .before .before .before .before .before .read-study .result) (c .before .before .before .before .before .before .before .before .before .before .before .before .before .before .before .read-study .last .1 .0) (c .before .before .before .before .before .before .before .before .before .before .before .before .before .before .before .read-study .last .1 .1 .0) (c .before .before .before .before .before .before .before .before .before .before .before .before .before .before .before .read-study .last .1 .1 .1 .0) (c .before .before .before .before .before .before .before .before .before .before .before .before .before .before .before .read-study .last .1 .1 .1 .1 .0) (c .before .before .before .before .before .before .before .before .before .before .before .before .before .before .before .read-study .last .1 .1 .1 .1 .1 .0) (c .before .before .before .before .before .before .before .before .before .before .before .before .before .before .before .read-study .last .1 .1 .1 .1 .1 .1 .0) (c .before .before .before .before .before .before .before .h .given .0 .0) (c .before .before .before .before .before .before .before .h .given .0 .1 .0) (c .before .before .before .before .before .before .before .h .given .0 .1 .1 .0) (c .before .before .before .before .before .before .before .h .given .0 .1 .1 .1 .0) (c .before .before .before .before .before .before .before .h .given .0 .1 .1 .1 .1 .0) (c .before .before .before .before .before .before .before .h .given .0 .1 .1 .1 .1 .1 .0) (c .before .before .before .before .before .before .before .h .given .0 .1 .1 .1 .1 .1 .1 .0) (c .before .before .before .before .before .before .before .before .before .before .before .before .before .before .before .read-study .ensures) (c .before .before .before .before .before .before .before .h .given .1) (omega (arith, c .before .before .before .before .before .before .before .before .before .before .before .before .before .before .before .before .before .before .before .before .before .before .before .before .before .before .before .triples .ensures, c .before .before .before .before .before .before .before .before .before .before .before .before .before .before .before .read-study .kept .1 .0)) (omega (arith, c .before .before .before .before .before .before .before .before .before .before .before .before .before .before .before .before .before .before .before .before .before .before .before .before .before .before .numbers .ensures, c .before .before .before .before .before .before .before .before .before .before .before .before .before .before .before .read-study .kept .1 .1 .0)) (omega (arith, c .before .before .before .before .before .before .before .before .before .before .before .before .before .before .before .before .before .before .before .before .before .before .before .before .before .patterns .ensures, c .before .before .before .before .before .before .before .before .before .before .before .before .before .before .before .read-study .kept .1 .1 .1 .0)) (omega (arith, c .before .before .before .before .before .before .before .before .before .before .before .before .before .before .before .before .before .before .before .before .before .before .before .before .patterns2 .ensures, c .before .before .before .before .before .before .before .before .before .before .before .before .before .before .before .read-study .kept .1 .1 .1 .1 .0)) (omega (arith, c .before .before .before .before .before .before .before .before .before .before .before .before .before .before .before .before .before .before .before .before .before .before .before .patterns3 .ensures, c .before .before .before .before .before .before .before .before .before .before .before .before .before .before .before .read-study .kept .1 .1 .1 .1 .1 .0)) (omega (arith, c .before .before .before .before .before .before .before .before .before .before .before .before .before .before .before .before .before .before .before .before .before .before .triples2 .ensures, c .before .before .before .before .before .before .before .before .before .before .before .before .before .before .before .read-study .kept .1 .1 .1 .1 .1 .1 .0)) in sym (length-take-le (c .before .before .before .before .before .before .before .h .given .0 .1 .1 .1 .1 .1 .0) (c .before .before .before .before .before .before .before .before .before .before .before .before .before .before .before .read-study .last .1 .1 .1 .1 .1 .0) (w .points))
+
+array-share-prefix-triplets : tie.Need-array-share-prefix-triplets
+array-share-prefix-triplets c =
+    let s : _ = c .before .before .before .before .before .before .before .before .before .before .before .before .before .before .before .before .before .before .before .before .before .before .before .before .before .before .before .before .before in let w : _ = within (s .args .text .now) (c .before .before .before .before .before .before .before .before .before .before .before .before .before .before .before .read-study .result) (c .before .before .before .before .before .before .before .before .before .before .before .before .before .before .before .read-study .last .1 .0) (c .before .before .before .before .before .before .before .before .before .before .before .before .before .before .before .read-study .last .1 .1 .0) (c .before .before .before .before .before .before .before .before .before .before .before .before .before .before .before .read-study .last .1 .1 .1 .0) (c .before .before .before .before .before .before .before .before .before .before .before .before .before .before .before .read-study .last .1 .1 .1 .1 .0) (c .before .before .before .before .before .before .before .before .before .before .before .before .before .before .before .read-study .last .1 .1 .1 .1 .1 .0) (c .before .before .before .before .before .before .before .before .before .before .before .before .before .before .before .read-study .last .1 .1 .1 .1 .1 .1 .0) (c .before .before .before .before .before .before .before .h .given .0 .0) (c .before .before .before .before .before .before .before .h .given .0 .1 .0) (c .before .before .before .before .before .before .before .h .given .0 .1 .1 .0) (c .before .before .before .before .before .before .before .h .given .0 .1 .1 .1 .0) (c .before .before .before .before .before .before .before .h .given .0 .1 .1 .1 .1 .0) (c .before .before .before .before .before .before .before .h .given .0 .1 .1 .1 .1 .1 .0) (c .before .before .before .before .before .before .before .h .given .0 .1 .1 .1 .1 .1 .1 .0) (c .before .before .before .before .before .before .before .before .before .before .before .before .before .before .before .read-study .ensures) (c .before .before .before .before .before .before .before .h .given .1) (omega (arith, c .before .before .before .before .before .before .before .before .before .before .before .before .before .before .before .before .before .before .before .before .before .before .before .before .before .before .before .triples .ensures, c .before .before .before .before .before .before .before .before .before .before .before .before .before .before .before .read-study .kept .1 .0)) (omega (arith, c .before .before .before .before .before .before .before .before .before .before .before .before .before .before .before .before .before .before .before .before .before .before .before .before .before .before .numbers .ensures, c .before .before .before .before .before .before .before .before .before .before .before .before .before .before .before .read-study .kept .1 .1 .0)) (omega (arith, c .before .before .before .before .before .before .before .before .before .before .before .before .before .before .before .before .before .before .before .before .before .before .before .before .before .patterns .ensures, c .before .before .before .before .before .before .before .before .before .before .before .before .before .before .before .read-study .kept .1 .1 .1 .0)) (omega (arith, c .before .before .before .before .before .before .before .before .before .before .before .before .before .before .before .before .before .before .before .before .before .before .before .before .patterns2 .ensures, c .before .before .before .before .before .before .before .before .before .before .before .before .before .before .before .read-study .kept .1 .1 .1 .1 .0)) (omega (arith, c .before .before .before .before .before .before .before .before .before .before .before .before .before .before .before .before .before .before .before .before .before .before .before .patterns3 .ensures, c .before .before .before .before .before .before .before .before .before .before .before .before .before .before .before .read-study .kept .1 .1 .1 .1 .1 .0)) (omega (arith, c .before .before .before .before .before .before .before .before .before .before .before .before .before .before .before .before .before .before .before .before .before .before .triples2 .ensures, c .before .before .before .before .before .before .before .before .before .before .before .before .before .before .before .read-study .kept .1 .1 .1 .1 .1 .1 .0)) in w .triplets
+
+slice-aggregate-put-held-6 : tie.Need-slice-aggregate-put-held-6
+slice-aggregate-put-held-6 c =
+    let s : _ = c .before .before .before .before .before .before .before .before .before .before .before .before .before .before .before .before .before .before .before .before .before .before .before .before .before .before .before .before .before .before in let w : _ = within (s .args .text .now) (c .before .before .before .before .before .before .before .before .before .before .before .before .before .before .before .before .read-study .result) (c .before .before .before .before .before .before .before .before .before .before .before .before .before .before .before .before .read-study .last .1 .0) (c .before .before .before .before .before .before .before .before .before .before .before .before .before .before .before .before .read-study .last .1 .1 .0) (c .before .before .before .before .before .before .before .before .before .before .before .before .before .before .before .before .read-study .last .1 .1 .1 .0) (c .before .before .before .before .before .before .before .before .before .before .before .before .before .before .before .before .read-study .last .1 .1 .1 .1 .0) (c .before .before .before .before .before .before .before .before .before .before .before .before .before .before .before .before .read-study .last .1 .1 .1 .1 .1 .0) (c .before .before .before .before .before .before .before .before .before .before .before .before .before .before .before .before .read-study .last .1 .1 .1 .1 .1 .1 .0) (c .before .before .before .before .before .before .before .before .h .given .0 .0) (c .before .before .before .before .before .before .before .before .h .given .0 .1 .0) (c .before .before .before .before .before .before .before .before .h .given .0 .1 .1 .0) (c .before .before .before .before .before .before .before .before .h .given .0 .1 .1 .1 .0) (c .before .before .before .before .before .before .before .before .h .given .0 .1 .1 .1 .1 .0) (c .before .before .before .before .before .before .before .before .h .given .0 .1 .1 .1 .1 .1 .0) (c .before .before .before .before .before .before .before .before .h .given .0 .1 .1 .1 .1 .1 .1 .0) (c .before .before .before .before .before .before .before .before .before .before .before .before .before .before .before .before .read-study .ensures) (c .before .before .before .before .before .before .before .before .h .given .1) (omega (arith, c .before .before .before .before .before .before .before .before .before .before .before .before .before .before .before .before .before .before .before .before .before .before .before .before .before .before .before .before .triples .ensures, c .before .before .before .before .before .before .before .before .before .before .before .before .before .before .before .before .read-study .kept .1 .0)) (omega (arith, c .before .before .before .before .before .before .before .before .before .before .before .before .before .before .before .before .before .before .before .before .before .before .before .before .before .before .before .numbers .ensures, c .before .before .before .before .before .before .before .before .before .before .before .before .before .before .before .before .read-study .kept .1 .1 .0)) (omega (arith, c .before .before .before .before .before .before .before .before .before .before .before .before .before .before .before .before .before .before .before .before .before .before .before .before .before .before .patterns .ensures, c .before .before .before .before .before .before .before .before .before .before .before .before .before .before .before .before .read-study .kept .1 .1 .1 .0)) (omega (arith, c .before .before .before .before .before .before .before .before .before .before .before .before .before .before .before .before .before .before .before .before .before .before .before .before .before .patterns2 .ensures, c .before .before .before .before .before .before .before .before .before .before .before .before .before .before .before .before .read-study .kept .1 .1 .1 .1 .0)) (omega (arith, c .before .before .before .before .before .before .before .before .before .before .before .before .before .before .before .before .before .before .before .before .before .before .before .before .patterns3 .ensures, c .before .before .before .before .before .before .before .before .before .before .before .before .before .before .before .before .read-study .kept .1 .1 .1 .1 .1 .0)) (omega (arith, c .before .before .before .before .before .before .before .before .before .before .before .before .before .before .before .before .before .before .before .before .before .before .before .triples2 .ensures, c .before .before .before .before .before .before .before .before .before .before .before .before .before .before .before .before .read-study .kept .1 .1 .1 .1 .1 .1 .0)) in sym (length-take-le (c .before .before .before .before .before .before .before .before .h .given .0 .1 .1 .1 .1 .1 .1 .0) (c .before .before .before .before .before .before .before .before .before .before .before .before .before .before .before .before .read-study .last .1 .1 .1 .1 .1 .1 .0) (w .triplets))
+
+put-held-requires : tie.Need-put-held-requires
+put-held-requires c κs =
+    let s : _ = c .before .before .before .before .before .before .before .before .before .before .before .before .before .before .before .before .before .before .before .before .before .before .before .before .before .before .before .before .before .before in held-ready (s .args .text .now) (c .before .before .before .before .before .before .before .before .before .before .before .before .before .before .before .before .read-study .result) (c .before .before .before .before .before .before .before .before .before .before .before .before .before .before .before .before .read-study .last .1 .0) (c .before .before .before .before .before .before .before .before .before .before .before .before .before .before .before .before .read-study .last .1 .1 .0) (c .before .before .before .before .before .before .before .before .before .before .before .before .before .before .before .before .read-study .last .1 .1 .1 .0) (c .before .before .before .before .before .before .before .before .before .before .before .before .before .before .before .before .read-study .last .1 .1 .1 .1 .0) (c .before .before .before .before .before .before .before .before .before .before .before .before .before .before .before .before .read-study .last .1 .1 .1 .1 .1 .0) (c .before .before .before .before .before .before .before .before .before .before .before .before .before .before .before .before .read-study .last .1 .1 .1 .1 .1 .1 .0) (c .before .before .before .before .before .before .before .before .h .given .0 .0) (c .before .before .before .before .before .before .before .before .h .given .0 .1 .0) (c .before .before .before .before .before .before .before .before .h .given .0 .1 .1 .0) (c .before .before .before .before .before .before .before .before .h .given .0 .1 .1 .1 .0) (c .before .before .before .before .before .before .before .before .h .given .0 .1 .1 .1 .1 .0) (c .before .before .before .before .before .before .before .before .h .given .0 .1 .1 .1 .1 .1 .0) (c .before .before .before .before .before .before .before .before .h .given .0 .1 .1 .1 .1 .1 .1 .0) (c .before .before .before .before .before .before .before .before .before .before .before .before .before .before .before .before .read-study .ensures) (c .before .before .before .before .before .before .before .before .h .given .1)
+
+returns-2 : tie.Need-returns-2
+returns-2 c =
+    let s : _ = c .before .before .before .before .before .before .before .before .before .before .before .before .before .before .before .before .before .before .before .before .before .before .before .before .before .before .before .before .before .before .before in let p : _ = c .put-held in answered-so _ _ _ _ _ (p .ensures .0) (p .ensures .1) (held-answer (s .args .text .now) (c .before .before .before .before .before .before .before .before .before .before .before .before .before .before .before .before .before .read-study .result) (c .before .before .before .before .before .before .before .before .before .before .before .before .before .before .before .before .before .read-study .last .1 .0) (c .before .before .before .before .before .before .before .before .before .before .before .before .before .before .before .before .before .read-study .last .1 .1 .0) (c .before .before .before .before .before .before .before .before .before .before .before .before .before .before .before .before .before .read-study .last .1 .1 .1 .0) (c .before .before .before .before .before .before .before .before .before .before .before .before .before .before .before .before .before .read-study .last .1 .1 .1 .1 .0) (c .before .before .before .before .before .before .before .before .before .before .before .before .before .before .before .before .before .read-study .last .1 .1 .1 .1 .1 .0) (c .before .before .before .before .before .before .before .before .before .before .before .before .before .before .before .before .before .read-study .last .1 .1 .1 .1 .1 .1 .0) (c .before .before .before .before .before .before .before .before .before .h .given .0 .0) (c .before .before .before .before .before .before .before .before .before .h .given .0 .1 .0) (c .before .before .before .before .before .before .before .before .before .h .given .0 .1 .1 .0) (c .before .before .before .before .before .before .before .before .before .h .given .0 .1 .1 .1 .0) (c .before .before .before .before .before .before .before .before .before .h .given .0 .1 .1 .1 .1 .0) (c .before .before .before .before .before .before .before .before .before .h .given .0 .1 .1 .1 .1 .1 .0) (c .before .before .before .before .before .before .before .before .before .h .given .0 .1 .1 .1 .1 .1 .1 .0) (c .before .before .before .before .before .before .before .before .before .before .before .before .before .before .before .before .before .read-study .ensures) (c .before .before .before .before .before .before .before .before .before .h .given .1))
+
+pub answer-spec : {M : Type 1} → statement M
+answer-spec =
+    tie.close
+    (tie.spec
+    triples-requires
+    numbers-requires
+    patterns-requires
+    patterns-requires-2
+    patterns-requires-3
+    triples-requires-2
+    slice-aggregate-read-study
+    slice-aggregate-read-study-2
+    slice-aggregate-read-study-3
+    slice-aggregate-read-study-4
+    slice-aggregate-read-study-5
+    slice-aggregate-read-study-6
+    read-study-requires
+    enum-known-h
+    enum-told
+    put-refusal-requires
+    returns
+    array-share-prefix-addresses
+    slice-aggregate-put-held
+    array-share-prefix-map
+    slice-aggregate-put-held-2
+    array-share-prefix-f1
+    slice-aggregate-put-held-3
+    array-share-prefix-f2
+    slice-aggregate-put-held-4
+    array-share-prefix-points
+    slice-aggregate-put-held-5
+    array-share-prefix-triplets
+    slice-aggregate-put-held-6
+    put-held-requires
+    returns-2)

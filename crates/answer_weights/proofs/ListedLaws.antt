@@ -1,0 +1,49 @@
+-- All weights and flags of a study that is ready, as the listing takes them. Assumes nothing.
+use mathlib.Core.Path.{_≡_, refl, sym, ap, _∙_}
+use mathlib.Core.List.{List}
+use Prim.Native.Nat.{ℕ, _+_, _*_, _≤_, _<_}
+use native.Mathlib.Nat.{mul-le-mul}
+use native.Mathlib.Omega.{arith}
+use lib.Ieee.{Float}
+use lib.IntN.{ℤ}
+use lib.ListN.{length}
+use Rattle.list_laws.proofs.FillLaws.{length-tabulate}
+use Rattle.triplet_piece.specs.declared.Sizes.{Sizes}
+use Rattle.triplet_piece.specs.Study.{Study, sizesOf, weightAt, flagAt, Ready}
+use Rattle.triplet_iw.specs.Whole.{allWeights, allFlags}
+use Rattle.listing.specs.Listings.{listingOf}
+use Rattle.writing.specs.Written.{written}
+use Rattle.answer_weights.specs.Answers.{listingFor}
+
+weights-length : (s : Study) → length (allWeights s) ≡ sizesOf s .channels * sizesOf s .cells
+unfolding allWeights
+weights-length s = length-tabulate (sizesOf s .channels * sizesOf s .cells) (weightAt s)
+
+flags-length : (s : Study) → length (allFlags s) ≡ sizesOf s .cells
+unfolding allFlags
+flags-length s = length-tabulate (sizesOf s .cells) (flagAt s)
+
+module _ {s : Study} {z : Sizes} {w f : ℕ} (r : Ready s z w f) (weights : List Float) (flags : List ℤ) (e : weights ≡ allWeights s) (g : flags ≡ allFlags s) where
+  pub listed : listingOf (z .points) (z .bands1) (z .bands2) (z .channels) weights flags ≡ listingFor s
+  unfolding listingFor
+  listed = rw (e, g, r .counts)
+
+  pub listable : (0 < z .points) × (0 < z .bands1) × (0 < z .bands2) × (length weights ≡ z .channels * length flags)
+  unfolding sizesOf
+  listable = rw (e, g, r .counts) (r .points-low, r .bands1-low, r .bands2-low, weights-length s ∙ ap (λ (n : ℕ). sizesOf s .channels * n) (sym (flags-length s)))
+
+pub pairs-fit : (b1 b2 : ℕ) → b1 ≤ 64 → b2 ≤ 64 → b1 * b2 ≤ 4096
+pairs-fit b1 b2 h k = mul-le-mul h k
+
+pub rows-fit : (t p : ℕ) → t ≤ 65536 → p ≤ 1024 → t * p ≤ 67108864
+rows-fit t p h k = mul-le-mul h k
+
+pub cells-fit : (n b : ℕ) → n ≤ 67108864 → b ≤ 4096 → n * b ≤ 274877906944
+cells-fit n b h k = mul-le-mul h k
+
+-- bytes written at the start, under another name
+pub wrote-as : (r : ℕ) (l m old new : List ℕ) → r ≡ 0 + length l → new ≡ written 0 l old → l ≡ m → (r ≡ length m) × (new ≡ written 0 m old)
+wrote-as r l m old new p q e = (omega (arith, p, ap length e), q ∙ ap (λ (x : List ℕ). written 0 x old) e)
+
+pub wrote-so : (r : ℕ) (l m old new : List ℕ) → r ≡ length l → new ≡ written 0 l old → l ≡ m → (r ≡ length m) × (new ≡ written 0 m old)
+wrote-so r l m old new p q e = (p ∙ ap length e, q ∙ ap (λ (x : List ℕ). written 0 x old) e)

@@ -1,0 +1,21 @@
+-- The bytes that answer a study.
+use mathlib.Core.List.{List}
+use Prim.Native.Nat.{ℕ, zero, suc}
+use Rattle.questions.specs.Ask.{firstNo}
+use Rattle.triplet_piece.specs.Study.{Study, sizesOf}
+use Rattle.triplet_iw.specs.Whole.{allWeights, allFlags}
+use Rattle.listing.specs.Listings.{listingOf, refusalOf}
+use Rattle.answer_weights.specs.Asked.{Asked, questionsOf, weighed}
+
+-- the listing of all weights of a study
+unfoldable pub listingFor : Study → List ℕ
+listingFor s = listingOf (sizesOf s .points) (sizesOf s .bands1) (sizesOf s .bands2) (sizesOf s .channels) (allWeights s) (allFlags s)
+
+-- "A refusal prints one line alone", by the number of the first no; 0 is the listing
+abbrev pub answerBy : ℕ → List ℕ → List ℕ
+answerBy zero listing = listing
+answerBy (suc n) listing = refusalOf (suc n)
+
+-- the answer to a well formed text
+unfoldable pub answerTo : Asked → List ℕ
+answerTo a = answerBy (firstNo (questionsOf a)) (listingFor (weighed a))

@@ -1,0 +1,2 @@
+// A tested study's weights, computed and listed.
+pub mod kernel;

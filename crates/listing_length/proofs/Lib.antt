@@ -1,0 +1,4 @@
+pub mod TotalLaws
+pub mod DigitLaws
+pub mod LongestLaws
+pub mod ListingLengthLaws

@@ -1,0 +1,1 @@
+// How long a listing can be: laws alone.
