@@ -1,0 +1,4 @@
+-- The laws.
+pub mod CallLaws
+pub mod PlayLaws
+pub mod ReplayLaws

@@ -1,0 +1,126 @@
+-- The first calls of a list: the sheet after them, their answers and tallies, one call more; and that after all of them they are the
+-- book's, by demand 3. Assumes nothing.
+use mathlib.Core.Path.{_≡_, refl, sym, ap, _∙_}
+use mathlib.Core.List.{List, [], _∷_, _++_, map, map-append}
+use Prim.Native.Nat.{ℕ, zero, suc, _+_, _*_, _/_}
+use native.Mathlib.Numerals.{add-one}
+use native.Mathlib.Omega.{arith}
+use lib.Ieee.{Float}
+use lib.IntN.{ℤ}
+use lib.ListN.{length, replicate}
+use Rattle.list_laws.specs.Lists.{tabulate, fronted}
+use Rattle.list_laws.proofs.FillLaws.{tabulate-ext, front-all}
+use Rattle.questions.specs.Ask.{afterCall}
+use Rattle.triplet_study.specs.Given.{Given}
+use Rattle.sheet_step.specs.declared.SheetAnswer.{SheetAnswer}
+use Rattle.sheet_step.specs.Steps.{Sheet, sheet, Call, verdict, effect, step, stepAnswer, sheetAnswer}
+use Rattle.book_claim.specs.Book.{Book, opened, render, turn, booked}
+use Rattle.book_claim.specs.Lists.{played, answers}
+use Rattle.book_claim.proofs.RunLaws.{sheet-same}
+use Rattle.book_claim.proofs.CutLaws.{played-cut, answers-cut, booked-cut}
+use Rattle.book_claim.proofs.Demand3.{demand-3}
+use Rattle.book.specs.Calls.{callAt, callsOf}
+use Rattle.book.specs.Replay.{answerNumber, runsAfter, bookSheet, bookNumbers, bookTallies, talliesFrom}
+
+-- ---- the tally that an answer carries
+
+runs-answer : (n : ℕ) (new old : Sheet) → runsAfter (sheetAnswer n (afterCall n new old .tally)) (old .tally) ≡ afterCall n new old .tally
+runs-answer zero new old = refl
+runs-answer (suc n) new old = refl
+
+runs-step : (g : Given) (s : Sheet) (c : Call) → runsAfter (stepAnswer g s c) (s .tally) ≡ step g s c .tally
+unfolding step
+runs-step g s c = runs-answer (verdict g s c) (effect g s c) s
+
+-- ---- the first calls
+
+module _ (g : Given) (start : Sheet) (call : ℕ → Call) where
+  -- the sheet after the first i of them
+  abbrev pub after : ℕ → Sheet
+  after i = played g start (tabulate i call)
+
+  -- the number of call i's answer, and the tally after it
+  abbrev pub numberAfter : ℕ → ℕ
+  numberAfter i = answerNumber (stepAnswer g (after i) (call i))
+
+  abbrev pub tallyAfter : ℕ → ℕ
+  tallyAfter i = after (suc i) .tally
+
+  pub after-none : start ≡ after 0
+  unfolding tabulate
+  after-none = refl
+
+  after-next : (i : ℕ) → step g (after i) (call i) ≡ after (suc i)
+  unfolding tabulate
+  after-next i = sym (played-cut g start (tabulate i call) (call i ∷ []))
+
+  -- one call more, as its contract tells what it leaves
+  module _ (i : ℕ) (s : Sheet) (r : SheetAnswer) (e : s ≡ after i) (a : r ≡ stepAnswer g s (call i)) where
+    pub sheet-next : {w : List Float} {f : List ℤ} {m : List ℕ} → w ≡ step g s (call i) .weights → f ≡ step g s (call i) .flags → m ≡ step g s (call i) .marks
+        → sheet w f m (runsAfter r (s .tally)) ≡ after (i + 1)
+    sheet-next ew ef em =
+        sheet-same ew ef em (ap (λ (x : SheetAnswer). runsAfter x (s .tally)) a ∙ runs-step g s (call i))
+        ∙ ap (λ (x : Sheet). step g x (call i)) e
+        ∙ after-next i
+        ∙ ap after (sym (add-one i))
+
+    pub number-next : answerNumber r ≡ numberAfter i
+    number-next = ap answerNumber a ∙ ap (λ (x : Sheet). answerNumber (stepAnswer g x (call i))) e
+
+    pub tally-next : runsAfter r (s .tally) ≡ tallyAfter i
+    tally-next =
+        ap (λ (x : SheetAnswer). runsAfter x (s .tally)) a
+        ∙ runs-step g s (call i)
+        ∙ ap (λ (x : Sheet). step g x (call i) .tally) e
+        ∙ ap (λ (x : Sheet). x .tally) (after-next i)
+
+  -- ---- all of them
+
+  all-numbers : (n : ℕ) → tabulate n numberAfter ≡ map answerNumber (answers g start (tabulate n call))
+  unfolding tabulate
+  all-numbers zero = refl
+  all-numbers (suc n) =
+      ap (λ (l : List ℕ). l ++ (numberAfter n ∷ [])) (all-numbers n)
+      ∙ sym (map-append answerNumber (answers g start (tabulate n call)) (stepAnswer g (after n) (call n) ∷ []))
+      ∙ ap (map answerNumber) (sym (answers-cut g start (tabulate n call) (call n ∷ [])))
+
+  tallies-cut : (b : Book) (first rest : List Call) → talliesFrom g start b (first ++ rest) ≡ talliesFrom g start b first ++ talliesFrom g start (booked g start b first) rest
+  tallies-cut b [] rest = refl
+  tallies-cut b (c ∷ first) rest = ap (λ (l : List ℕ). turn g start b c .tally ∷ l) (tallies-cut (turn g start b c) first rest)
+
+  all-tallies : (b : Book) (n : ℕ) → tabulate n (λ i. booked g start b (tabulate (suc i) call) .tally) ≡ talliesFrom g start b (tabulate n call)
+  unfolding tabulate
+  all-tallies b zero = refl
+  all-tallies b (suc n) =
+      ap (λ (l : List ℕ). l ++ (booked g start b (tabulate n call ++ (call n ∷ [])) .tally ∷ [])) (all-tallies b n)
+      ∙ ap (λ (x : Book). talliesFrom g start b (tabulate n call) ++ (x .tally ∷ [])) (booked-cut g start b (tabulate n call) (call n ∷ []))
+      ∙ sym (tallies-cut b (tabulate n call) (call n ∷ []))
+
+  module _ (o : start .marks ≡ replicate (length (start .marks)) 0) where
+    tally-book : (calls : List Call) → played g start calls .tally ≡ booked g start (opened start) calls .tally
+    unfolding render
+    tally-book calls = ap (λ (x : Sheet). x .tally) (demand-3 g start o calls .0)
+
+    numbers-book : (n : ℕ) → tabulate n numberAfter ≡ bookNumbers g start (tabulate n call)
+    numbers-book n = all-numbers n ∙ ap (map answerNumber) (demand-3 g start o (tabulate n call) .1)
+
+    tallies-book : (n : ℕ) → tabulate n tallyAfter ≡ bookTallies g start (tabulate n call)
+    tallies-book n = tabulate-ext n tallyAfter _ (λ i _. tally-book (tabulate (suc i) call)) ∙ all-tallies (opened start) n
+
+-- ---- the end of the list
+
+module _ (g : Given) (start : Sheet) (list ids : List ℤ) (n : ℕ) (o : start .marks ≡ replicate (length (start .marks)) 0) (h : length list ≡ n * 6) where
+  calls-are : tabulate n (callAt list ids) ≡ callsOf list ids
+  unfolding callsOf
+  calls-are = ap (λ (k : ℕ). tabulate k (callAt list ids)) (omega (arith, h))
+
+  pub sheet-end : {s : Sheet} → s ≡ after g start (callAt list ids) n → s ≡ bookSheet g start (callsOf list ids)
+  sheet-end e = e ∙ demand-3 g start o (tabulate n (callAt list ids)) .0 ∙ ap (bookSheet g start) calls-are
+
+  pub numbers-end : (l : List ℕ) {a : List ℕ} → length l ≡ n → a ≡ fronted n (numberAfter g start (callAt list ids)) l → a ≡ bookNumbers g start (callsOf list ids)
+  numbers-end l q e =
+      e ∙ front-all (numberAfter g start (callAt list ids)) l n q ∙ numbers-book g start (callAt list ids) o n ∙ ap (bookNumbers g start) calls-are
+
+  pub tallies-end : (l : List ℕ) {a : List ℕ} → length l ≡ n → a ≡ fronted n (tallyAfter g start (callAt list ids)) l → a ≡ bookTallies g start (callsOf list ids)
+  tallies-end l q e =
+      e ∙ front-all (tallyAfter g start (callAt list ids)) l n q ∙ tallies-book g start (callAt list ids) o n ∙ ap (bookTallies g start) calls-are

@@ -1,0 +1,72 @@
+-- `book::calls::ids_from` meets its contract. Assumes nothing.
+use borrow.Author.Needs.{needs}
+use lib.Signed.{mag}
+use mathlib.Core.Bool.{true}
+use mathlib.Core.Path.{_∙_, _≡_, ap, sym}
+use mir.Syntax.{w64}
+use mir.ValLaws.{toZ-ofZ}
+use native.Mathlib.Omega.{arith}
+use Rattle.book.proofs.CallLaws.{ids-none, ids-part, part-within}
+use Rattle.book.specs.Calls.{isPart}
+use Rattle.list_laws.specs.Lists.{at}
+use Rattle.book.proofs.calls.ids_from.Statement.{statement}
+use Rattle.book.proofs.calls.ids_from.Tie as tie
+
+part-ok-requires : tie.Need-part-ok-requires
+part-ok-requires c κs = search needs
+
+magnitude-requires : tie.Need-magnitude-requires
+magnitude-requires c κs = search needs
+
+magnitude-requires-2 : tie.Need-magnitude-requires-2
+magnitude-requires-2 c κs = search needs
+
+mul-result : tie.Need-mul-result
+mul-result c =
+    let h : isPart (c .before .before .before .before .args .ids .now) (c .before .before .before .before .args .start) (c .before .before .before .before .args .end) ≡ true = rw (toZ-ofZ w64 (c .before .before .before .before .args .start) (c .before .before .before .before .fits .start), toZ-ofZ w64 (c .before .before .before .before .args .end) (c .before .before .before .before .fits .end)) at (sym (c .before .before .before .part-ok .ensures) ∙ c .before .before .if1 .taken) in let w : _ = part-within (c .before .before .before .before .args .ids .now) (c .before .before .before .before .args .start) (c .before .before .before .before .args .end) h in let ms : c .before .magnitude .result ≡ mag (c .before .before .before .before .args .start) = c .before .magnitude .ensures ∙ ap mag (toZ-ofZ w64 (c .before .before .before .before .args .start) (c .before .before .before .before .fits .start)) in let me : c .magnitude2 .result ≡ mag (c .before .before .before .before .args .end) = c .magnitude2 .ensures ∙ ap mag (toZ-ofZ w64 (c .before .before .before .before .args .end) (c .before .before .before .before .fits .end)) in omega (arith, w .0, w .1, ms, me, c .before .before .before .before .good)
+
+sub-result : tie.Need-sub-result
+sub-result c =
+    let h : isPart (c .before .before .before .before .args .ids .now) (c .before .before .before .before .args .start) (c .before .before .before .before .args .end) ≡ true = rw (toZ-ofZ w64 (c .before .before .before .before .args .start) (c .before .before .before .before .fits .start), toZ-ofZ w64 (c .before .before .before .before .args .end) (c .before .before .before .before .fits .end)) at (sym (c .before .before .before .part-ok .ensures) ∙ c .before .before .if1 .taken) in let w : _ = part-within (c .before .before .before .before .args .ids .now) (c .before .before .before .before .args .start) (c .before .before .before .before .args .end) h in let ms : c .before .magnitude .result ≡ mag (c .before .before .before .before .args .start) = c .before .magnitude .ensures ∙ ap mag (toZ-ofZ w64 (c .before .before .before .before .args .start) (c .before .before .before .before .fits .start)) in let me : c .magnitude2 .result ≡ mag (c .before .before .before .before .args .end) = c .magnitude2 .ensures ∙ ap mag (toZ-ofZ w64 (c .before .before .before .before .args .end) (c .before .before .before .before .fits .end)) in omega (arith, w .0, w .1, ms, me)
+
+part-result-start : tie.Need-part-result-start
+part-result-start c =
+    let h : isPart (c .before .before .before .before .args .ids .now) (c .before .before .before .before .args .start) (c .before .before .before .before .args .end) ≡ true = rw (toZ-ofZ w64 (c .before .before .before .before .args .start) (c .before .before .before .before .fits .start), toZ-ofZ w64 (c .before .before .before .before .args .end) (c .before .before .before .before .fits .end)) at (sym (c .before .before .before .part-ok .ensures) ∙ c .before .before .if1 .taken) in let w : _ = part-within (c .before .before .before .before .args .ids .now) (c .before .before .before .before .args .start) (c .before .before .before .before .args .end) h in let ms : c .before .magnitude .result ≡ mag (c .before .before .before .before .args .start) = c .before .magnitude .ensures ∙ ap mag (toZ-ofZ w64 (c .before .before .before .before .args .start) (c .before .before .before .before .fits .start)) in let me : c .magnitude2 .result ≡ mag (c .before .before .before .before .args .end) = c .magnitude2 .ensures ∙ ap mag (toZ-ofZ w64 (c .before .before .before .before .args .end) (c .before .before .before .before .fits .end)) in omega (arith, w .0, w .1, ms, me)
+
+part-result-end : tie.Need-part-result-end
+part-result-end c =
+    let h : isPart (c .before .before .before .before .args .ids .now) (c .before .before .before .before .args .start) (c .before .before .before .before .args .end) ≡ true = rw (toZ-ofZ w64 (c .before .before .before .before .args .start) (c .before .before .before .before .fits .start), toZ-ofZ w64 (c .before .before .before .before .args .end) (c .before .before .before .before .fits .end)) at (sym (c .before .before .before .part-ok .ensures) ∙ c .before .before .if1 .taken) in let w : _ = part-within (c .before .before .before .before .args .ids .now) (c .before .before .before .before .args .start) (c .before .before .before .before .args .end) h in let ms : c .before .magnitude .result ≡ mag (c .before .before .before .before .args .start) = c .before .magnitude .ensures ∙ ap mag (toZ-ofZ w64 (c .before .before .before .before .args .start) (c .before .before .before .before .fits .start)) in let me : c .magnitude2 .result ≡ mag (c .before .before .before .before .args .end) = c .magnitude2 .ensures ∙ ap mag (toZ-ofZ w64 (c .before .before .before .before .args .end) (c .before .before .before .before .fits .end)) in omega (arith, w .0, w .1, ms, me)
+
+returns : tie.Need-returns
+returns c =
+    let h : isPart (c .before .before .before .before .before .args .ids .now) (c .before .before .before .before .before .args .start) (c .before .before .before .before .before .args .end) ≡ true = rw (toZ-ofZ w64 (c .before .before .before .before .before .args .start) (c .before .before .before .before .before .fits .start), toZ-ofZ w64 (c .before .before .before .before .before .args .end) (c .before .before .before .before .before .fits .end)) at (sym (c .before .before .before .before .part-ok .ensures) ∙ c .before .before .before .if1 .taken) in let w : _ = part-within (c .before .before .before .before .before .args .ids .now) (c .before .before .before .before .before .args .start) (c .before .before .before .before .before .args .end) h in let ms : c .before .before .magnitude .result ≡ mag (c .before .before .before .before .before .args .start) = c .before .before .magnitude .ensures ∙ ap mag (toZ-ofZ w64 (c .before .before .before .before .before .args .start) (c .before .before .before .before .before .fits .start)) in let me : c .before .magnitude2 .result ≡ mag (c .before .before .before .before .before .args .end) = c .before .magnitude2 .ensures ∙ ap mag (toZ-ofZ w64 (c .before .before .before .before .before .args .end) (c .before .before .before .before .before .fits .end)) in rw (ms, me) (ids-part (c .before .before .before .before .before .args .ids .now) (c .before .before .before .before .before .args .start) (c .before .before .before .before .before .args .end) h)
+
+sub-result-2 : tie.Need-sub-result-2
+sub-result-2 c = search needs
+
+part-result-start-2 : tie.Need-part-result-start-2
+part-result-start-2 c = search needs
+
+part-result-end-2 : tie.Need-part-result-end-2
+part-result-end-2 c = search needs
+
+returns-2 : tie.Need-returns-2
+returns-2 c =
+    ids-none (c .before .before .before .args .ids .now) (c .before .before .before .args .start) (c .before .before .before .args .end) (rw (toZ-ofZ w64 (c .before .before .before .args .start) (c .before .before .before .fits .start), toZ-ofZ w64 (c .before .before .before .args .end) (c .before .before .before .fits .end)) at (sym (c .before .before .part-ok .ensures) ∙ c .before .if1 .left))
+
+pub ids-from-spec : {M : Type 1} → statement M
+ids-from-spec =
+    tie.close
+    (tie.spec
+    part-ok-requires
+    magnitude-requires
+    magnitude-requires-2
+    mul-result
+    sub-result
+    part-result-start
+    part-result-end
+    returns
+    sub-result-2
+    part-result-start-2
+    part-result-end-2
+    returns-2)

@@ -1,0 +1,119 @@
+-- `book::calls::one_call` meets its contract. Assumes nothing.
+use borrow.Author.Needs.{needs}
+use mathlib.Core.Bool.{false, true}
+use mathlib.Core.Path.{_∙_, _≡_, sym}
+use Rattle.book.proofs.CallLaws.{call-average, call-carry, call-run}
+use Rattle.book.specs.Calls.{idsFrom, numberAt}
+use Rattle.list_laws.proofs.SignedLaws.{back}
+use Rattle.list_laws.specs.Lists.{at}
+use Rattle.list_laws.specs.Signed.{isNat}
+use Rattle.book.proofs.calls.one_call.Statement.{statement}
+use Rattle.book.proofs.calls.one_call.Tie as tie
+
+number-requires : tie.Need-number-requires
+number-requires c κs = search needs
+
+number-requires-2 : tie.Need-number-requires-2
+number-requires-2 c κs = search needs
+
+number-requires-3 : tie.Need-number-requires-3
+number-requires-3 c κs = search needs
+
+number-requires-4 : tie.Need-number-requires-4
+number-requires-4 c κs = search needs
+
+is-nat-requires : tie.Need-is-nat-requires
+is-nat-requires c κs = search needs
+
+run-piece-requires : tie.Need-run-piece-requires
+run-piece-requires c κs = search needs
+
+same-length : tie.Need-same-length
+same-length c = search needs
+
+same-length-2 : tie.Need-same-length-2
+same-length-2 c = search needs
+
+same-length-3 : tie.Need-same-length-3
+same-length-3 c = search needs
+
+returns : tie.Need-returns
+returns c =
+    let h0 : isNat (numberAt (c .before .before .before .before .before .before .before .before .before .before .before .before .before .before .before .before .before .before .before .before .args .list .now) (c .before .before .before .before .before .before .before .before .before .before .before .before .before .before .before .before .before .before .before .before .args .i) 0) 0 ≡ true = rw (back (c .before .before .before .before .before .before .before .before .before .before .before .before .before .before .number .result) (c .before .before .before .before .before .before .before .before .before .before .before .before .before .before .number .ok), c .before .before .before .before .before .before .before .before .before .before .before .before .before .before .number .ensures) at (sym (c .before .before .before .before .before .before .before .before .before .before .is-nat .ensures) ∙ c .before .before .before .before .before .before .before .before .before .if1 .taken) in rw (call-run (c .before .before .before .before .before .before .before .before .before .before .before .before .before .before .before .before .before .before .before .before .args .list .now) (c .before .before .before .before .before .before .before .before .before .before .before .before .before .before .before .before .before .before .before .before .args .ids .now) (c .before .before .before .before .before .before .before .before .before .before .before .before .before .before .before .before .before .before .before .before .args .i) h0) (rw (back (c .before .before .before .before .before .before .before .before .before .before .before .before .before .number2 .result) (c .before .before .before .before .before .before .before .before .before .before .before .before .before .number2 .ok), back (c .before .before .before .before .before .before .before .before .before .before .before .before .number3 .result) (c .before .before .before .before .before .before .before .before .before .before .before .before .number3 .ok), back (c .before .before .before .before .before .before .before .before .before .before .before .number4 .result) (c .before .before .before .before .before .before .before .before .before .before .before .number4 .ok), c .before .before .before .before .before .before .before .before .before .before .before .before .before .number2 .ensures, c .before .before .before .before .before .before .before .before .before .before .before .before .number3 .ensures, c .before .before .before .before .before .before .before .before .before .before .before .number4 .ensures) at (c .before .before .before .before .before .run-piece .ensures))
+
+is-nat-requires-2 : tie.Need-is-nat-requires-2
+is-nat-requires-2 c κs = search needs
+
+carry-on-requires : tie.Need-carry-on-requires
+carry-on-requires c κs = search needs
+
+same-length-4 : tie.Need-same-length-4
+same-length-4 c = search needs
+
+same-length-5 : tie.Need-same-length-5
+same-length-5 c = search needs
+
+same-length-6 : tie.Need-same-length-6
+same-length-6 c = search needs
+
+returns-2 : tie.Need-returns-2
+returns-2 c =
+    let h0 : isNat (numberAt (c .before .before .before .before .before .before .before .before .before .before .before .before .before .before .before .before .before .before .before .before .before .before .args .list .now) (c .before .before .before .before .before .before .before .before .before .before .before .before .before .before .before .before .before .before .before .before .before .before .args .i) 0) 0 ≡ false = rw (back (c .before .before .before .before .before .before .before .before .before .before .before .before .before .before .before .before .number .result) (c .before .before .before .before .before .before .before .before .before .before .before .before .before .before .before .before .number .ok), c .before .before .before .before .before .before .before .before .before .before .before .before .before .before .before .before .number .ensures) at (sym (c .before .before .before .before .before .before .before .before .before .before .before .before .is-nat .ensures) ∙ c .before .before .before .before .before .before .before .before .before .before .before .if1 .left) in let h1 : isNat (numberAt (c .before .before .before .before .before .before .before .before .before .before .before .before .before .before .before .before .before .before .before .before .before .before .args .list .now) (c .before .before .before .before .before .before .before .before .before .before .before .before .before .before .before .before .before .before .before .before .before .before .args .i) 0) 1 ≡ true = rw (back (c .before .before .before .before .before .before .before .before .before .before .before .before .before .before .before .before .number .result) (c .before .before .before .before .before .before .before .before .before .before .before .before .before .before .before .before .number .ok), c .before .before .before .before .before .before .before .before .before .before .before .before .before .before .before .before .number .ensures) at (sym (c .before .before .before .before .before .before .before .before .before .before .is-nat2 .ensures) ∙ c .before .before .before .before .before .before .before .before .before .if2 .taken) in rw (call-carry (c .before .before .before .before .before .before .before .before .before .before .before .before .before .before .before .before .before .before .before .before .before .before .args .list .now) (c .before .before .before .before .before .before .before .before .before .before .before .before .before .before .before .before .before .before .before .before .before .before .args .ids .now) (c .before .before .before .before .before .before .before .before .before .before .before .before .before .before .before .before .before .before .before .before .before .before .args .i) h0 h1) (c .before .before .before .before .before .carry-on .ensures)
+
+number-requires-5 : tie.Need-number-requires-5
+number-requires-5 c κs = search needs
+
+number-requires-6 : tie.Need-number-requires-6
+number-requires-6 c κs = search needs
+
+ids-from-requires : tie.Need-ids-from-requires
+ids-from-requires c κs = search needs
+
+ids-from-requires-2 : tie.Need-ids-from-requires-2
+ids-from-requires-2 c κs = search needs
+
+average-triplet-requires : tie.Need-average-triplet-requires
+average-triplet-requires c κs = search needs
+
+same-length-7 : tie.Need-same-length-7
+same-length-7 c = search needs
+
+same-length-8 : tie.Need-same-length-8
+same-length-8 c = search needs
+
+same-length-9 : tie.Need-same-length-9
+same-length-9 c = search needs
+
+returns-3 : tie.Need-returns-3
+returns-3 c =
+    let h0 : isNat (numberAt (c .before .before .before .before .before .before .before .before .before .before .before .before .before .before .before .before .before .before .before .before .before .before .before .before .before .before .args .list .now) (c .before .before .before .before .before .before .before .before .before .before .before .before .before .before .before .before .before .before .before .before .before .before .before .before .before .before .args .i) 0) 0 ≡ false = rw (back (c .before .before .before .before .before .before .before .before .before .before .before .before .before .before .before .before .before .before .before .before .number .result) (c .before .before .before .before .before .before .before .before .before .before .before .before .before .before .before .before .before .before .before .before .number .ok), c .before .before .before .before .before .before .before .before .before .before .before .before .before .before .before .before .before .before .before .before .number .ensures) at (sym (c .before .before .before .before .before .before .before .before .before .before .before .before .before .before .before .before .is-nat .ensures) ∙ c .before .before .before .before .before .before .before .before .before .before .before .before .before .before .before .if1 .left) in let h1 : isNat (numberAt (c .before .before .before .before .before .before .before .before .before .before .before .before .before .before .before .before .before .before .before .before .before .before .before .before .before .before .args .list .now) (c .before .before .before .before .before .before .before .before .before .before .before .before .before .before .before .before .before .before .before .before .before .before .before .before .before .before .args .i) 0) 1 ≡ false = rw (back (c .before .before .before .before .before .before .before .before .before .before .before .before .before .before .before .before .before .before .before .before .number .result) (c .before .before .before .before .before .before .before .before .before .before .before .before .before .before .before .before .before .before .before .before .number .ok), c .before .before .before .before .before .before .before .before .before .before .before .before .before .before .before .before .before .before .before .before .number .ensures) at (sym (c .before .before .before .before .before .before .before .before .before .before .before .before .before .before .is-nat2 .ensures) ∙ c .before .before .before .before .before .before .before .before .before .before .before .before .before .if2 .left) in let i1 : c .before .before .before .before .before .before .before .before .before .before .ids-from .result .now ≡ idsFrom (c .before .before .before .before .before .before .before .before .before .before .before .before .before .before .before .before .before .before .before .before .before .before .before .before .before .before .args .ids .now) (numberAt (c .before .before .before .before .before .before .before .before .before .before .before .before .before .before .before .before .before .before .before .before .before .before .before .before .before .before .args .list .now) (c .before .before .before .before .before .before .before .before .before .before .before .before .before .before .before .before .before .before .before .before .before .before .before .before .before .before .args .i) 2) (numberAt (c .before .before .before .before .before .before .before .before .before .before .before .before .before .before .before .before .before .before .before .before .before .before .before .before .before .before .args .list .now) (c .before .before .before .before .before .before .before .before .before .before .before .before .before .before .before .before .before .before .before .before .before .before .before .before .before .before .args .i) 3) = rw (back (c .before .before .before .before .before .before .before .before .before .before .before .before .before .before .before .before .before .before .number3 .result) (c .before .before .before .before .before .before .before .before .before .before .before .before .before .before .before .before .before .before .number3 .ok), back (c .before .before .before .before .before .before .before .before .before .before .before .before .before .before .before .before .before .number4 .result) (c .before .before .before .before .before .before .before .before .before .before .before .before .before .before .before .before .before .number4 .ok), c .before .before .before .before .before .before .before .before .before .before .before .before .before .before .before .before .before .before .number3 .ensures, c .before .before .before .before .before .before .before .before .before .before .before .before .before .before .before .before .before .number4 .ensures) at (c .before .before .before .before .before .before .before .before .before .before .ids-from .ensures) in let i2 : c .before .before .before .before .before .before .before .before .before .ids-from2 .result .now ≡ idsFrom (c .before .before .before .before .before .before .before .before .before .before .before .before .before .before .before .before .before .before .before .before .before .before .before .before .before .before .args .ids .now) (numberAt (c .before .before .before .before .before .before .before .before .before .before .before .before .before .before .before .before .before .before .before .before .before .before .before .before .before .before .args .list .now) (c .before .before .before .before .before .before .before .before .before .before .before .before .before .before .before .before .before .before .before .before .before .before .before .before .before .before .args .i) 4) (numberAt (c .before .before .before .before .before .before .before .before .before .before .before .before .before .before .before .before .before .before .before .before .before .before .before .before .before .before .args .list .now) (c .before .before .before .before .before .before .before .before .before .before .before .before .before .before .before .before .before .before .before .before .before .before .before .before .before .before .args .i) 5) = rw (back (c .before .before .before .before .before .before .before .before .before .before .before .before .number5 .result) (c .before .before .before .before .before .before .before .before .before .before .before .before .number5 .ok), back (c .before .before .before .before .before .before .before .before .before .before .before .number6 .result) (c .before .before .before .before .before .before .before .before .before .before .before .number6 .ok), c .before .before .before .before .before .before .before .before .before .before .before .before .number5 .ensures, c .before .before .before .before .before .before .before .before .before .before .before .number6 .ensures) at (c .before .before .before .before .before .before .before .before .before .ids-from2 .ensures) in rw (call-average (c .before .before .before .before .before .before .before .before .before .before .before .before .before .before .before .before .before .before .before .before .before .before .before .before .before .before .args .list .now) (c .before .before .before .before .before .before .before .before .before .before .before .before .before .before .before .before .before .before .before .before .before .before .before .before .before .before .args .ids .now) (c .before .before .before .before .before .before .before .before .before .before .before .before .before .before .before .before .before .before .before .before .before .before .before .before .before .before .args .i) h0 h1) (rw (back (c .before .before .before .before .before .before .before .before .before .before .before .before .before .before .before .before .before .before .before .number2 .result) (c .before .before .before .before .before .before .before .before .before .before .before .before .before .before .before .before .before .before .before .number2 .ok), c .before .before .before .before .before .before .before .before .before .before .before .before .before .before .before .before .before .before .before .number2 .ensures, i1, i2) at (c .before .before .before .before .before .average-triplet .ensures))
+
+pub one-call-spec : {M : Type 1} → statement M
+one-call-spec =
+    tie.close
+    (tie.spec
+    number-requires
+    number-requires-2
+    number-requires-3
+    number-requires-4
+    is-nat-requires
+    run-piece-requires
+    same-length
+    same-length-2
+    same-length-3
+    returns
+    is-nat-requires-2
+    carry-on-requires
+    same-length-4
+    same-length-5
+    same-length-6
+    returns-2
+    number-requires-5
+    number-requires-6
+    ids-from-requires
+    ids-from-requires-2
+    average-triplet-requires
+    same-length-7
+    same-length-8
+    same-length-9
+    returns-3)

@@ -1,0 +1,153 @@
+-- `book::play::play` meets its contract. Assumes nothing.
+use Prim.Native.Nat.{_-_, _<_, _≤_, ℕ}
+use borrow.Author.Needs.{needs}
+use lib.ListN.{length, length-set}
+use mathlib.Core.Path.{_∙_, _≡_, ap, refl}
+use native.Mathlib.Omega.{arith}
+use Rattle.book.proofs.PlayLaws.{after, after-none, number-next, numberAfter, numbers-end, sheet-end, sheet-next, tallies-end, tally-next, tallyAfter}
+use Rattle.book.specs.Calls.{callAt}
+use Rattle.list_laws.proofs.FillLaws.{front-next, front-none}
+use Rattle.list_laws.specs.Lists.{fronted}
+use Rattle.sheet_step.specs.Steps.{Call, Sheet, sheet}
+use Rattle.triplet_study.specs.Given.{Given, given}
+use Rattle.book.proofs.play.play.Statement.{statement}
+use Rattle.book.proofs.play.play.Tie as tie
+
+abbrev Inv-loop : tie.InvT-loop
+Inv-loop shape addresses gp-map relative-grid-address frequencies1 frequencies2 frequency-points triplets weights₀ flags₀ marks₀ list ids answers₀ tallies₀ runs₀ i₀ weights flags marks answers tallies runs i =
+    (i ≤ length answers₀) × (length weights ≡ length weights₀) × (length flags ≡ length flags₀) × (length marks ≡ length marks₀)
+    × (length answers ≡ length answers₀) × (length tallies ≡ length tallies₀)
+    × (sheet weights flags marks runs ≡ after (given shape addresses gp-map relative-grid-address frequencies1 frequencies2 frequency-points triplets) (sheet weights₀ flags₀ marks₀ runs₀) (callAt list ids) i)
+    × (answers ≡ fronted i (numberAfter (given shape addresses gp-map relative-grid-address frequencies1 frequencies2 frequency-points triplets) (sheet weights₀ flags₀ marks₀ runs₀) (callAt list ids)) answers₀)
+    × (tallies ≡ fronted i (tallyAfter (given shape addresses gp-map relative-grid-address frequencies1 frequencies2 frequency-points triplets) (sheet weights₀ flags₀ marks₀ runs₀) (callAt list ids)) tallies₀)
+
+abbrev μ-loop : tie.MeasureT-loop
+μ-loop shape addresses gp-map relative-grid-address frequencies1 frequencies2 frequency-points triplets weights₀ flags₀ marks₀ list ids answers₀ tallies₀ runs₀ i₀ weights flags marks answers tallies runs i =
+    length answers₀ - i
+
+abbrev asked : tie.Start Inv-loop μ-loop → Given
+asked s = given (s .args .shape) (s .args .addresses .now) (s .args .gp-map .now) (s .args .relative-grid-address .now) (s .args .frequencies1 .now) (s .args .frequencies2 .now) (s .args .frequency-points .now) (s .args .triplets .now)
+
+abbrev start : tie.Start Inv-loop μ-loop → Sheet
+start s = sheet (s .args .weights .now) (s .args .flags .now) (s .args .marks .now) (s .args .tally .runs)
+
+abbrev call : tie.Start Inv-loop μ-loop → ℕ → Call
+call s = callAt (s .args .list .now) (s .args .ids .now)
+
+loop-holds : tie.Need-loop-holds Inv-loop μ-loop
+loop-holds c =
+    (omega arith, refl, refl, refl, refl, refl, after-none (asked (c .before .before .before .before .before .before .before)) (start (c .before .before .before .before .before .before .before)) (call (c .before .before .before .before .before .before .before)), front-none (numberAfter (asked (c .before .before .before .before .before .before .before)) (start (c .before .before .before .before .before .before .before)) (call (c .before .before .before .before .before .before .before))) (c .before .before .before .before .before .before .before .args .answers .now), front-none (tallyAfter (asked (c .before .before .before .before .before .before .before)) (start (c .before .before .before .before .before .before .before)) (call (c .before .before .before .before .before .before .before))) (c .before .before .before .before .before .before .before .args .tallies .now))
+
+one-call-requires : tie.Need-one-call-requires Inv-loop μ-loop
+one-call-requires c κs =
+    let v = c .before .before .before .before .loop .inv in let at-i : c .before .before .before .before .loop .i < length (c .before .before .before .before .before .before .before .before .before .before .before .before .args .answers .now) = omega (arith, v .4, c .before .before .before .loop-test .taken) in omega (arith, at-i, c .before .before .before .before .before .before .before .before .before .before .before .before .pre .0)
+
+tally-after-requires : tie.Need-tally-after-requires Inv-loop μ-loop
+tally-after-requires c κs =
+    search needs
+
+number-of-requires : tie.Need-number-of-requires Inv-loop μ-loop
+number-of-requires c κs =
+    search needs
+
+mul-answers : tie.Need-mul-answers Inv-loop μ-loop
+mul-answers c =
+    let v = c .before .before .before .before .before .before .before .before .before .before .before .before .loop .inv in let at-i : c .before .before .before .before .before .before .before .before .before .before .before .before .loop .i < length (c .before .before .before .before .before .before .before .before .before .before .before .before .before .before .before .before .before .before .before .before .args .answers .now) = omega (arith, v .4, c .before .before .before .before .before .before .before .before .before .before .before .loop-test .taken) in omega (arith, at-i, c .before .before .before .before .before .before .before .before .before .before .before .before .before .before .before .before .before .before .before .before .good .1 .1 .1 .1 .1 .1 .1 .1 .1 .1 .1 .1 .1 .1 .0)
+
+slice-write-answers : tie.Need-slice-write-answers Inv-loop μ-loop
+slice-write-answers c =
+    c .before .before .before .before .before .before .before .before .before .before .before .loop-test .taken
+
+mul-tallies : tie.Need-mul-tallies Inv-loop μ-loop
+mul-tallies c =
+    let v = c .before .before .before .before .before .before .before .before .before .before .before .before .loop .inv in let at-i : c .before .before .before .before .before .before .before .before .before .before .before .before .loop .i < length (c .before .before .before .before .before .before .before .before .before .before .before .before .before .before .before .before .before .before .before .before .args .answers .now) = omega (arith, v .4, c .before .before .before .before .before .before .before .before .before .before .before .loop-test .taken) in omega (arith, at-i, c .before .before .before .before .before .before .before .before .before .before .before .before .before .before .before .before .before .before .before .before .good .1 .1 .1 .1 .1 .1 .1 .1 .1 .1 .1 .1 .1 .1 .0)
+
+slice-write-tallies : tie.Need-slice-write-tallies Inv-loop μ-loop
+slice-write-tallies c =
+    let v = c .before .before .before .before .before .before .before .before .before .before .before .before .loop .inv in let at-i : c .before .before .before .before .before .before .before .before .before .before .before .before .loop .i < length (c .before .before .before .before .before .before .before .before .before .before .before .before .before .before .before .before .before .before .before .before .args .answers .now) = omega (arith, v .4, c .before .before .before .before .before .before .before .before .before .before .before .loop-test .taken) in omega (arith, at-i, v .5, c .before .before .before .before .before .before .before .before .before .before .before .before .before .before .before .before .before .before .before .before .pre .1 .0)
+
+add-i : tie.Need-add-i Inv-loop μ-loop
+add-i c =
+    let v = c .before .before .before .before .before .before .before .before .before .before .before .before .loop .inv in let at-i : c .before .before .before .before .before .before .before .before .before .before .before .before .loop .i < length (c .before .before .before .before .before .before .before .before .before .before .before .before .before .before .before .before .before .before .before .before .args .answers .now) = omega (arith, v .4, c .before .before .before .before .before .before .before .before .before .before .before .loop-test .taken) in omega (arith, at-i, c .before .before .before .before .before .before .before .before .before .before .before .before .before .before .before .before .before .before .before .before .good .1 .1 .1 .1 .1 .1 .1 .1 .1 .1 .1 .1 .1 .1 .0)
+
+loop-less : tie.Need-loop-less Inv-loop μ-loop
+loop-less c =
+    let v = c .before .before .before .before .before .before .before .before .before .before .before .before .loop .inv in let at-i : c .before .before .before .before .before .before .before .before .before .before .before .before .loop .i < length (c .before .before .before .before .before .before .before .before .before .before .before .before .before .before .before .before .before .before .before .before .args .answers .now) = omega (arith, v .4, c .before .before .before .before .before .before .before .before .before .before .before .loop-test .taken) in omega (arith, at-i)
+
+loop-again : tie.Need-loop-again Inv-loop μ-loop
+loop-again c =
+    let v = c .before .before .before .before .before .before .before .before .before .before .before .before .loop .inv in let at-i : c .before .before .before .before .before .before .before .before .before .before .before .before .loop .i < length (c .before .before .before .before .before .before .before .before .before .before .before .before .before .before .before .before .before .before .before .before .args .answers .now) = omega (arith, v .4, c .before .before .before .before .before .before .before .before .before .before .before .loop-test .taken) in
+    let d = c .before .before .before .before .before .before .before .one-call .ensures in
+    let k = c .before .before .before .before .before .before .before .one-call .kept in (
+      omega (arith, at-i),
+      k .1 .1 .1 .1 .1 .1 .1 .1 .0 ∙ v .1,
+      k .1 .1 .1 .1 .1 .1 .1 .1 .1 .0 ∙ v .2,
+      k .1 .1 .1 .1 .1 .1 .1 .1 .1 .1 .0 ∙ v .3,
+      simp length-set (v .4),
+      simp length-set (v .5),
+      rw (c .before .tally-after .ensures) (sheet-next (asked (c .before .before .before .before .before .before .before .before .before .before .before .before .before .before .before .before .before .before .before .before)) (start (c .before .before .before .before .before .before .before .before .before .before .before .before .before .before .before .before .before .before .before .before)) (call (c .before .before .before .before .before .before .before .before .before .before .before .before .before .before .before .before .before .before .before .before)) (c .before .before .before .before .before .before .before .before .before .before .before .before .loop .i) (sheet (c .before .before .before .before .before .before .before .before .before .before .before .before .loop .weights) (c .before .before .before .before .before .before .before .before .before .before .before .before .loop .flags) (c .before .before .before .before .before .before .before .before .before .before .before .before .loop .marks) (c .before .before .before .before .before .before .before .before .before .before .before .before .loop .runs)) (c .before .before .before .before .before .before .before .one-call .result) (v .6) (c .before .before .before .before .before .before .before .one-call .ensures .0) (d .1 .0) (d .1 .1 .0) (d .1 .1 .1)),
+      rw (v .7) (front-next (numberAfter (asked (c .before .before .before .before .before .before .before .before .before .before .before .before .before .before .before .before .before .before .before .before)) (start (c .before .before .before .before .before .before .before .before .before .before .before .before .before .before .before .before .before .before .before .before)) (call (c .before .before .before .before .before .before .before .before .before .before .before .before .before .before .before .before .before .before .before .before))) (c .before .before .before .before .before .before .before .before .before .before .before .before .before .before .before .before .before .before .before .before .args .answers .now) (c .before .before .before .before .before .before .before .before .before .before .before .before .loop .i) (c .number-of .result) at-i (c .number-of .ensures ∙ number-next (asked (c .before .before .before .before .before .before .before .before .before .before .before .before .before .before .before .before .before .before .before .before)) (start (c .before .before .before .before .before .before .before .before .before .before .before .before .before .before .before .before .before .before .before .before)) (call (c .before .before .before .before .before .before .before .before .before .before .before .before .before .before .before .before .before .before .before .before)) (c .before .before .before .before .before .before .before .before .before .before .before .before .loop .i) (sheet (c .before .before .before .before .before .before .before .before .before .before .before .before .loop .weights) (c .before .before .before .before .before .before .before .before .before .before .before .before .loop .flags) (c .before .before .before .before .before .before .before .before .before .before .before .before .loop .marks) (c .before .before .before .before .before .before .before .before .before .before .before .before .loop .runs)) (c .before .before .before .before .before .before .before .one-call .result) (v .6) (c .before .before .before .before .before .before .before .one-call .ensures .0))),
+      rw (v .8) (front-next (tallyAfter (asked (c .before .before .before .before .before .before .before .before .before .before .before .before .before .before .before .before .before .before .before .before)) (start (c .before .before .before .before .before .before .before .before .before .before .before .before .before .before .before .before .before .before .before .before)) (call (c .before .before .before .before .before .before .before .before .before .before .before .before .before .before .before .before .before .before .before .before))) (c .before .before .before .before .before .before .before .before .before .before .before .before .before .before .before .before .before .before .before .before .args .tallies .now) (c .before .before .before .before .before .before .before .before .before .before .before .before .loop .i) (c .before .tally-after .result) (omega (arith, at-i, c .before .before .before .before .before .before .before .before .before .before .before .before .before .before .before .before .before .before .before .before .pre .1 .0)) (c .before .tally-after .ensures ∙ tally-next (asked (c .before .before .before .before .before .before .before .before .before .before .before .before .before .before .before .before .before .before .before .before)) (start (c .before .before .before .before .before .before .before .before .before .before .before .before .before .before .before .before .before .before .before .before)) (call (c .before .before .before .before .before .before .before .before .before .before .before .before .before .before .before .before .before .before .before .before)) (c .before .before .before .before .before .before .before .before .before .before .before .before .loop .i) (sheet (c .before .before .before .before .before .before .before .before .before .before .before .before .loop .weights) (c .before .before .before .before .before .before .before .before .before .before .before .before .loop .flags) (c .before .before .before .before .before .before .before .before .before .before .before .before .loop .marks) (c .before .before .before .before .before .before .before .before .before .before .before .before .loop .runs)) (c .before .before .before .before .before .before .before .one-call .result) (v .6) (c .before .before .before .before .before .before .before .one-call .ensures .0))),
+    )
+
+same-length : tie.Need-same-length Inv-loop μ-loop
+same-length c =
+    c .before .loop .inv .1
+
+same-length-2 : tie.Need-same-length-2 Inv-loop μ-loop
+same-length-2 c =
+    c .before .loop .inv .2
+
+same-length-3 : tie.Need-same-length-3 Inv-loop μ-loop
+same-length-3 c =
+    c .before .loop .inv .3
+
+same-length-4 : tie.Need-same-length-4 Inv-loop μ-loop
+same-length-4 c =
+    c .before .loop .inv .4
+
+same-length-5 : tie.Need-same-length-5 Inv-loop μ-loop
+same-length-5 c =
+    c .before .loop .inv .5
+
+returns : tie.Need-returns Inv-loop μ-loop
+returns c =
+    let v = c .before .loop .inv in
+    let e : length (c .before .before .before .before .before .before .before .before .before .args .answers .now) ≡ c .before .loop .i = omega (arith, v .0, v .4, c .loop-test .left) in
+    let s = sheet-end (asked (c .before .before .before .before .before .before .before .before .before)) (start (c .before .before .before .before .before .before .before .before .before)) (c .before .before .before .before .before .before .before .before .before .args .list .now) (c .before .before .before .before .before .before .before .before .before .args .ids .now) (c .before .loop .i) (c .before .before .before .before .before .before .before .before .before .pre .1 .1) (omega (arith, e, c .before .before .before .before .before .before .before .before .before .pre .0)) (v .6) in (
+      ap (λ (x : Sheet). x .tally) s,
+      (
+        ap (λ (x : Sheet). x .weights) s,
+        (
+          ap (λ (x : Sheet). x .flags) s,
+          (
+            ap (λ (x : Sheet). x .marks) s,
+            (numbers-end (asked (c .before .before .before .before .before .before .before .before .before)) (start (c .before .before .before .before .before .before .before .before .before)) (c .before .before .before .before .before .before .before .before .before .args .list .now) (c .before .before .before .before .before .before .before .before .before .args .ids .now) (c .before .loop .i) (c .before .before .before .before .before .before .before .before .before .pre .1 .1) (omega (arith, e, c .before .before .before .before .before .before .before .before .before .pre .0)) (c .before .before .before .before .before .before .before .before .before .args .answers .now) e (v .7), tallies-end (asked (c .before .before .before .before .before .before .before .before .before)) (start (c .before .before .before .before .before .before .before .before .before)) (c .before .before .before .before .before .before .before .before .before .args .list .now) (c .before .before .before .before .before .before .before .before .before .args .ids .now) (c .before .loop .i) (c .before .before .before .before .before .before .before .before .before .pre .1 .1) (omega (arith, e, c .before .before .before .before .before .before .before .before .before .pre .0)) (c .before .before .before .before .before .before .before .before .before .args .tallies .now) (c .before .before .before .before .before .before .before .before .before .pre .1 .0 ∙ e) (v .8)),
+          ),
+        ),
+      ),
+    )
+
+pub play-spec : {M : Type 1} → statement M
+play-spec =
+    tie.close
+    (tie.spec
+    Inv-loop
+    μ-loop
+    loop-holds
+    one-call-requires
+    tally-after-requires
+    number-of-requires
+    mul-answers
+    slice-write-answers
+    mul-tallies
+    slice-write-tallies
+    add-i
+    loop-less
+    loop-again
+    same-length
+    same-length-2
+    same-length-3
+    same-length-4
+    same-length-5
+    returns)

@@ -1,0 +1,82 @@
+-- `book::replay` meets its contract. Assumes nothing.
+use Prim.Native.Nat.{ℕ}
+use borrow.Author.Needs.{needs}
+use lib.ListN.{length}
+use mathlib.Core.List.{List}
+use mathlib.Core.Path.{_∙_, _≡_, sym}
+use Rattle.book.proofs.ReplayLaws.{answer-done, answer-refused, replay-yes}
+use Rattle.book.specs.Calls.{callsOf}
+use Rattle.book.specs.Replay.{bookNumbers, bookSheet, bookTallies, replayNo}
+use Rattle.questions.proofs.AskLaws.{after-done, after-refused}
+use Rattle.sheet_step.specs.Steps.{Call, Sheet, sheet}
+use Rattle.triplet_study.specs.Given.{Given, given}
+use Rattle.book.proofs.replay.Statement.{statement}
+use Rattle.book.proofs.replay.Tie as tie
+
+abbrev asked : tie.Start → Given
+asked s = given (s .args .shape) (s .args .addresses .now) (s .args .gp-map .now) (s .args .relative-grid-address .now) (s .args .frequencies1 .now) (s .args .frequencies2 .now) (s .args .frequency-points .now) (s .args .triplets .now)
+
+abbrev start : tie.Start → Sheet
+start s = sheet (s .args .weights .now) (s .args .flags .now) (s .args .marks .now) (s .args .tally .runs)
+
+abbrev calls : tie.Start → List Call
+calls s = callsOf (s .args .list .now) (s .args .ids .now)
+
+abbrev no : tie.Start → ℕ
+no s = replayNo (length (s .args .list .now)) (length (s .args .answers .now)) (length (s .args .tallies .now)) (s .args .marks .now)
+
+replay-no-requires : tie.Need-replay-no-requires
+replay-no-requires c κs = search needs
+
+same-length : tie.Need-same-length
+same-length c = search needs
+
+same-length-2 : tie.Need-same-length-2
+same-length-2 c = search needs
+
+same-length-3 : tie.Need-same-length-3
+same-length-3 c = search needs
+
+returns : tie.Need-returns
+returns c =
+    let r : no (c .before .before .before .before .before .before .before .before .before .before .before .before) ≡ 0 → ⊥ = λ z. c .if1 .taken (c .before .replay-no .ensures ∙ z) in (rw (c .before .replay-no .ensures) (answer-refused (no (c .before .before .before .before .before .before .before .before .before .before .before .before)) ((bookSheet (asked (c .before .before .before .before .before .before .before .before .before .before .before .before)) (start (c .before .before .before .before .before .before .before .before .before .before .before .before)) (calls (c .before .before .before .before .before .before .before .before .before .before .before .before))) .tally) r), (after-refused (no (c .before .before .before .before .before .before .before .before .before .before .before .before)) ((bookSheet (asked (c .before .before .before .before .before .before .before .before .before .before .before .before)) (start (c .before .before .before .before .before .before .before .before .before .before .before .before)) (calls (c .before .before .before .before .before .before .before .before .before .before .before .before))) .weights) (c .before .before .before .before .before .before .before .before .before .before .before .before .args .weights .now) r, (after-refused (no (c .before .before .before .before .before .before .before .before .before .before .before .before)) ((bookSheet (asked (c .before .before .before .before .before .before .before .before .before .before .before .before)) (start (c .before .before .before .before .before .before .before .before .before .before .before .before)) (calls (c .before .before .before .before .before .before .before .before .before .before .before .before))) .flags) (c .before .before .before .before .before .before .before .before .before .before .before .before .args .flags .now) r, (after-refused (no (c .before .before .before .before .before .before .before .before .before .before .before .before)) ((bookSheet (asked (c .before .before .before .before .before .before .before .before .before .before .before .before)) (start (c .before .before .before .before .before .before .before .before .before .before .before .before)) (calls (c .before .before .before .before .before .before .before .before .before .before .before .before))) .marks) (c .before .before .before .before .before .before .before .before .before .before .before .before .args .marks .now) r, (after-refused (no (c .before .before .before .before .before .before .before .before .before .before .before .before)) (bookNumbers (asked (c .before .before .before .before .before .before .before .before .before .before .before .before)) (start (c .before .before .before .before .before .before .before .before .before .before .before .before)) (calls (c .before .before .before .before .before .before .before .before .before .before .before .before))) (c .before .before .before .before .before .before .before .before .before .before .before .before .args .answers .now) r, (after-refused (no (c .before .before .before .before .before .before .before .before .before .before .before .before)) (bookTallies (asked (c .before .before .before .before .before .before .before .before .before .before .before .before)) (start (c .before .before .before .before .before .before .before .before .before .before .before .before)) (calls (c .before .before .before .before .before .before .before .before .before .before .before .before))) (c .before .before .before .before .before .before .before .before .before .before .before .before .args .tallies .now) r))))))
+
+play-requires : tie.Need-play-requires
+play-requires c κs =
+    let y : no (c .before .before .before .before .before .before .before .before .before .before .before .before .before .before .before .before .before) ≡ 0 = sym (c .before .before .before .before .before .before .replay-no .ensures) ∙ c .before .before .before .before .before .if1 .left in replay-yes (length (c .before .before .before .before .before .before .before .before .before .before .before .before .before .before .before .before .before .args .list .now)) (length (c .before .before .before .before .before .before .before .before .before .before .before .before .before .before .before .before .before .args .answers .now)) (length (c .before .before .before .before .before .before .before .before .before .before .before .before .before .before .before .before .before .args .tallies .now)) (c .before .before .before .before .before .before .before .before .before .before .before .before .before .before .before .before .before .args .marks .now) y
+
+same-length-4 : tie.Need-same-length-4
+same-length-4 c = search needs
+
+same-length-5 : tie.Need-same-length-5
+same-length-5 c = search needs
+
+same-length-6 : tie.Need-same-length-6
+same-length-6 c = search needs
+
+same-length-7 : tie.Need-same-length-7
+same-length-7 c = search needs
+
+same-length-8 : tie.Need-same-length-8
+same-length-8 c = search needs
+
+returns-2 : tie.Need-returns-2
+returns-2 c =
+    let y : no (c .before .before .before .before .before .before .before .before .before .before .before .before .before .before .before .before .before .before .before .before .before .before .before .before .before .before .before) ≡ 0 = sym (c .before .before .before .before .before .before .before .before .before .before .before .before .before .before .before .before .replay-no .ensures) ∙ c .before .before .before .before .before .before .before .before .before .before .before .before .before .before .before .if1 .left in (answer-done (no (c .before .before .before .before .before .before .before .before .before .before .before .before .before .before .before .before .before .before .before .before .before .before .before .before .before .before .before)) ((bookSheet (asked (c .before .before .before .before .before .before .before .before .before .before .before .before .before .before .before .before .before .before .before .before .before .before .before .before .before .before .before)) (start (c .before .before .before .before .before .before .before .before .before .before .before .before .before .before .before .before .before .before .before .before .before .before .before .before .before .before .before)) (calls (c .before .before .before .before .before .before .before .before .before .before .before .before .before .before .before .before .before .before .before .before .before .before .before .before .before .before .before))) .tally) (c .before .before .before .before .before .before .before .before .before .play .result) y (c .before .before .before .before .before .before .before .before .before .play .ensures .0), (c .before .before .before .before .before .before .before .before .before .play .ensures .1 .0 ∙ after-done (no (c .before .before .before .before .before .before .before .before .before .before .before .before .before .before .before .before .before .before .before .before .before .before .before .before .before .before .before)) ((bookSheet (asked (c .before .before .before .before .before .before .before .before .before .before .before .before .before .before .before .before .before .before .before .before .before .before .before .before .before .before .before)) (start (c .before .before .before .before .before .before .before .before .before .before .before .before .before .before .before .before .before .before .before .before .before .before .before .before .before .before .before)) (calls (c .before .before .before .before .before .before .before .before .before .before .before .before .before .before .before .before .before .before .before .before .before .before .before .before .before .before .before))) .weights) (c .before .before .before .before .before .before .before .before .before .before .before .before .before .before .before .before .before .before .before .before .before .before .before .before .before .before .before .args .weights .now) y, (c .before .before .before .before .before .before .before .before .before .play .ensures .1 .1 .0 ∙ after-done (no (c .before .before .before .before .before .before .before .before .before .before .before .before .before .before .before .before .before .before .before .before .before .before .before .before .before .before .before)) ((bookSheet (asked (c .before .before .before .before .before .before .before .before .before .before .before .before .before .before .before .before .before .before .before .before .before .before .before .before .before .before .before)) (start (c .before .before .before .before .before .before .before .before .before .before .before .before .before .before .before .before .before .before .before .before .before .before .before .before .before .before .before)) (calls (c .before .before .before .before .before .before .before .before .before .before .before .before .before .before .before .before .before .before .before .before .before .before .before .before .before .before .before))) .flags) (c .before .before .before .before .before .before .before .before .before .before .before .before .before .before .before .before .before .before .before .before .before .before .before .before .before .before .before .args .flags .now) y, (c .before .before .before .before .before .before .before .before .before .play .ensures .1 .1 .1 .0 ∙ after-done (no (c .before .before .before .before .before .before .before .before .before .before .before .before .before .before .before .before .before .before .before .before .before .before .before .before .before .before .before)) ((bookSheet (asked (c .before .before .before .before .before .before .before .before .before .before .before .before .before .before .before .before .before .before .before .before .before .before .before .before .before .before .before)) (start (c .before .before .before .before .before .before .before .before .before .before .before .before .before .before .before .before .before .before .before .before .before .before .before .before .before .before .before)) (calls (c .before .before .before .before .before .before .before .before .before .before .before .before .before .before .before .before .before .before .before .before .before .before .before .before .before .before .before))) .marks) (c .before .before .before .before .before .before .before .before .before .before .before .before .before .before .before .before .before .before .before .before .before .before .before .before .before .before .before .args .marks .now) y, (c .before .before .before .before .before .before .before .before .before .play .ensures .1 .1 .1 .1 .0 ∙ after-done (no (c .before .before .before .before .before .before .before .before .before .before .before .before .before .before .before .before .before .before .before .before .before .before .before .before .before .before .before)) (bookNumbers (asked (c .before .before .before .before .before .before .before .before .before .before .before .before .before .before .before .before .before .before .before .before .before .before .before .before .before .before .before)) (start (c .before .before .before .before .before .before .before .before .before .before .before .before .before .before .before .before .before .before .before .before .before .before .before .before .before .before .before)) (calls (c .before .before .before .before .before .before .before .before .before .before .before .before .before .before .before .before .before .before .before .before .before .before .before .before .before .before .before))) (c .before .before .before .before .before .before .before .before .before .before .before .before .before .before .before .before .before .before .before .before .before .before .before .before .before .before .before .args .answers .now) y, (c .before .before .before .before .before .before .before .before .before .play .ensures .1 .1 .1 .1 .1 ∙ after-done (no (c .before .before .before .before .before .before .before .before .before .before .before .before .before .before .before .before .before .before .before .before .before .before .before .before .before .before .before)) (bookTallies (asked (c .before .before .before .before .before .before .before .before .before .before .before .before .before .before .before .before .before .before .before .before .before .before .before .before .before .before .before)) (start (c .before .before .before .before .before .before .before .before .before .before .before .before .before .before .before .before .before .before .before .before .before .before .before .before .before .before .before)) (calls (c .before .before .before .before .before .before .before .before .before .before .before .before .before .before .before .before .before .before .before .before .before .before .before .before .before .before .before))) (c .before .before .before .before .before .before .before .before .before .before .before .before .before .before .before .before .before .before .before .before .before .before .before .before .before .before .before .args .tallies .now) y))))))
+
+pub replay-spec : {M : Type 1} → statement M
+replay-spec =
+    tie.close
+    (tie.spec
+    replay-no-requires
+    same-length
+    same-length-2
+    same-length-3
+    returns
+    play-requires
+    same-length-4
+    same-length-5
+    same-length-6
+    same-length-7
+    same-length-8
+    returns-2)

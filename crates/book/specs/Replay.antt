@@ -1,0 +1,67 @@
+-- What a replay asks itself, and what it leaves: the sheet, the tally and the answers of the book after the whole list of calls.
+use mathlib.Core.Bool.{Bool, _&&_}
+use mathlib.Core.List.{List, [], _∷_, map}
+use Prim.Native.Nat.{ℕ, zero, suc, _*_}
+use lib.Dec.{eqb}
+use lib.ListN.{length}
+use Rattle.list_laws.specs.Lists.{allBelow}
+use Rattle.questions.specs.Ask.{Question, asks, firstNo}
+use Rattle.triplet_study.specs.Given.{Given}
+use Rattle.sheet_step.specs.declared.SheetAnswer.{SheetAnswer}
+use Rattle.sheet_step.specs.declared.SheetAnswer.the-variants.{Done, Refused}
+use Rattle.sheet_step.specs.Marks.{isOpenAt}
+use Rattle.sheet_step.specs.Steps.{Sheet, Call}
+use Rattle.book_claim.specs.Book.{Book, opened, render, turn, booked, bookAnswers}
+use Rattle.book.specs.declared.ReplayAnswer.{ReplayAnswer}
+use Rattle.book.specs.declared.ReplayAnswer.the-variants.{Done as Replayed, Refused as NotReplayed}
+
+-- ---- what it asks
+
+-- Question 12: "Is each lent buffer exactly as long as its record?" The list has six numbers a call; of each call one answer and one tally.
+unfoldable pub areReplayLengths : ℕ → ℕ → ℕ → Bool
+areReplayLengths list answers tallies = eqb list (answers * 6) && eqb tallies answers
+
+-- "a word for each piece, at first open": every mark is 0
+unfoldable pub areOpen : List ℕ → Bool
+areOpen marks = allBelow (length marks) (isOpenAt marks)
+
+abbrev pub replayQuestions : ℕ → ℕ → ℕ → List ℕ → List Question
+replayQuestions list answers tallies marks = asks 12 (areReplayLengths list answers tallies) ∷ asks 13 (areOpen marks) ∷ []
+
+-- the number of the first no, and 0 where the list is replayed
+unfoldable pub replayNo : ℕ → ℕ → ℕ → List ℕ → ℕ
+replayNo list answers tallies marks = firstNo (replayQuestions list answers tallies marks)
+
+-- ---- what it leaves
+
+-- the sheet of the book that was opened at the start, after the calls
+abbrev pub bookSheet : Given → Sheet → List Call → Sheet
+bookSheet g start calls = render g start (booked g start (opened start) calls)
+
+-- the number of an answer: 0 done, otherwise that of the first no
+abbrev pub answerNumber : SheetAnswer → ℕ
+answerNumber (Done tally) = 0
+answerNumber (Refused n) = n
+
+-- "for each call accepted or which number", by the book
+abbrev pub bookNumbers : Given → Sheet → List Call → List ℕ
+bookNumbers g start calls = map answerNumber (bookAnswers g start (opened start) calls)
+
+-- the book's tally after each of the calls, from a book
+abbrev pub talliesFrom : Given → Sheet → Book → List Call → List ℕ
+talliesFrom g start b [] = []
+talliesFrom g start b (c ∷ calls) = turn g start b c .tally ∷ talliesFrom g start (turn g start b c) calls
+
+-- from the book that was opened at the start
+abbrev pub bookTallies : Given → Sheet → List Call → List ℕ
+bookTallies g start calls = talliesFrom g start (opened start) calls
+
+-- the tally after an answer: that which it carries, and the old one after a refusal
+abbrev pub runsAfter : SheetAnswer → ℕ → ℕ
+runsAfter (Done tally) old = tally .runs
+runsAfter (Refused n) old = old
+
+-- done with the tally, or refused with the number of the first no
+abbrev pub replayAnswer : ℕ → ℕ → ReplayAnswer
+replayAnswer zero tally = Replayed (record { runs = tally })
+replayAnswer (suc n) tally = NotReplayed (suc n)

@@ -1,0 +1,84 @@
+// The book of demand 3 and the code: a whole list of calls, replayed on a sheet.
+ghost use mathlib.Core.Path.{_≡_};
+ghost use lib.ListN.{length};
+ghost use Rattle.questions.specs.Ask.{afterCall};
+ghost use Rattle.triplet_study.specs.Given.{given};
+ghost use Rattle.sheet_step.specs.Steps.{sheet};
+ghost use Rattle.book.specs.Calls.{callsOf};
+ghost use Rattle.book.specs.Replay.{replayNo, replayAnswer, bookSheet, bookNumbers, bookTallies};
+pub use sheet_marks::Tally;
+pub use triplet_study::Shape;
+
+mod asks;
+mod calls;
+mod play;
+
+// A replay that is done gives the tally; a refused one the number of the first question that is answered no.
+pub enum ReplayAnswer {
+    Done(Tally),
+    Refused(u64),
+}
+
+// Replays a list of calls, six numbers a call, on a sheet with every piece open. The id lists of the averagings are parts of `ids`.
+// Each call's number, 0 where it is done, goes to its place in `answers`, the tally after it to its place in `tallies`. Questions 12, 13.
+pub fn replay(
+    shape: Shape,
+    addresses: &[i64],
+    gp_map: &[i64],
+    relative_grid_address: &[i64],
+    frequencies1: &[f64],
+    frequencies2: &[f64],
+    frequency_points: &[f64],
+    triplets: &[i64],
+    weights: &mut [f64],
+    flags: &mut [i8],
+    marks: &mut [u8],
+    tally: Tally,
+    list: &[i64],
+    ids: &[i64],
+    answers: &mut [u64],
+    tallies: &mut [u64],
+) -> ReplayAnswer
+    ensures { λ r. ⌜ r ≡ replayAnswer (replayNo (length (now (list .entry))) (length (now (answers .entry))) (length (now (tallies .entry))) (now (marks .entry)))
+        (bookSheet (given shape (now (addresses .entry)) (now («gp_map» .entry)) (now («relative_grid_address» .entry)) (now (frequencies1 .entry)) (now (frequencies2 .entry)) (now («frequency_points» .entry)) (now (triplets .entry)))
+        (sheet (now (weights .entry)) (now (flags .entry)) (now (marks .entry)) (tally .runs)) (callsOf (now (list .entry)) (now (ids .entry))) .tally) ⌝ }
+    ensures { λ r. ⌜ now (weights .exit) ≡ afterCall (replayNo (length (now (list .entry))) (length (now (answers .entry))) (length (now (tallies .entry))) (now (marks .entry)))
+        (bookSheet (given shape (now (addresses .entry)) (now («gp_map» .entry)) (now («relative_grid_address» .entry)) (now (frequencies1 .entry)) (now (frequencies2 .entry)) (now («frequency_points» .entry)) (now (triplets .entry)))
+        (sheet (now (weights .entry)) (now (flags .entry)) (now (marks .entry)) (tally .runs)) (callsOf (now (list .entry)) (now (ids .entry))) .weights) (now (weights .entry)) ⌝ }
+    ensures { λ r. ⌜ now (flags .exit) ≡ afterCall (replayNo (length (now (list .entry))) (length (now (answers .entry))) (length (now (tallies .entry))) (now (marks .entry)))
+        (bookSheet (given shape (now (addresses .entry)) (now («gp_map» .entry)) (now («relative_grid_address» .entry)) (now (frequencies1 .entry)) (now (frequencies2 .entry)) (now («frequency_points» .entry)) (now (triplets .entry)))
+        (sheet (now (weights .entry)) (now (flags .entry)) (now (marks .entry)) (tally .runs)) (callsOf (now (list .entry)) (now (ids .entry))) .flags) (now (flags .entry)) ⌝ }
+    ensures { λ r. ⌜ now (marks .exit) ≡ afterCall (replayNo (length (now (list .entry))) (length (now (answers .entry))) (length (now (tallies .entry))) (now (marks .entry)))
+        (bookSheet (given shape (now (addresses .entry)) (now («gp_map» .entry)) (now («relative_grid_address» .entry)) (now (frequencies1 .entry)) (now (frequencies2 .entry)) (now («frequency_points» .entry)) (now (triplets .entry)))
+        (sheet (now (weights .entry)) (now (flags .entry)) (now (marks .entry)) (tally .runs)) (callsOf (now (list .entry)) (now (ids .entry))) .marks) (now (marks .entry)) ⌝ }
+    ensures { λ r. ⌜ now (answers .exit) ≡ afterCall (replayNo (length (now (list .entry))) (length (now (answers .entry))) (length (now (tallies .entry))) (now (marks .entry)))
+        (bookNumbers (given shape (now (addresses .entry)) (now («gp_map» .entry)) (now («relative_grid_address» .entry)) (now (frequencies1 .entry)) (now (frequencies2 .entry)) (now («frequency_points» .entry)) (now (triplets .entry)))
+        (sheet (now (weights .entry)) (now (flags .entry)) (now (marks .entry)) (tally .runs)) (callsOf (now (list .entry)) (now (ids .entry)))) (now (answers .entry)) ⌝ }
+    ensures { λ r. ⌜ now (tallies .exit) ≡ afterCall (replayNo (length (now (list .entry))) (length (now (answers .entry))) (length (now (tallies .entry))) (now (marks .entry)))
+        (bookTallies (given shape (now (addresses .entry)) (now («gp_map» .entry)) (now («relative_grid_address» .entry)) (now (frequencies1 .entry)) (now (frequencies2 .entry)) (now («frequency_points» .entry)) (now (triplets .entry)))
+        (sheet (now (weights .entry)) (now (flags .entry)) (now (marks .entry)) (tally .runs)) (callsOf (now (list .entry)) (now (ids .entry)))) (now (tallies .entry)) ⌝ }
+{
+    let no = asks::replay_no(list, answers, tallies, marks);
+    if no != 0 {
+        return ReplayAnswer::Refused(no);
+    }
+    let runs = play::play(
+        shape,
+        addresses,
+        gp_map,
+        relative_grid_address,
+        frequencies1,
+        frequencies2,
+        frequency_points,
+        triplets,
+        weights,
+        flags,
+        marks,
+        tally,
+        list,
+        ids,
+        answers,
+        tallies,
+    );
+    ReplayAnswer::Done(Tally { runs })
+}
