@@ -8,9 +8,9 @@ use mir.ValLaws.{toZ-ofZ}
 use Rattle.list_laws.specs.Lists.{at}
 use Rattle.questions.specs.Ask.{firstNo}
 use Rattle.sheet_step.proofs.CountLaws.{marks-place}
-use Rattle.sheet_step.proofs.StepLaws.{average-named, commonOf, counts-yes, done-answer, done-sheet, given-yes, lengths-yes, refused-answer, refused-sheet, verdict-common, verdict-own}
+use Rattle.sheet_step.proofs.StepLaws.{average-named, common-refused, commonOf, counts-yes, done-call, given-yes, lengths-yes, refused-call, verdict-own}
 use Rattle.sheet_step.specs.Marks.{averagedMarks}
-use Rattle.sheet_step.specs.Steps.{Call, Counted, Sheet, averageQuestions, countsOf, effect, sheet, step, tripletAveraged, tripletFlagsAveraged, verdict}
+use Rattle.sheet_step.specs.Steps.{Call, Counted, Sheet, averageQuestions, countsOf, effect, sheet, tripletAveraged, tripletFlagsAveraged, verdict}
 use Rattle.sheet.proofs.EntryLaws.{length-average, length-average-flags, length-average-marks}
 use Rattle.triplet_study.proofs.GivenLaws.{few-counts, sizes-same}
 use Rattle.triplet_study.specs.Given.{Given, given}
@@ -37,7 +37,7 @@ same-length c = search needs
 
 returns : tie.Need-returns
 returns c =
-    let rs : (start (c .before .before .before .before .before .before .before .before)) ≡ step (asked (c .before .before .before .before .before .before .before .before)) (start (c .before .before .before .before .before .before .before .before)) (call (c .before .before .before .before .before .before .before .before)) = refused-sheet (asked (c .before .before .before .before .before .before .before .before)) (start (c .before .before .before .before .before .before .before .before)) (call (c .before .before .before .before .before .before .before .before)) (c .before .common-no .result) (verdict-common (asked (c .before .before .before .before .before .before .before .before)) (start (c .before .before .before .before .before .before .before .before)) (call (c .before .before .before .before .before .before .before .before)) (λ z. c .if1 .taken (c .before .common-no .ensures ∙ z)) ∙ sym (c .before .common-no .ensures)) (c .if1 .taken) in (refused-answer (asked (c .before .before .before .before .before .before .before .before)) (start (c .before .before .before .before .before .before .before .before)) (call (c .before .before .before .before .before .before .before .before)) (c .before .common-no .result) (verdict-common (asked (c .before .before .before .before .before .before .before .before)) (start (c .before .before .before .before .before .before .before .before)) (call (c .before .before .before .before .before .before .before .before)) (λ z. c .if1 .taken (c .before .common-no .ensures ∙ z)) ∙ sym (c .before .common-no .ensures)) (c .if1 .taken), (ap (λ (x : Sheet). x .weights) rs, (ap (λ (x : Sheet). x .flags) rs, ap (λ (x : Sheet). x .marks) rs)))
+    common-refused (asked (c .before .before .before .before .before .before .before .before)) (start (c .before .before .before .before .before .before .before .before)) (call (c .before .before .before .before .before .before .before .before)) (c .before .common-no .result) (c .before .common-no .ensures) (c .if1 .taken)
 
 sizes-of-requires : tie.Need-sizes-of-requires
 sizes-of-requires c κs =
@@ -55,7 +55,7 @@ same-length-3 c = search needs
 
 returns-2 : tie.Need-returns-2
 returns-2 c =
-    let y : firstNo (commonOf (asked (c .before .before .before .before .before .before .before .before .before .before .before .before .before)) (start (c .before .before .before .before .before .before .before .before .before .before .before .before .before)) (call (c .before .before .before .before .before .before .before .before .before .before .before .before .before))) ≡ 0 = sym (c .before .before .before .before .before .before .common-no .ensures) ∙ c .before .before .before .before .before .if1 .left in let zs : c .before .before .before .before .sizes-of .result ≡ countsOf (asked (c .before .before .before .before .before .before .before .before .before .before .before .before .before)) = c .before .before .before .before .sizes-of .ensures ∙ sizes-same (asked (c .before .before .before .before .before .before .before .before .before .before .before .before .before)) in let n : c .before .average-no .result ≡ firstNo (averageQuestions (countsOf (asked (c .before .before .before .before .before .before .before .before .before .before .before .before .before))) (c .before .before .before .before .before .before .before .before .before .before .before .before .before .args .weights .now) (c .before .before .before .before .before .before .before .before .before .before .before .before .before .args .marks .now) (c .before .before .before .before .before .before .before .before .before .before .before .before .before .args .triplet) (c .before .before .before .before .before .before .before .before .before .before .before .before .before .args .degenerate-ids1 .now) (c .before .before .before .before .before .before .before .before .before .before .before .before .before .args .degenerate-ids2 .now)) = rw (zs, toZ-ofZ w64 (c .before .before .before .before .before .before .before .before .before .before .before .before .before .args .triplet) (c .before .before .before .before .before .before .before .before .before .before .before .before .before .fits .triplet)) at (c .before .average-no .ensures) in let rs : (start (c .before .before .before .before .before .before .before .before .before .before .before .before .before)) ≡ step (asked (c .before .before .before .before .before .before .before .before .before .before .before .before .before)) (start (c .before .before .before .before .before .before .before .before .before .before .before .before .before)) (call (c .before .before .before .before .before .before .before .before .before .before .before .before .before)) = refused-sheet (asked (c .before .before .before .before .before .before .before .before .before .before .before .before .before)) (start (c .before .before .before .before .before .before .before .before .before .before .before .before .before)) (call (c .before .before .before .before .before .before .before .before .before .before .before .before .before)) (c .before .average-no .result) (verdict-own (asked (c .before .before .before .before .before .before .before .before .before .before .before .before .before)) (start (c .before .before .before .before .before .before .before .before .before .before .before .before .before)) (call (c .before .before .before .before .before .before .before .before .before .before .before .before .before)) y ∙ sym n) (c .if2 .taken) in (refused-answer (asked (c .before .before .before .before .before .before .before .before .before .before .before .before .before)) (start (c .before .before .before .before .before .before .before .before .before .before .before .before .before)) (call (c .before .before .before .before .before .before .before .before .before .before .before .before .before)) (c .before .average-no .result) (verdict-own (asked (c .before .before .before .before .before .before .before .before .before .before .before .before .before)) (start (c .before .before .before .before .before .before .before .before .before .before .before .before .before)) (call (c .before .before .before .before .before .before .before .before .before .before .before .before .before)) y ∙ sym n) (c .if2 .taken), (ap (λ (x : Sheet). x .weights) rs, (ap (λ (x : Sheet). x .flags) rs, ap (λ (x : Sheet). x .marks) rs)))
+    let y : firstNo (commonOf (asked (c .before .before .before .before .before .before .before .before .before .before .before .before .before)) (start (c .before .before .before .before .before .before .before .before .before .before .before .before .before)) (call (c .before .before .before .before .before .before .before .before .before .before .before .before .before))) ≡ 0 = sym (c .before .before .before .before .before .before .common-no .ensures) ∙ c .before .before .before .before .before .if1 .left in let zs : c .before .before .before .before .sizes-of .result ≡ countsOf (asked (c .before .before .before .before .before .before .before .before .before .before .before .before .before)) = c .before .before .before .before .sizes-of .ensures ∙ sizes-same (asked (c .before .before .before .before .before .before .before .before .before .before .before .before .before)) in let n : c .before .average-no .result ≡ firstNo (averageQuestions (countsOf (asked (c .before .before .before .before .before .before .before .before .before .before .before .before .before))) (c .before .before .before .before .before .before .before .before .before .before .before .before .before .args .weights .now) (c .before .before .before .before .before .before .before .before .before .before .before .before .before .args .marks .now) (c .before .before .before .before .before .before .before .before .before .before .before .before .before .args .triplet) (c .before .before .before .before .before .before .before .before .before .before .before .before .before .args .degenerate-ids1 .now) (c .before .before .before .before .before .before .before .before .before .before .before .before .before .args .degenerate-ids2 .now)) = rw (zs, toZ-ofZ w64 (c .before .before .before .before .before .before .before .before .before .before .before .before .before .args .triplet) (c .before .before .before .before .before .before .before .before .before .before .before .before .before .fits .triplet)) at (c .before .average-no .ensures) in refused-call (asked (c .before .before .before .before .before .before .before .before .before .before .before .before .before)) (start (c .before .before .before .before .before .before .before .before .before .before .before .before .before)) (call (c .before .before .before .before .before .before .before .before .before .before .before .before .before)) (c .before .average-no .result) (verdict-own (asked (c .before .before .before .before .before .before .before .before .before .before .before .before .before)) (start (c .before .before .before .before .before .before .before .before .before .before .before .before .before)) (call (c .before .before .before .before .before .before .before .before .before .before .before .before .before)) y ∙ sym n) (c .if2 .taken)
 
 magnitude-requires : tie.Need-magnitude-requires
 magnitude-requires c κs =
@@ -88,7 +88,7 @@ same-length-6 c =
 returns-3 : tie.Need-returns-3
 unfolding effect
 returns-3 c =
-    let y : firstNo (commonOf (asked (c .before .before .before .before .before .before .before .before .before .before .before .before .before .before .before .before .before .before .before .before .before .before .before .before .before)) (start (c .before .before .before .before .before .before .before .before .before .before .before .before .before .before .before .before .before .before .before .before .before .before .before .before .before)) (call (c .before .before .before .before .before .before .before .before .before .before .before .before .before .before .before .before .before .before .before .before .before .before .before .before .before))) ≡ 0 = sym (c .before .before .before .before .before .before .before .before .before .before .before .before .before .before .before .before .before .before .common-no .ensures) ∙ c .before .before .before .before .before .before .before .before .before .before .before .before .before .before .before .before .before .if1 .left in let zs : c .before .before .before .before .before .before .before .before .before .before .before .before .before .before .before .before .sizes-of .result ≡ countsOf (asked (c .before .before .before .before .before .before .before .before .before .before .before .before .before .before .before .before .before .before .before .before .before .before .before .before .before)) = c .before .before .before .before .before .before .before .before .before .before .before .before .before .before .before .before .sizes-of .ensures ∙ sizes-same (asked (c .before .before .before .before .before .before .before .before .before .before .before .before .before .before .before .before .before .before .before .before .before .before .before .before .before)) in let n : c .before .before .before .before .before .before .before .before .before .before .before .before .before .average-no .result ≡ firstNo (averageQuestions (countsOf (asked (c .before .before .before .before .before .before .before .before .before .before .before .before .before .before .before .before .before .before .before .before .before .before .before .before .before))) (c .before .before .before .before .before .before .before .before .before .before .before .before .before .before .before .before .before .before .before .before .before .before .before .before .before .args .weights .now) (c .before .before .before .before .before .before .before .before .before .before .before .before .before .before .before .before .before .before .before .before .before .before .before .before .before .args .marks .now) (c .before .before .before .before .before .before .before .before .before .before .before .before .before .before .before .before .before .before .before .before .before .before .before .before .before .args .triplet) (c .before .before .before .before .before .before .before .before .before .before .before .before .before .before .before .before .before .before .before .before .before .before .before .before .before .args .degenerate-ids1 .now) (c .before .before .before .before .before .before .before .before .before .before .before .before .before .before .before .before .before .before .before .before .before .before .before .before .before .args .degenerate-ids2 .now)) = rw (zs, toZ-ofZ w64 (c .before .before .before .before .before .before .before .before .before .before .before .before .before .before .before .before .before .before .before .before .before .before .before .before .before .args .triplet) (c .before .before .before .before .before .before .before .before .before .before .before .before .before .before .before .before .before .before .before .before .before .before .before .before .before .fits .triplet)) at (c .before .before .before .before .before .before .before .before .before .before .before .before .before .average-no .ensures) in let az : firstNo (averageQuestions (countsOf (asked (c .before .before .before .before .before .before .before .before .before .before .before .before .before .before .before .before .before .before .before .before .before .before .before .before .before))) (c .before .before .before .before .before .before .before .before .before .before .before .before .before .before .before .before .before .before .before .before .before .before .before .before .before .args .weights .now) (c .before .before .before .before .before .before .before .before .before .before .before .before .before .before .before .before .before .before .before .before .before .before .before .before .before .args .marks .now) (c .before .before .before .before .before .before .before .before .before .before .before .before .before .before .before .before .before .before .before .before .before .before .before .before .before .args .triplet) (c .before .before .before .before .before .before .before .before .before .before .before .before .before .before .before .before .before .before .before .before .before .before .before .before .before .args .degenerate-ids1 .now) (c .before .before .before .before .before .before .before .before .before .before .before .before .before .before .before .before .before .before .before .before .before .before .before .before .before .args .degenerate-ids2 .now)) ≡ 0 = sym n ∙ c .before .before .before .before .before .before .before .before .before .before .before .before .if2 .left in let nm : _ = average-named (countsOf (asked (c .before .before .before .before .before .before .before .before .before .before .before .before .before .before .before .before .before .before .before .before .before .before .before .before .before))) (c .before .before .before .before .before .before .before .before .before .before .before .before .before .before .before .before .before .before .before .before .before .before .before .before .before .args .weights .now) (c .before .before .before .before .before .before .before .before .before .before .before .before .before .before .before .before .before .before .before .before .before .before .before .before .before .args .marks .now) (c .before .before .before .before .before .before .before .before .before .before .before .before .before .before .before .before .before .before .before .before .before .before .before .before .before .args .triplet) (c .before .before .before .before .before .before .before .before .before .before .before .before .before .before .before .before .before .before .before .before .before .before .before .before .before .args .degenerate-ids1 .now) (c .before .before .before .before .before .before .before .before .before .before .before .before .before .before .before .before .before .before .before .before .before .before .before .before .before .args .degenerate-ids2 .now) az in let m0 : c .before .before .before .before .before .before .before .before .before .before .before .magnitude .result ≡ mag (c .before .before .before .before .before .before .before .before .before .before .before .before .before .before .before .before .before .before .before .before .before .before .before .before .before .args .triplet) = c .before .before .before .before .before .before .before .before .before .before .before .magnitude .ensures ∙ ap mag (toZ-ofZ w64 (c .before .before .before .before .before .before .before .before .before .before .before .before .before .before .before .before .before .before .before .before .before .before .before .before .before .args .triplet) (c .before .before .before .before .before .before .before .before .before .before .before .before .before .before .before .before .before .before .before .before .before .before .before .before .before .fits .triplet)) in let fw : _ ≡ tripletAveraged (countsOf (asked (c .before .before .before .before .before .before .before .before .before .before .before .before .before .before .before .before .before .before .before .before .before .before .before .before .before))) (mag (c .before .before .before .before .before .before .before .before .before .before .before .before .before .before .before .before .before .before .before .before .before .before .before .before .before .args .triplet)) (c .before .before .before .before .before .before .before .before .before .before .before .before .before .before .before .before .before .before .before .before .before .before .before .before .before .args .degenerate-ids1 .now) (c .before .before .before .before .before .before .before .before .before .before .before .before .before .before .before .before .before .before .before .before .before .before .before .before .before .args .degenerate-ids2 .now) (c .before .before .before .before .before .before .before .before .before .before .before .before .before .before .before .before .before .before .before .before .before .before .before .before .before .args .weights .now) = c .before .before .before .before .before .before .before .before .before .average-weights .ensures ∙ (λ i. tripletAveraged (zs i) (m0 i) (c .before .before .before .before .before .before .before .before .before .before .before .before .before .before .before .before .before .before .before .before .before .before .before .before .before .args .degenerate-ids1 .now) (c .before .before .before .before .before .before .before .before .before .before .before .before .before .before .before .before .before .before .before .before .before .before .before .before .before .args .degenerate-ids2 .now) (c .before .before .before .before .before .before .before .before .before .before .before .before .before .before .before .before .before .before .before .before .before .before .before .before .before .args .weights .now)) in let ff : _ ≡ tripletFlagsAveraged (countsOf (asked (c .before .before .before .before .before .before .before .before .before .before .before .before .before .before .before .before .before .before .before .before .before .before .before .before .before))) (mag (c .before .before .before .before .before .before .before .before .before .before .before .before .before .before .before .before .before .before .before .before .before .before .before .before .before .args .triplet)) (c .before .before .before .before .before .before .before .before .before .before .before .before .before .before .before .before .before .before .before .before .before .before .before .before .before .args .degenerate-ids1 .now) (c .before .before .before .before .before .before .before .before .before .before .before .before .before .before .before .before .before .before .before .before .before .before .before .before .before .args .degenerate-ids2 .now) (c .before .before .before .before .before .before .before .before .before .before .before .before .before .before .before .before .before .before .before .before .before .before .before .before .before .args .flags .now) = c .before .before .before .before .before .average-flags .ensures ∙ (λ i. tripletFlagsAveraged (zs i) (m0 i) (c .before .before .before .before .before .before .before .before .before .before .before .before .before .before .before .before .before .before .before .before .before .before .before .before .before .args .degenerate-ids1 .now) (c .before .before .before .before .before .before .before .before .before .before .before .before .before .before .before .before .before .before .before .before .before .before .before .before .before .args .degenerate-ids2 .now) (c .before .before .before .before .before .before .before .before .before .before .before .before .before .before .before .before .before .before .before .before .before .before .before .before .before .args .flags .now)) in let fm : _ ≡ averagedMarks (countsOf (asked (c .before .before .before .before .before .before .before .before .before .before .before .before .before .before .before .before .before .before .before .before .before .before .before .before .before)) .pairs) (mag (c .before .before .before .before .before .before .before .before .before .before .before .before .before .before .before .before .before .before .before .before .before .before .before .before .before .args .triplet)) (c .before .before .before .before .before .before .before .before .before .before .before .before .before .before .before .before .before .before .before .before .before .before .before .before .before .args .marks .now) = c .before .before .average-marks .ensures ∙ (λ i. averagedMarks (zs i .pairs) (m0 i) (c .before .before .before .before .before .before .before .before .before .before .before .before .before .before .before .before .before .before .before .before .before .before .before .before .before .args .marks .now)) in let v : verdict (asked (c .before .before .before .before .before .before .before .before .before .before .before .before .before .before .before .before .before .before .before .before .before .before .before .before .before)) (start (c .before .before .before .before .before .before .before .before .before .before .before .before .before .before .before .before .before .before .before .before .before .before .before .before .before)) (call (c .before .before .before .before .before .before .before .before .before .before .before .before .before .before .before .before .before .before .before .before .before .before .before .before .before)) ≡ 0 = verdict-own (asked (c .before .before .before .before .before .before .before .before .before .before .before .before .before .before .before .before .before .before .before .before .before .before .before .before .before)) (start (c .before .before .before .before .before .before .before .before .before .before .before .before .before .before .before .before .before .before .before .before .before .before .before .before .before)) (call (c .before .before .before .before .before .before .before .before .before .before .before .before .before .before .before .before .before .before .before .before .before .before .before .before .before)) y ∙ az in let ds : effect (asked (c .before .before .before .before .before .before .before .before .before .before .before .before .before .before .before .before .before .before .before .before .before .before .before .before .before)) (start (c .before .before .before .before .before .before .before .before .before .before .before .before .before .before .before .before .before .before .before .before .before .before .before .before .before)) (call (c .before .before .before .before .before .before .before .before .before .before .before .before .before .before .before .before .before .before .before .before .before .before .before .before .before)) ≡ step (asked (c .before .before .before .before .before .before .before .before .before .before .before .before .before .before .before .before .before .before .before .before .before .before .before .before .before)) (start (c .before .before .before .before .before .before .before .before .before .before .before .before .before .before .before .before .before .before .before .before .before .before .before .before .before)) (call (c .before .before .before .before .before .before .before .before .before .before .before .before .before .before .before .before .before .before .before .before .before .before .before .before .before)) = done-sheet (asked (c .before .before .before .before .before .before .before .before .before .before .before .before .before .before .before .before .before .before .before .before .before .before .before .before .before)) (start (c .before .before .before .before .before .before .before .before .before .before .before .before .before .before .before .before .before .before .before .before .before .before .before .before .before)) (call (c .before .before .before .before .before .before .before .before .before .before .before .before .before .before .before .before .before .before .before .before .before .before .before .before .before)) v in (done-answer (asked (c .before .before .before .before .before .before .before .before .before .before .before .before .before .before .before .before .before .before .before .before .before .before .before .before .before)) (start (c .before .before .before .before .before .before .before .before .before .before .before .before .before .before .before .before .before .before .before .before .before .before .before .before .before)) (call (c .before .before .before .before .before .before .before .before .before .before .before .before .before .before .before .before .before .before .before .before .before .before .before .before .before)) (c .before .before .before .before .before .before .before .before .before .before .before .before .before .before .before .before .before .before .before .before .before .before .before .before .before .args .tally) v refl, (fw ∙ ap (λ (x : Sheet). x .weights) ds, (ff ∙ ap (λ (x : Sheet). x .flags) ds, fm ∙ ap (λ (x : Sheet). x .marks) ds)))
+    let y : firstNo (commonOf (asked (c .before .before .before .before .before .before .before .before .before .before .before .before .before .before .before .before .before .before .before .before .before .before .before .before .before)) (start (c .before .before .before .before .before .before .before .before .before .before .before .before .before .before .before .before .before .before .before .before .before .before .before .before .before)) (call (c .before .before .before .before .before .before .before .before .before .before .before .before .before .before .before .before .before .before .before .before .before .before .before .before .before))) ≡ 0 = sym (c .before .before .before .before .before .before .before .before .before .before .before .before .before .before .before .before .before .before .common-no .ensures) ∙ c .before .before .before .before .before .before .before .before .before .before .before .before .before .before .before .before .before .if1 .left in let zs : c .before .before .before .before .before .before .before .before .before .before .before .before .before .before .before .before .sizes-of .result ≡ countsOf (asked (c .before .before .before .before .before .before .before .before .before .before .before .before .before .before .before .before .before .before .before .before .before .before .before .before .before)) = c .before .before .before .before .before .before .before .before .before .before .before .before .before .before .before .before .sizes-of .ensures ∙ sizes-same (asked (c .before .before .before .before .before .before .before .before .before .before .before .before .before .before .before .before .before .before .before .before .before .before .before .before .before)) in let n : c .before .before .before .before .before .before .before .before .before .before .before .before .before .average-no .result ≡ firstNo (averageQuestions (countsOf (asked (c .before .before .before .before .before .before .before .before .before .before .before .before .before .before .before .before .before .before .before .before .before .before .before .before .before))) (c .before .before .before .before .before .before .before .before .before .before .before .before .before .before .before .before .before .before .before .before .before .before .before .before .before .args .weights .now) (c .before .before .before .before .before .before .before .before .before .before .before .before .before .before .before .before .before .before .before .before .before .before .before .before .before .args .marks .now) (c .before .before .before .before .before .before .before .before .before .before .before .before .before .before .before .before .before .before .before .before .before .before .before .before .before .args .triplet) (c .before .before .before .before .before .before .before .before .before .before .before .before .before .before .before .before .before .before .before .before .before .before .before .before .before .args .degenerate-ids1 .now) (c .before .before .before .before .before .before .before .before .before .before .before .before .before .before .before .before .before .before .before .before .before .before .before .before .before .args .degenerate-ids2 .now)) = rw (zs, toZ-ofZ w64 (c .before .before .before .before .before .before .before .before .before .before .before .before .before .before .before .before .before .before .before .before .before .before .before .before .before .args .triplet) (c .before .before .before .before .before .before .before .before .before .before .before .before .before .before .before .before .before .before .before .before .before .before .before .before .before .fits .triplet)) at (c .before .before .before .before .before .before .before .before .before .before .before .before .before .average-no .ensures) in let az : firstNo (averageQuestions (countsOf (asked (c .before .before .before .before .before .before .before .before .before .before .before .before .before .before .before .before .before .before .before .before .before .before .before .before .before))) (c .before .before .before .before .before .before .before .before .before .before .before .before .before .before .before .before .before .before .before .before .before .before .before .before .before .args .weights .now) (c .before .before .before .before .before .before .before .before .before .before .before .before .before .before .before .before .before .before .before .before .before .before .before .before .before .args .marks .now) (c .before .before .before .before .before .before .before .before .before .before .before .before .before .before .before .before .before .before .before .before .before .before .before .before .before .args .triplet) (c .before .before .before .before .before .before .before .before .before .before .before .before .before .before .before .before .before .before .before .before .before .before .before .before .before .args .degenerate-ids1 .now) (c .before .before .before .before .before .before .before .before .before .before .before .before .before .before .before .before .before .before .before .before .before .before .before .before .before .args .degenerate-ids2 .now)) ≡ 0 = sym n ∙ c .before .before .before .before .before .before .before .before .before .before .before .before .if2 .left in let nm : _ = average-named (countsOf (asked (c .before .before .before .before .before .before .before .before .before .before .before .before .before .before .before .before .before .before .before .before .before .before .before .before .before))) (c .before .before .before .before .before .before .before .before .before .before .before .before .before .before .before .before .before .before .before .before .before .before .before .before .before .args .weights .now) (c .before .before .before .before .before .before .before .before .before .before .before .before .before .before .before .before .before .before .before .before .before .before .before .before .before .args .marks .now) (c .before .before .before .before .before .before .before .before .before .before .before .before .before .before .before .before .before .before .before .before .before .before .before .before .before .args .triplet) (c .before .before .before .before .before .before .before .before .before .before .before .before .before .before .before .before .before .before .before .before .before .before .before .before .before .args .degenerate-ids1 .now) (c .before .before .before .before .before .before .before .before .before .before .before .before .before .before .before .before .before .before .before .before .before .before .before .before .before .args .degenerate-ids2 .now) az in let m0 : c .before .before .before .before .before .before .before .before .before .before .before .magnitude .result ≡ mag (c .before .before .before .before .before .before .before .before .before .before .before .before .before .before .before .before .before .before .before .before .before .before .before .before .before .args .triplet) = c .before .before .before .before .before .before .before .before .before .before .before .magnitude .ensures ∙ ap mag (toZ-ofZ w64 (c .before .before .before .before .before .before .before .before .before .before .before .before .before .before .before .before .before .before .before .before .before .before .before .before .before .args .triplet) (c .before .before .before .before .before .before .before .before .before .before .before .before .before .before .before .before .before .before .before .before .before .before .before .before .before .fits .triplet)) in let fw : _ ≡ tripletAveraged (countsOf (asked (c .before .before .before .before .before .before .before .before .before .before .before .before .before .before .before .before .before .before .before .before .before .before .before .before .before))) (mag (c .before .before .before .before .before .before .before .before .before .before .before .before .before .before .before .before .before .before .before .before .before .before .before .before .before .args .triplet)) (c .before .before .before .before .before .before .before .before .before .before .before .before .before .before .before .before .before .before .before .before .before .before .before .before .before .args .degenerate-ids1 .now) (c .before .before .before .before .before .before .before .before .before .before .before .before .before .before .before .before .before .before .before .before .before .before .before .before .before .args .degenerate-ids2 .now) (c .before .before .before .before .before .before .before .before .before .before .before .before .before .before .before .before .before .before .before .before .before .before .before .before .before .args .weights .now) = c .before .before .before .before .before .before .before .before .before .average-weights .ensures ∙ (λ i. tripletAveraged (zs i) (m0 i) (c .before .before .before .before .before .before .before .before .before .before .before .before .before .before .before .before .before .before .before .before .before .before .before .before .before .args .degenerate-ids1 .now) (c .before .before .before .before .before .before .before .before .before .before .before .before .before .before .before .before .before .before .before .before .before .before .before .before .before .args .degenerate-ids2 .now) (c .before .before .before .before .before .before .before .before .before .before .before .before .before .before .before .before .before .before .before .before .before .before .before .before .before .args .weights .now)) in let ff : _ ≡ tripletFlagsAveraged (countsOf (asked (c .before .before .before .before .before .before .before .before .before .before .before .before .before .before .before .before .before .before .before .before .before .before .before .before .before))) (mag (c .before .before .before .before .before .before .before .before .before .before .before .before .before .before .before .before .before .before .before .before .before .before .before .before .before .args .triplet)) (c .before .before .before .before .before .before .before .before .before .before .before .before .before .before .before .before .before .before .before .before .before .before .before .before .before .args .degenerate-ids1 .now) (c .before .before .before .before .before .before .before .before .before .before .before .before .before .before .before .before .before .before .before .before .before .before .before .before .before .args .degenerate-ids2 .now) (c .before .before .before .before .before .before .before .before .before .before .before .before .before .before .before .before .before .before .before .before .before .before .before .before .before .args .flags .now) = c .before .before .before .before .before .average-flags .ensures ∙ (λ i. tripletFlagsAveraged (zs i) (m0 i) (c .before .before .before .before .before .before .before .before .before .before .before .before .before .before .before .before .before .before .before .before .before .before .before .before .before .args .degenerate-ids1 .now) (c .before .before .before .before .before .before .before .before .before .before .before .before .before .before .before .before .before .before .before .before .before .before .before .before .before .args .degenerate-ids2 .now) (c .before .before .before .before .before .before .before .before .before .before .before .before .before .before .before .before .before .before .before .before .before .before .before .before .before .args .flags .now)) in let fm : _ ≡ averagedMarks (countsOf (asked (c .before .before .before .before .before .before .before .before .before .before .before .before .before .before .before .before .before .before .before .before .before .before .before .before .before)) .pairs) (mag (c .before .before .before .before .before .before .before .before .before .before .before .before .before .before .before .before .before .before .before .before .before .before .before .before .before .args .triplet)) (c .before .before .before .before .before .before .before .before .before .before .before .before .before .before .before .before .before .before .before .before .before .before .before .before .before .args .marks .now) = c .before .before .average-marks .ensures ∙ (λ i. averagedMarks (zs i .pairs) (m0 i) (c .before .before .before .before .before .before .before .before .before .before .before .before .before .before .before .before .before .before .before .before .before .before .before .before .before .args .marks .now)) in let v : verdict (asked (c .before .before .before .before .before .before .before .before .before .before .before .before .before .before .before .before .before .before .before .before .before .before .before .before .before)) (start (c .before .before .before .before .before .before .before .before .before .before .before .before .before .before .before .before .before .before .before .before .before .before .before .before .before)) (call (c .before .before .before .before .before .before .before .before .before .before .before .before .before .before .before .before .before .before .before .before .before .before .before .before .before)) ≡ 0 = verdict-own (asked (c .before .before .before .before .before .before .before .before .before .before .before .before .before .before .before .before .before .before .before .before .before .before .before .before .before)) (start (c .before .before .before .before .before .before .before .before .before .before .before .before .before .before .before .before .before .before .before .before .before .before .before .before .before)) (call (c .before .before .before .before .before .before .before .before .before .before .before .before .before .before .before .before .before .before .before .before .before .before .before .before .before)) y ∙ az in done-call (asked (c .before .before .before .before .before .before .before .before .before .before .before .before .before .before .before .before .before .before .before .before .before .before .before .before .before)) (start (c .before .before .before .before .before .before .before .before .before .before .before .before .before .before .before .before .before .before .before .before .before .before .before .before .before)) (call (c .before .before .before .before .before .before .before .before .before .before .before .before .before .before .before .before .before .before .before .before .before .before .before .before .before)) (c .before .before .before .before .before .before .before .before .before .before .before .before .before .before .before .before .before .before .before .before .before .before .before .before .before .args .tally) _ _ _ v refl fw ff fm
 
 pub average-triplet-spec : {M : Type 1} → statement M
 average-triplet-spec =

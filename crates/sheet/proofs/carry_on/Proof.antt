@@ -8,9 +8,9 @@ use Rattle.list_laws.proofs.SignedLaws.{back}
 use Rattle.list_laws.specs.Lists.{at}
 use Rattle.questions.specs.Ask.{firstNo}
 use Rattle.sheet_marks.specs.Tallies.{addedTo}
-use Rattle.sheet_step.proofs.StepLaws.{commonOf, counts-yes, done-answer, done-sheet, given-yes, lengths-yes, no-room, refused-answer, refused-sheet, room, verdict-common, verdict-own}
+use Rattle.sheet_step.proofs.StepLaws.{common-refused, commonOf, counts-yes, done-call, given-yes, lengths-yes, no-room, refused-call, room, verdict-own}
 use Rattle.sheet_step.specs.Marks.{isOpenAt, openPieces}
-use Rattle.sheet_step.specs.Steps.{Call, Counted, Sheet, countsOf, effect, sheet, step, verdict}
+use Rattle.sheet_step.specs.Steps.{Call, Counted, Sheet, countsOf, effect, sheet, verdict}
 use Rattle.sheet.proofs.EntryLaws.{length-carried, ready-made, study-made}
 use Rattle.triplet_channels.specs.Types.{tpTypeOf}
 use Rattle.triplet_piece.proofs.StudyLaws.{length-computed, length-computed-flags}
@@ -40,7 +40,7 @@ same-length c = search needs
 
 returns : tie.Need-returns
 returns c =
-    let rs : (start (c .before .before .before .before .before .before .before .before)) ≡ step (asked (c .before .before .before .before .before .before .before .before)) (start (c .before .before .before .before .before .before .before .before)) (call (c .before .before .before .before .before .before .before .before)) = refused-sheet (asked (c .before .before .before .before .before .before .before .before)) (start (c .before .before .before .before .before .before .before .before)) (call (c .before .before .before .before .before .before .before .before)) (c .before .common-no .result) (verdict-common (asked (c .before .before .before .before .before .before .before .before)) (start (c .before .before .before .before .before .before .before .before)) (call (c .before .before .before .before .before .before .before .before)) (λ z. c .if1 .taken (c .before .common-no .ensures ∙ z)) ∙ sym (c .before .common-no .ensures)) (c .if1 .taken) in (refused-answer (asked (c .before .before .before .before .before .before .before .before)) (start (c .before .before .before .before .before .before .before .before)) (call (c .before .before .before .before .before .before .before .before)) (c .before .common-no .result) (verdict-common (asked (c .before .before .before .before .before .before .before .before)) (start (c .before .before .before .before .before .before .before .before)) (call (c .before .before .before .before .before .before .before .before)) (λ z. c .if1 .taken (c .before .common-no .ensures ∙ z)) ∙ sym (c .before .common-no .ensures)) (c .if1 .taken), (ap (λ (x : Sheet). x .weights) rs, (ap (λ (x : Sheet). x .flags) rs, ap (λ (x : Sheet). x .marks) rs)))
+    common-refused (asked (c .before .before .before .before .before .before .before .before)) (start (c .before .before .before .before .before .before .before .before)) (call (c .before .before .before .before .before .before .before .before)) (c .before .common-no .result) (c .before .common-no .ensures) (c .if1 .taken)
 
 sizes-of-requires : tie.Need-sizes-of-requires
 sizes-of-requires c κs =
@@ -67,7 +67,7 @@ same-length-2 c = search needs
 
 returns-2 : tie.Need-returns-2
 returns-2 c =
-    let y : firstNo (commonOf (asked (c .before .before .before .before .before .before .before .before .before .before .before .before .before .before)) (start (c .before .before .before .before .before .before .before .before .before .before .before .before .before .before)) (call (c .before .before .before .before .before .before .before .before .before .before .before .before .before .before))) ≡ 0 = sym (c .before .before .before .before .before .before .before .common-no .ensures) ∙ c .before .before .before .before .before .before .if1 .left in let op : c .before .before .before .open-pieces .result ≡ openPieces (c .before .before .before .before .before .before .before .before .before .before .before .before .before .before .args .marks .now) = c .before .before .before .open-pieces .ensures in let rs : (start (c .before .before .before .before .before .before .before .before .before .before .before .before .before .before)) ≡ step (asked (c .before .before .before .before .before .before .before .before .before .before .before .before .before .before)) (start (c .before .before .before .before .before .before .before .before .before .before .before .before .before .before)) (call (c .before .before .before .before .before .before .before .before .before .before .before .before .before .before)) = refused-sheet (asked (c .before .before .before .before .before .before .before .before .before .before .before .before .before .before)) (start (c .before .before .before .before .before .before .before .before .before .before .before .before .before .before)) (call (c .before .before .before .before .before .before .before .before .before .before .before .before .before .before)) (20) (verdict-own (asked (c .before .before .before .before .before .before .before .before .before .before .before .before .before .before)) (start (c .before .before .before .before .before .before .before .before .before .before .before .before .before .before)) (call (c .before .before .before .before .before .before .before .before .before .before .before .before .before .before)) y ∙ no-room (c .before .before .before .before .before .before .before .before .before .before .before .before .before .before .args .tally .runs) (openPieces (c .before .before .before .before .before .before .before .before .before .before .before .before .before .before .args .marks .now)) _ (sym (c .enum-told .given .1) ∙ c .before .before .add .ensures ∙ ap (addedTo (c .before .before .before .before .before .before .before .before .before .before .before .before .before .before .args .tally .runs)) op)) (λ e. omega arith) in (refused-answer (asked (c .before .before .before .before .before .before .before .before .before .before .before .before .before .before)) (start (c .before .before .before .before .before .before .before .before .before .before .before .before .before .before)) (call (c .before .before .before .before .before .before .before .before .before .before .before .before .before .before)) (20) (verdict-own (asked (c .before .before .before .before .before .before .before .before .before .before .before .before .before .before)) (start (c .before .before .before .before .before .before .before .before .before .before .before .before .before .before)) (call (c .before .before .before .before .before .before .before .before .before .before .before .before .before .before)) y ∙ no-room (c .before .before .before .before .before .before .before .before .before .before .before .before .before .before .args .tally .runs) (openPieces (c .before .before .before .before .before .before .before .before .before .before .before .before .before .before .args .marks .now)) _ (sym (c .enum-told .given .1) ∙ c .before .before .add .ensures ∙ ap (addedTo (c .before .before .before .before .before .before .before .before .before .before .before .before .before .before .args .tally .runs)) op)) (λ e. omega arith), (ap (λ (x : Sheet). x .weights) rs, (ap (λ (x : Sheet). x .flags) rs, ap (λ (x : Sheet). x .marks) rs)))
+    let y : firstNo (commonOf (asked (c .before .before .before .before .before .before .before .before .before .before .before .before .before .before)) (start (c .before .before .before .before .before .before .before .before .before .before .before .before .before .before)) (call (c .before .before .before .before .before .before .before .before .before .before .before .before .before .before))) ≡ 0 = sym (c .before .before .before .before .before .before .before .common-no .ensures) ∙ c .before .before .before .before .before .before .if1 .left in let op : c .before .before .before .open-pieces .result ≡ openPieces (c .before .before .before .before .before .before .before .before .before .before .before .before .before .before .args .marks .now) = c .before .before .before .open-pieces .ensures in refused-call (asked (c .before .before .before .before .before .before .before .before .before .before .before .before .before .before)) (start (c .before .before .before .before .before .before .before .before .before .before .before .before .before .before)) (call (c .before .before .before .before .before .before .before .before .before .before .before .before .before .before)) (20) (verdict-own (asked (c .before .before .before .before .before .before .before .before .before .before .before .before .before .before)) (start (c .before .before .before .before .before .before .before .before .before .before .before .before .before .before)) (call (c .before .before .before .before .before .before .before .before .before .before .before .before .before .before)) y ∙ no-room (c .before .before .before .before .before .before .before .before .before .before .before .before .before .before .args .tally .runs) (openPieces (c .before .before .before .before .before .before .before .before .before .before .before .before .before .before .args .marks .now)) _ (sym (c .enum-told .given .1) ∙ c .before .before .add .ensures ∙ ap (addedTo (c .before .before .before .before .before .before .before .before .before .before .before .before .before .before .args .tally .runs)) op)) (λ e. omega arith)
 
 tp-type-of-requires : tie.Need-tp-type-of-requires
 tp-type-of-requires c κs =
@@ -96,7 +96,7 @@ same-length-5 c =
 returns-3 : tie.Need-returns-3
 unfolding effect
 returns-3 c =
-    let y : firstNo (commonOf (asked (c .before .before .before .before .before .before .before .before .before .before .before .before .before .before .before .before .before .before .before .before .before .before .before .before .before .before .before .before .before)) (start (c .before .before .before .before .before .before .before .before .before .before .before .before .before .before .before .before .before .before .before .before .before .before .before .before .before .before .before .before .before)) (call (c .before .before .before .before .before .before .before .before .before .before .before .before .before .before .before .before .before .before .before .before .before .before .before .before .before .before .before .before .before))) ≡ 0 = sym (c .before .before .before .before .before .before .before .before .before .before .before .before .before .before .before .before .before .before .before .before .before .before .common-no .ensures) ∙ c .before .before .before .before .before .before .before .before .before .before .before .before .before .before .before .before .before .before .before .before .before .if1 .left in let zs : c .before .before .before .before .before .before .before .before .before .before .before .before .before .before .before .before .before .before .before .before .sizes-of .result ≡ countsOf (asked (c .before .before .before .before .before .before .before .before .before .before .before .before .before .before .before .before .before .before .before .before .before .before .before .before .before .before .before .before .before)) = c .before .before .before .before .before .before .before .before .before .before .before .before .before .before .before .before .before .before .before .before .sizes-of .ensures ∙ sizes-same (asked (c .before .before .before .before .before .before .before .before .before .before .before .before .before .before .before .before .before .before .before .before .before .before .before .before .before .before .before .before .before)) in let l : _ = lengths-yes (asked (c .before .before .before .before .before .before .before .before .before .before .before .before .before .before .before .before .before .before .before .before .before .before .before .before .before .before .before .before .before)) (start (c .before .before .before .before .before .before .before .before .before .before .before .before .before .before .before .before .before .before .before .before .before .before .before .before .before .before .before .before .before)) (call (c .before .before .before .before .before .before .before .before .before .before .before .before .before .before .before .before .before .before .before .before .before .before .before .before .before .before .before .before .before)) y in let cy : Counted (countsOf (asked (c .before .before .before .before .before .before .before .before .before .before .before .before .before .before .before .before .before .before .before .before .before .before .before .before .before .before .before .before .before))) = counts-yes (asked (c .before .before .before .before .before .before .before .before .before .before .before .before .before .before .before .before .before .before .before .before .before .before .before .before .before .before .before .before .before)) (start (c .before .before .before .before .before .before .before .before .before .before .before .before .before .before .before .before .before .before .before .before .before .before .before .before .before .before .before .before .before)) (call (c .before .before .before .before .before .before .before .before .before .before .before .before .before .before .before .before .before .before .before .before .before .before .before .before .before .before .before .before .before)) y in let et : c .before .before .before .before .before .before .before .before .before .before .tp-type-of .result ≡ tpTypeOf (c .before .before .before .before .before .before .before .before .before .before .before .before .before .before .before .before .before .before .before .before .before .before .before .before .before .before .before .before .before .args .shape .«tp_type») = rw (back (c .before .before .before .before .before .before .before .before .before .before .before .before .before .before .before .before .before .before .before .before .before .before .before .before .before .before .before .before .before .args .shape .«tp_type») (c .before .before .before .before .before .before .before .before .before .before .before .before .before .struct-told .given .1 .1 .0 .1)) at (c .before .before .before .before .before .before .before .before .before .before .tp-type-of .ensures) in let eg : c .before .before .before .before .before .before .before .before .before .grid-of .result ≡ gridOf (c .before .before .before .before .before .before .before .before .before .before .before .before .before .before .before .before .before .before .before .before .before .before .before .before .before .before .before .before .before .args .shape .«bz_grid_type») (c .before .before .before .before .before .before .before .before .before .before .before .before .before .before .before .before .before .before .before .before .before .before .before .before .before .before .before .before .before .args .shape .«d_diag») = rw (back (c .before .before .before .before .before .before .before .before .before .before .before .before .before .before .before .before .before .before .before .before .before .before .before .before .before .before .before .before .before .args .shape .«bz_grid_type») (c .before .before .before .before .before .before .before .before .before .before .before .before .struct-told2 .given .0 .1)) at (c .before .before .before .before .before .before .before .before .before .grid-of .ensures) in let sm : _ = study-made (asked (c .before .before .before .before .before .before .before .before .before .before .before .before .before .before .before .before .before .before .before .before .before .before .before .before .before .before .before .before .before)) (c .before .before .before .before .before .before .before .before .before .before .before .before .before .before .before .before .before .before .before .before .sizes-of .result) (c .before .before .before .before .before .before .before .before .before .before .tp-type-of .result) (c .before .before .before .before .before .before .before .before .before .grid-of .result) zs et eg in let fw : _ ≡ computedWeights (studyOf (asked (c .before .before .before .before .before .before .before .before .before .before .before .before .before .before .before .before .before .before .before .before .before .before .before .before .before .before .before .before .before))) (isOpenAt (c .before .before .before .before .before .before .before .before .before .before .before .before .before .before .before .before .before .before .before .before .before .before .before .before .before .before .before .before .before .args .marks .now)) (c .before .before .before .before .before .before .before .before .before .before .before .before .before .before .before .before .before .before .before .before .before .before .before .before .before .before .before .before .before .args .weights .now) = c .before .before .before .before .before .fill-open .ensures .0 ∙ (λ i. computedWeights (sm i) (isOpenAt (c .before .before .before .before .before .before .before .before .before .before .before .before .before .before .before .before .before .before .before .before .before .before .before .before .before .before .before .before .before .args .marks .now)) (c .before .before .before .before .before .before .before .before .before .before .before .before .before .before .before .before .before .before .before .before .before .before .before .before .before .before .before .before .before .args .weights .now)) in let ff : _ ≡ computedFlags (studyOf (asked (c .before .before .before .before .before .before .before .before .before .before .before .before .before .before .before .before .before .before .before .before .before .before .before .before .before .before .before .before .before))) (isOpenAt (c .before .before .before .before .before .before .before .before .before .before .before .before .before .before .before .before .before .before .before .before .before .before .before .before .before .before .before .before .before .args .marks .now)) (c .before .before .before .before .before .before .before .before .before .before .before .before .before .before .before .before .before .before .before .before .before .before .before .before .before .before .before .before .before .args .flags .now) = c .before .before .before .before .before .fill-open .ensures .1 .0 ∙ (λ i. computedFlags (sm i) (isOpenAt (c .before .before .before .before .before .before .before .before .before .before .before .before .before .before .before .before .before .before .before .before .before .before .before .before .before .before .before .before .before .args .marks .now)) (c .before .before .before .before .before .before .before .before .before .before .before .before .before .before .before .before .before .before .before .before .before .before .before .before .before .before .before .before .before .args .flags .now)) in let op : c .before .before .before .before .before .before .before .before .before .before .before .before .before .before .before .before .before .before .open-pieces .result ≡ openPieces (c .before .before .before .before .before .before .before .before .before .before .before .before .before .before .before .before .before .before .before .before .before .before .before .before .before .before .before .before .before .args .marks .now) = c .before .before .before .before .before .before .before .before .before .before .before .before .before .before .before .before .before .before .open-pieces .ensures in let rm : _ = room (c .before .before .before .before .before .before .before .before .before .before .before .before .before .before .before .before .before .before .before .before .before .before .before .before .before .before .before .before .before .args .tally .runs) (openPieces (c .before .before .before .before .before .before .before .before .before .before .before .before .before .before .before .before .before .before .before .before .before .before .before .before .before .before .before .before .before .args .marks .now)) _ (sym (c .before .before .before .before .before .before .before .before .before .before .before .before .before .before .before .next .given .1) ∙ c .before .before .before .before .before .before .before .before .before .before .before .before .before .before .before .before .before .add .ensures ∙ ap (addedTo (c .before .before .before .before .before .before .before .before .before .before .before .before .before .before .before .before .before .before .before .before .before .before .before .before .before .before .before .before .before .args .tally .runs)) op) in let v : verdict (asked (c .before .before .before .before .before .before .before .before .before .before .before .before .before .before .before .before .before .before .before .before .before .before .before .before .before .before .before .before .before)) (start (c .before .before .before .before .before .before .before .before .before .before .before .before .before .before .before .before .before .before .before .before .before .before .before .before .before .before .before .before .before)) (call (c .before .before .before .before .before .before .before .before .before .before .before .before .before .before .before .before .before .before .before .before .before .before .before .before .before .before .before .before .before)) ≡ 0 = verdict-own (asked (c .before .before .before .before .before .before .before .before .before .before .before .before .before .before .before .before .before .before .before .before .before .before .before .before .before .before .before .before .before)) (start (c .before .before .before .before .before .before .before .before .before .before .before .before .before .before .before .before .before .before .before .before .before .before .before .before .before .before .before .before .before)) (call (c .before .before .before .before .before .before .before .before .before .before .before .before .before .before .before .before .before .before .before .before .before .before .before .before .before .before .before .before .before)) y ∙ rm .0 in let ds : effect (asked (c .before .before .before .before .before .before .before .before .before .before .before .before .before .before .before .before .before .before .before .before .before .before .before .before .before .before .before .before .before)) (start (c .before .before .before .before .before .before .before .before .before .before .before .before .before .before .before .before .before .before .before .before .before .before .before .before .before .before .before .before .before)) (call (c .before .before .before .before .before .before .before .before .before .before .before .before .before .before .before .before .before .before .before .before .before .before .before .before .before .before .before .before .before)) ≡ step (asked (c .before .before .before .before .before .before .before .before .before .before .before .before .before .before .before .before .before .before .before .before .before .before .before .before .before .before .before .before .before)) (start (c .before .before .before .before .before .before .before .before .before .before .before .before .before .before .before .before .before .before .before .before .before .before .before .before .before .before .before .before .before)) (call (c .before .before .before .before .before .before .before .before .before .before .before .before .before .before .before .before .before .before .before .before .before .before .before .before .before .before .before .before .before)) = done-sheet (asked (c .before .before .before .before .before .before .before .before .before .before .before .before .before .before .before .before .before .before .before .before .before .before .before .before .before .before .before .before .before)) (start (c .before .before .before .before .before .before .before .before .before .before .before .before .before .before .before .before .before .before .before .before .before .before .before .before .before .before .before .before .before)) (call (c .before .before .before .before .before .before .before .before .before .before .before .before .before .before .before .before .before .before .before .before .before .before .before .before .before .before .before .before .before)) v in (done-answer (asked (c .before .before .before .before .before .before .before .before .before .before .before .before .before .before .before .before .before .before .before .before .before .before .before .before .before .before .before .before .before)) (start (c .before .before .before .before .before .before .before .before .before .before .before .before .before .before .before .before .before .before .before .before .before .before .before .before .before .before .before .before .before)) (call (c .before .before .before .before .before .before .before .before .before .before .before .before .before .before .before .before .before .before .before .before .before .before .before .before .before .before .before .before .before)) _ v (rm .1), (fw ∙ ap (λ (x : Sheet). x .weights) ds, (ff ∙ ap (λ (x : Sheet). x .flags) ds, c .before .before .before .before .before .fill-open .ensures .1 .1 ∙ ap (λ (x : Sheet). x .marks) ds)))
+    let y : firstNo (commonOf (asked (c .before .before .before .before .before .before .before .before .before .before .before .before .before .before .before .before .before .before .before .before .before .before .before .before .before .before .before .before .before)) (start (c .before .before .before .before .before .before .before .before .before .before .before .before .before .before .before .before .before .before .before .before .before .before .before .before .before .before .before .before .before)) (call (c .before .before .before .before .before .before .before .before .before .before .before .before .before .before .before .before .before .before .before .before .before .before .before .before .before .before .before .before .before))) ≡ 0 = sym (c .before .before .before .before .before .before .before .before .before .before .before .before .before .before .before .before .before .before .before .before .before .before .common-no .ensures) ∙ c .before .before .before .before .before .before .before .before .before .before .before .before .before .before .before .before .before .before .before .before .before .if1 .left in let zs : c .before .before .before .before .before .before .before .before .before .before .before .before .before .before .before .before .before .before .before .before .sizes-of .result ≡ countsOf (asked (c .before .before .before .before .before .before .before .before .before .before .before .before .before .before .before .before .before .before .before .before .before .before .before .before .before .before .before .before .before)) = c .before .before .before .before .before .before .before .before .before .before .before .before .before .before .before .before .before .before .before .before .sizes-of .ensures ∙ sizes-same (asked (c .before .before .before .before .before .before .before .before .before .before .before .before .before .before .before .before .before .before .before .before .before .before .before .before .before .before .before .before .before)) in let l : _ = lengths-yes (asked (c .before .before .before .before .before .before .before .before .before .before .before .before .before .before .before .before .before .before .before .before .before .before .before .before .before .before .before .before .before)) (start (c .before .before .before .before .before .before .before .before .before .before .before .before .before .before .before .before .before .before .before .before .before .before .before .before .before .before .before .before .before)) (call (c .before .before .before .before .before .before .before .before .before .before .before .before .before .before .before .before .before .before .before .before .before .before .before .before .before .before .before .before .before)) y in let cy : Counted (countsOf (asked (c .before .before .before .before .before .before .before .before .before .before .before .before .before .before .before .before .before .before .before .before .before .before .before .before .before .before .before .before .before))) = counts-yes (asked (c .before .before .before .before .before .before .before .before .before .before .before .before .before .before .before .before .before .before .before .before .before .before .before .before .before .before .before .before .before)) (start (c .before .before .before .before .before .before .before .before .before .before .before .before .before .before .before .before .before .before .before .before .before .before .before .before .before .before .before .before .before)) (call (c .before .before .before .before .before .before .before .before .before .before .before .before .before .before .before .before .before .before .before .before .before .before .before .before .before .before .before .before .before)) y in let et : c .before .before .before .before .before .before .before .before .before .before .tp-type-of .result ≡ tpTypeOf (c .before .before .before .before .before .before .before .before .before .before .before .before .before .before .before .before .before .before .before .before .before .before .before .before .before .before .before .before .before .args .shape .«tp_type») = rw (back (c .before .before .before .before .before .before .before .before .before .before .before .before .before .before .before .before .before .before .before .before .before .before .before .before .before .before .before .before .before .args .shape .«tp_type») (c .before .before .before .before .before .before .before .before .before .before .before .before .before .struct-told .given .1 .1 .0 .1)) at (c .before .before .before .before .before .before .before .before .before .before .tp-type-of .ensures) in let eg : c .before .before .before .before .before .before .before .before .before .grid-of .result ≡ gridOf (c .before .before .before .before .before .before .before .before .before .before .before .before .before .before .before .before .before .before .before .before .before .before .before .before .before .before .before .before .before .args .shape .«bz_grid_type») (c .before .before .before .before .before .before .before .before .before .before .before .before .before .before .before .before .before .before .before .before .before .before .before .before .before .before .before .before .before .args .shape .«d_diag») = rw (back (c .before .before .before .before .before .before .before .before .before .before .before .before .before .before .before .before .before .before .before .before .before .before .before .before .before .before .before .before .before .args .shape .«bz_grid_type») (c .before .before .before .before .before .before .before .before .before .before .before .before .struct-told2 .given .0 .1)) at (c .before .before .before .before .before .before .before .before .before .grid-of .ensures) in let sm : _ = study-made (asked (c .before .before .before .before .before .before .before .before .before .before .before .before .before .before .before .before .before .before .before .before .before .before .before .before .before .before .before .before .before)) (c .before .before .before .before .before .before .before .before .before .before .before .before .before .before .before .before .before .before .before .before .sizes-of .result) (c .before .before .before .before .before .before .before .before .before .before .tp-type-of .result) (c .before .before .before .before .before .before .before .before .before .grid-of .result) zs et eg in let fw : _ ≡ computedWeights (studyOf (asked (c .before .before .before .before .before .before .before .before .before .before .before .before .before .before .before .before .before .before .before .before .before .before .before .before .before .before .before .before .before))) (isOpenAt (c .before .before .before .before .before .before .before .before .before .before .before .before .before .before .before .before .before .before .before .before .before .before .before .before .before .before .before .before .before .args .marks .now)) (c .before .before .before .before .before .before .before .before .before .before .before .before .before .before .before .before .before .before .before .before .before .before .before .before .before .before .before .before .before .args .weights .now) = c .before .before .before .before .before .fill-open .ensures .0 ∙ (λ i. computedWeights (sm i) (isOpenAt (c .before .before .before .before .before .before .before .before .before .before .before .before .before .before .before .before .before .before .before .before .before .before .before .before .before .before .before .before .before .args .marks .now)) (c .before .before .before .before .before .before .before .before .before .before .before .before .before .before .before .before .before .before .before .before .before .before .before .before .before .before .before .before .before .args .weights .now)) in let ff : _ ≡ computedFlags (studyOf (asked (c .before .before .before .before .before .before .before .before .before .before .before .before .before .before .before .before .before .before .before .before .before .before .before .before .before .before .before .before .before))) (isOpenAt (c .before .before .before .before .before .before .before .before .before .before .before .before .before .before .before .before .before .before .before .before .before .before .before .before .before .before .before .before .before .args .marks .now)) (c .before .before .before .before .before .before .before .before .before .before .before .before .before .before .before .before .before .before .before .before .before .before .before .before .before .before .before .before .before .args .flags .now) = c .before .before .before .before .before .fill-open .ensures .1 .0 ∙ (λ i. computedFlags (sm i) (isOpenAt (c .before .before .before .before .before .before .before .before .before .before .before .before .before .before .before .before .before .before .before .before .before .before .before .before .before .before .before .before .before .args .marks .now)) (c .before .before .before .before .before .before .before .before .before .before .before .before .before .before .before .before .before .before .before .before .before .before .before .before .before .before .before .before .before .args .flags .now)) in let op : c .before .before .before .before .before .before .before .before .before .before .before .before .before .before .before .before .before .before .open-pieces .result ≡ openPieces (c .before .before .before .before .before .before .before .before .before .before .before .before .before .before .before .before .before .before .before .before .before .before .before .before .before .before .before .before .before .args .marks .now) = c .before .before .before .before .before .before .before .before .before .before .before .before .before .before .before .before .before .before .open-pieces .ensures in let rm : _ = room (c .before .before .before .before .before .before .before .before .before .before .before .before .before .before .before .before .before .before .before .before .before .before .before .before .before .before .before .before .before .args .tally .runs) (openPieces (c .before .before .before .before .before .before .before .before .before .before .before .before .before .before .before .before .before .before .before .before .before .before .before .before .before .before .before .before .before .args .marks .now)) _ (sym (c .before .before .before .before .before .before .before .before .before .before .before .before .before .before .before .next .given .1) ∙ c .before .before .before .before .before .before .before .before .before .before .before .before .before .before .before .before .before .add .ensures ∙ ap (addedTo (c .before .before .before .before .before .before .before .before .before .before .before .before .before .before .before .before .before .before .before .before .before .before .before .before .before .before .before .before .before .args .tally .runs)) op) in let v : verdict (asked (c .before .before .before .before .before .before .before .before .before .before .before .before .before .before .before .before .before .before .before .before .before .before .before .before .before .before .before .before .before)) (start (c .before .before .before .before .before .before .before .before .before .before .before .before .before .before .before .before .before .before .before .before .before .before .before .before .before .before .before .before .before)) (call (c .before .before .before .before .before .before .before .before .before .before .before .before .before .before .before .before .before .before .before .before .before .before .before .before .before .before .before .before .before)) ≡ 0 = verdict-own (asked (c .before .before .before .before .before .before .before .before .before .before .before .before .before .before .before .before .before .before .before .before .before .before .before .before .before .before .before .before .before)) (start (c .before .before .before .before .before .before .before .before .before .before .before .before .before .before .before .before .before .before .before .before .before .before .before .before .before .before .before .before .before)) (call (c .before .before .before .before .before .before .before .before .before .before .before .before .before .before .before .before .before .before .before .before .before .before .before .before .before .before .before .before .before)) y ∙ rm .0 in done-call (asked (c .before .before .before .before .before .before .before .before .before .before .before .before .before .before .before .before .before .before .before .before .before .before .before .before .before .before .before .before .before)) (start (c .before .before .before .before .before .before .before .before .before .before .before .before .before .before .before .before .before .before .before .before .before .before .before .before .before .before .before .before .before)) (call (c .before .before .before .before .before .before .before .before .before .before .before .before .before .before .before .before .before .before .before .before .before .before .before .before .before .before .before .before .before)) _ _ _ _ v (rm .1) fw ff (c .before .before .before .before .before .fill-open .ensures .1 .1)
 
 pub carry-on-spec : {M : Type 1} → statement M
 carry-on-spec =

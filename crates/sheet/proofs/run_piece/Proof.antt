@@ -14,8 +14,8 @@ use Rattle.list_laws.proofs.SignedLaws.{back}
 use Rattle.list_laws.specs.Lists.{at}
 use Rattle.questions.proofs.AskLaws.{group-no, group-yes}
 use Rattle.questions.specs.Ask.{firstNo}
-use Rattle.sheet_step.proofs.StepLaws.{commonOf, counts-yes, done-answer, done-sheet, given-yes, lengths-yes, no-room, piece-named, piece-numbered, refused-answer, refused-sheet, room, verdict-common, verdict-own}
-use Rattle.sheet_step.specs.Steps.{Call, Counted, Sheet, countsOf, effect, pieceOf, pieceQuestions, sheet, step, tallyQuestions, verdict}
+use Rattle.sheet_step.proofs.StepLaws.{common-refused, commonOf, counts-yes, done-call, given-yes, lengths-yes, no-room, piece-named, piece-numbered, refused-call, room, verdict-own}
+use Rattle.sheet_step.specs.Steps.{Call, Counted, Sheet, countsOf, effect, pieceOf, pieceQuestions, sheet, tallyQuestions, verdict}
 use Rattle.sheet.proofs.EntryLaws.{ready-made, study-made}
 use Rattle.triplet_channels.specs.Types.{tpTypeOf}
 use Rattle.triplet_piece.proofs.StudyLaws.{length-computed, length-computed-flags}
@@ -45,7 +45,7 @@ same-length c = search needs
 
 returns : tie.Need-returns
 returns c =
-    let rs : (start (c .before .before .before .before .before .before .before .before)) ≡ step (asked (c .before .before .before .before .before .before .before .before)) (start (c .before .before .before .before .before .before .before .before)) (call (c .before .before .before .before .before .before .before .before)) = refused-sheet (asked (c .before .before .before .before .before .before .before .before)) (start (c .before .before .before .before .before .before .before .before)) (call (c .before .before .before .before .before .before .before .before)) (c .before .common-no .result) (verdict-common (asked (c .before .before .before .before .before .before .before .before)) (start (c .before .before .before .before .before .before .before .before)) (call (c .before .before .before .before .before .before .before .before)) (λ z. c .if1 .taken (c .before .common-no .ensures ∙ z)) ∙ sym (c .before .common-no .ensures)) (c .if1 .taken) in (refused-answer (asked (c .before .before .before .before .before .before .before .before)) (start (c .before .before .before .before .before .before .before .before)) (call (c .before .before .before .before .before .before .before .before)) (c .before .common-no .result) (verdict-common (asked (c .before .before .before .before .before .before .before .before)) (start (c .before .before .before .before .before .before .before .before)) (call (c .before .before .before .before .before .before .before .before)) (λ z. c .if1 .taken (c .before .common-no .ensures ∙ z)) ∙ sym (c .before .common-no .ensures)) (c .if1 .taken), (ap (λ (x : Sheet). x .weights) rs, (ap (λ (x : Sheet). x .flags) rs, ap (λ (x : Sheet). x .marks) rs)))
+    common-refused (asked (c .before .before .before .before .before .before .before .before)) (start (c .before .before .before .before .before .before .before .before)) (call (c .before .before .before .before .before .before .before .before)) (c .before .common-no .result) (c .before .common-no .ensures) (c .if1 .taken)
 
 sizes-of-requires : tie.Need-sizes-of-requires
 sizes-of-requires c κs =
@@ -60,7 +60,7 @@ same-length-2 c = search needs
 
 returns-2 : tie.Need-returns-2
 returns-2 c =
-    let y : firstNo (commonOf (asked (c .before .before .before .before .before .before .before .before .before .before .before .before)) (start (c .before .before .before .before .before .before .before .before .before .before .before .before)) (call (c .before .before .before .before .before .before .before .before .before .before .before .before))) ≡ 0 = sym (c .before .before .before .before .before .common-no .ensures) ∙ c .before .before .before .before .if1 .left in let zs : c .before .before .before .sizes-of .result ≡ countsOf (asked (c .before .before .before .before .before .before .before .before .before .before .before .before)) = c .before .before .before .sizes-of .ensures ∙ sizes-same (asked (c .before .before .before .before .before .before .before .before .before .before .before .before)) in let n : c .before .piece-no .result ≡ firstNo (pieceQuestions (countsOf (asked (c .before .before .before .before .before .before .before .before .before .before .before .before))) (c .before .before .before .before .before .before .before .before .before .before .before .before .args .marks .now) (c .before .before .before .before .before .before .before .before .before .before .before .before .args .triplet) (c .before .before .before .before .before .before .before .before .before .before .before .before .args .b1) (c .before .before .before .before .before .before .before .before .before .before .before .before .args .b2)) = rw (zs, toZ-ofZ w64 (c .before .before .before .before .before .before .before .before .before .before .before .before .args .triplet) (c .before .before .before .before .before .before .before .before .before .before .before .before .fits .triplet), toZ-ofZ w64 (c .before .before .before .before .before .before .before .before .before .before .before .before .args .b1) (c .before .before .before .before .before .before .before .before .before .before .before .before .fits .b1), toZ-ofZ w64 (c .before .before .before .before .before .before .before .before .before .before .before .before .args .b2) (c .before .before .before .before .before .before .before .before .before .before .before .before .fits .b2)) at (c .before .piece-no .ensures) in let rs : (start (c .before .before .before .before .before .before .before .before .before .before .before .before)) ≡ step (asked (c .before .before .before .before .before .before .before .before .before .before .before .before)) (start (c .before .before .before .before .before .before .before .before .before .before .before .before)) (call (c .before .before .before .before .before .before .before .before .before .before .before .before)) = refused-sheet (asked (c .before .before .before .before .before .before .before .before .before .before .before .before)) (start (c .before .before .before .before .before .before .before .before .before .before .before .before)) (call (c .before .before .before .before .before .before .before .before .before .before .before .before)) (c .before .piece-no .result) (verdict-own (asked (c .before .before .before .before .before .before .before .before .before .before .before .before)) (start (c .before .before .before .before .before .before .before .before .before .before .before .before)) (call (c .before .before .before .before .before .before .before .before .before .before .before .before)) y ∙ group-no (pieceQuestions (countsOf (asked (c .before .before .before .before .before .before .before .before .before .before .before .before))) (c .before .before .before .before .before .before .before .before .before .before .before .before .args .marks .now) (c .before .before .before .before .before .before .before .before .before .before .before .before .args .triplet) (c .before .before .before .before .before .before .before .before .before .before .before .before .args .b1) (c .before .before .before .before .before .before .before .before .before .before .before .before .args .b2)) (tallyQuestions (c .before .before .before .before .before .before .before .before .before .before .before .before .args .tally .runs) 1) (λ z. c .if2 .taken (n ∙ z)) ∙ sym n) (c .if2 .taken) in (refused-answer (asked (c .before .before .before .before .before .before .before .before .before .before .before .before)) (start (c .before .before .before .before .before .before .before .before .before .before .before .before)) (call (c .before .before .before .before .before .before .before .before .before .before .before .before)) (c .before .piece-no .result) (verdict-own (asked (c .before .before .before .before .before .before .before .before .before .before .before .before)) (start (c .before .before .before .before .before .before .before .before .before .before .before .before)) (call (c .before .before .before .before .before .before .before .before .before .before .before .before)) y ∙ group-no (pieceQuestions (countsOf (asked (c .before .before .before .before .before .before .before .before .before .before .before .before))) (c .before .before .before .before .before .before .before .before .before .before .before .before .args .marks .now) (c .before .before .before .before .before .before .before .before .before .before .before .before .args .triplet) (c .before .before .before .before .before .before .before .before .before .before .before .before .args .b1) (c .before .before .before .before .before .before .before .before .before .before .before .before .args .b2)) (tallyQuestions (c .before .before .before .before .before .before .before .before .before .before .before .before .args .tally .runs) 1) (λ z. c .if2 .taken (n ∙ z)) ∙ sym n) (c .if2 .taken), (ap (λ (x : Sheet). x .weights) rs, (ap (λ (x : Sheet). x .flags) rs, ap (λ (x : Sheet). x .marks) rs)))
+    let y : firstNo (commonOf (asked (c .before .before .before .before .before .before .before .before .before .before .before .before)) (start (c .before .before .before .before .before .before .before .before .before .before .before .before)) (call (c .before .before .before .before .before .before .before .before .before .before .before .before))) ≡ 0 = sym (c .before .before .before .before .before .common-no .ensures) ∙ c .before .before .before .before .if1 .left in let zs : c .before .before .before .sizes-of .result ≡ countsOf (asked (c .before .before .before .before .before .before .before .before .before .before .before .before)) = c .before .before .before .sizes-of .ensures ∙ sizes-same (asked (c .before .before .before .before .before .before .before .before .before .before .before .before)) in let n : c .before .piece-no .result ≡ firstNo (pieceQuestions (countsOf (asked (c .before .before .before .before .before .before .before .before .before .before .before .before))) (c .before .before .before .before .before .before .before .before .before .before .before .before .args .marks .now) (c .before .before .before .before .before .before .before .before .before .before .before .before .args .triplet) (c .before .before .before .before .before .before .before .before .before .before .before .before .args .b1) (c .before .before .before .before .before .before .before .before .before .before .before .before .args .b2)) = rw (zs, toZ-ofZ w64 (c .before .before .before .before .before .before .before .before .before .before .before .before .args .triplet) (c .before .before .before .before .before .before .before .before .before .before .before .before .fits .triplet), toZ-ofZ w64 (c .before .before .before .before .before .before .before .before .before .before .before .before .args .b1) (c .before .before .before .before .before .before .before .before .before .before .before .before .fits .b1), toZ-ofZ w64 (c .before .before .before .before .before .before .before .before .before .before .before .before .args .b2) (c .before .before .before .before .before .before .before .before .before .before .before .before .fits .b2)) at (c .before .piece-no .ensures) in refused-call (asked (c .before .before .before .before .before .before .before .before .before .before .before .before)) (start (c .before .before .before .before .before .before .before .before .before .before .before .before)) (call (c .before .before .before .before .before .before .before .before .before .before .before .before)) (c .before .piece-no .result) (verdict-own (asked (c .before .before .before .before .before .before .before .before .before .before .before .before)) (start (c .before .before .before .before .before .before .before .before .before .before .before .before)) (call (c .before .before .before .before .before .before .before .before .before .before .before .before)) y ∙ group-no (pieceQuestions (countsOf (asked (c .before .before .before .before .before .before .before .before .before .before .before .before))) (c .before .before .before .before .before .before .before .before .before .before .before .before .args .marks .now) (c .before .before .before .before .before .before .before .before .before .before .before .before .args .triplet) (c .before .before .before .before .before .before .before .before .before .before .before .before .args .b1) (c .before .before .before .before .before .before .before .before .before .before .before .before .args .b2)) (tallyQuestions (c .before .before .before .before .before .before .before .before .before .before .before .before .args .tally .runs) 1) (λ z. c .if2 .taken (n ∙ z)) ∙ sym n) (c .if2 .taken)
 
 add-requires : tie.Need-add-requires
 add-requires c κs =
@@ -79,7 +79,7 @@ same-length-3 c = search needs
 
 returns-3 : tie.Need-returns-3
 returns-3 c =
-    let y : firstNo (commonOf (asked (c .before .before .before .before .before .before .before .before .before .before .before .before .before .before .before)) (start (c .before .before .before .before .before .before .before .before .before .before .before .before .before .before .before)) (call (c .before .before .before .before .before .before .before .before .before .before .before .before .before .before .before))) ≡ 0 = sym (c .before .before .before .before .before .before .before .before .common-no .ensures) ∙ c .before .before .before .before .before .before .before .if1 .left in let zs : c .before .before .before .before .before .before .sizes-of .result ≡ countsOf (asked (c .before .before .before .before .before .before .before .before .before .before .before .before .before .before .before)) = c .before .before .before .before .before .before .sizes-of .ensures ∙ sizes-same (asked (c .before .before .before .before .before .before .before .before .before .before .before .before .before .before .before)) in let n : c .before .before .before .before .piece-no .result ≡ firstNo (pieceQuestions (countsOf (asked (c .before .before .before .before .before .before .before .before .before .before .before .before .before .before .before))) (c .before .before .before .before .before .before .before .before .before .before .before .before .before .before .before .args .marks .now) (c .before .before .before .before .before .before .before .before .before .before .before .before .before .before .before .args .triplet) (c .before .before .before .before .before .before .before .before .before .before .before .before .before .before .before .args .b1) (c .before .before .before .before .before .before .before .before .before .before .before .before .before .before .before .args .b2)) = rw (zs, toZ-ofZ w64 (c .before .before .before .before .before .before .before .before .before .before .before .before .before .before .before .args .triplet) (c .before .before .before .before .before .before .before .before .before .before .before .before .before .before .before .fits .triplet), toZ-ofZ w64 (c .before .before .before .before .before .before .before .before .before .before .before .before .before .before .before .args .b1) (c .before .before .before .before .before .before .before .before .before .before .before .before .before .before .before .fits .b1), toZ-ofZ w64 (c .before .before .before .before .before .before .before .before .before .before .before .before .before .before .before .args .b2) (c .before .before .before .before .before .before .before .before .before .before .before .before .before .before .before .fits .b2)) at (c .before .before .before .before .piece-no .ensures) in let pz : firstNo (pieceQuestions (countsOf (asked (c .before .before .before .before .before .before .before .before .before .before .before .before .before .before .before))) (c .before .before .before .before .before .before .before .before .before .before .before .before .before .before .before .args .marks .now) (c .before .before .before .before .before .before .before .before .before .before .before .before .before .before .before .args .triplet) (c .before .before .before .before .before .before .before .before .before .before .before .before .before .before .before .args .b1) (c .before .before .before .before .before .before .before .before .before .before .before .before .before .before .before .args .b2)) ≡ 0 = sym n ∙ c .before .before .before .if2 .left in let nm : _ = piece-named (countsOf (asked (c .before .before .before .before .before .before .before .before .before .before .before .before .before .before .before))) (c .before .before .before .before .before .before .before .before .before .before .before .before .before .before .before .args .marks .now) (c .before .before .before .before .before .before .before .before .before .before .before .before .before .before .before .args .triplet) (c .before .before .before .before .before .before .before .before .before .before .before .before .before .before .before .args .b1) (c .before .before .before .before .before .before .before .before .before .before .before .before .before .before .before .args .b2) pz in let rs : (start (c .before .before .before .before .before .before .before .before .before .before .before .before .before .before .before)) ≡ step (asked (c .before .before .before .before .before .before .before .before .before .before .before .before .before .before .before)) (start (c .before .before .before .before .before .before .before .before .before .before .before .before .before .before .before)) (call (c .before .before .before .before .before .before .before .before .before .before .before .before .before .before .before)) = refused-sheet (asked (c .before .before .before .before .before .before .before .before .before .before .before .before .before .before .before)) (start (c .before .before .before .before .before .before .before .before .before .before .before .before .before .before .before)) (call (c .before .before .before .before .before .before .before .before .before .before .before .before .before .before .before)) (20) (verdict-own (asked (c .before .before .before .before .before .before .before .before .before .before .before .before .before .before .before)) (start (c .before .before .before .before .before .before .before .before .before .before .before .before .before .before .before)) (call (c .before .before .before .before .before .before .before .before .before .before .before .before .before .before .before)) y ∙ group-yes (pieceQuestions (countsOf (asked (c .before .before .before .before .before .before .before .before .before .before .before .before .before .before .before))) (c .before .before .before .before .before .before .before .before .before .before .before .before .before .before .before .args .marks .now) (c .before .before .before .before .before .before .before .before .before .before .before .before .before .before .before .args .triplet) (c .before .before .before .before .before .before .before .before .before .before .before .before .before .before .before .args .b1) (c .before .before .before .before .before .before .before .before .before .before .before .before .before .before .before .args .b2)) (tallyQuestions (c .before .before .before .before .before .before .before .before .before .before .before .before .before .before .before .args .tally .runs) 1) (piece-numbered (countsOf (asked (c .before .before .before .before .before .before .before .before .before .before .before .before .before .before .before))) (c .before .before .before .before .before .before .before .before .before .before .before .before .before .before .before .args .marks .now) (c .before .before .before .before .before .before .before .before .before .before .before .before .before .before .before .args .triplet) (c .before .before .before .before .before .before .before .before .before .before .before .before .before .before .before .args .b1) (c .before .before .before .before .before .before .before .before .before .before .before .before .before .before .before .args .b2)) pz ∙ no-room (c .before .before .before .before .before .before .before .before .before .before .before .before .before .before .before .args .tally .runs) 1 _ (sym (c .enum-told .given .1) ∙ c .before .before .add .ensures)) (λ e. omega arith) in (refused-answer (asked (c .before .before .before .before .before .before .before .before .before .before .before .before .before .before .before)) (start (c .before .before .before .before .before .before .before .before .before .before .before .before .before .before .before)) (call (c .before .before .before .before .before .before .before .before .before .before .before .before .before .before .before)) (20) (verdict-own (asked (c .before .before .before .before .before .before .before .before .before .before .before .before .before .before .before)) (start (c .before .before .before .before .before .before .before .before .before .before .before .before .before .before .before)) (call (c .before .before .before .before .before .before .before .before .before .before .before .before .before .before .before)) y ∙ group-yes (pieceQuestions (countsOf (asked (c .before .before .before .before .before .before .before .before .before .before .before .before .before .before .before))) (c .before .before .before .before .before .before .before .before .before .before .before .before .before .before .before .args .marks .now) (c .before .before .before .before .before .before .before .before .before .before .before .before .before .before .before .args .triplet) (c .before .before .before .before .before .before .before .before .before .before .before .before .before .before .before .args .b1) (c .before .before .before .before .before .before .before .before .before .before .before .before .before .before .before .args .b2)) (tallyQuestions (c .before .before .before .before .before .before .before .before .before .before .before .before .before .before .before .args .tally .runs) 1) (piece-numbered (countsOf (asked (c .before .before .before .before .before .before .before .before .before .before .before .before .before .before .before))) (c .before .before .before .before .before .before .before .before .before .before .before .before .before .before .before .args .marks .now) (c .before .before .before .before .before .before .before .before .before .before .before .before .before .before .before .args .triplet) (c .before .before .before .before .before .before .before .before .before .before .before .before .before .before .before .args .b1) (c .before .before .before .before .before .before .before .before .before .before .before .before .before .before .before .args .b2)) pz ∙ no-room (c .before .before .before .before .before .before .before .before .before .before .before .before .before .before .before .args .tally .runs) 1 _ (sym (c .enum-told .given .1) ∙ c .before .before .add .ensures)) (λ e. omega arith), (ap (λ (x : Sheet). x .weights) rs, (ap (λ (x : Sheet). x .flags) rs, ap (λ (x : Sheet). x .marks) rs)))
+    let y : firstNo (commonOf (asked (c .before .before .before .before .before .before .before .before .before .before .before .before .before .before .before)) (start (c .before .before .before .before .before .before .before .before .before .before .before .before .before .before .before)) (call (c .before .before .before .before .before .before .before .before .before .before .before .before .before .before .before))) ≡ 0 = sym (c .before .before .before .before .before .before .before .before .common-no .ensures) ∙ c .before .before .before .before .before .before .before .if1 .left in let zs : c .before .before .before .before .before .before .sizes-of .result ≡ countsOf (asked (c .before .before .before .before .before .before .before .before .before .before .before .before .before .before .before)) = c .before .before .before .before .before .before .sizes-of .ensures ∙ sizes-same (asked (c .before .before .before .before .before .before .before .before .before .before .before .before .before .before .before)) in let n : c .before .before .before .before .piece-no .result ≡ firstNo (pieceQuestions (countsOf (asked (c .before .before .before .before .before .before .before .before .before .before .before .before .before .before .before))) (c .before .before .before .before .before .before .before .before .before .before .before .before .before .before .before .args .marks .now) (c .before .before .before .before .before .before .before .before .before .before .before .before .before .before .before .args .triplet) (c .before .before .before .before .before .before .before .before .before .before .before .before .before .before .before .args .b1) (c .before .before .before .before .before .before .before .before .before .before .before .before .before .before .before .args .b2)) = rw (zs, toZ-ofZ w64 (c .before .before .before .before .before .before .before .before .before .before .before .before .before .before .before .args .triplet) (c .before .before .before .before .before .before .before .before .before .before .before .before .before .before .before .fits .triplet), toZ-ofZ w64 (c .before .before .before .before .before .before .before .before .before .before .before .before .before .before .before .args .b1) (c .before .before .before .before .before .before .before .before .before .before .before .before .before .before .before .fits .b1), toZ-ofZ w64 (c .before .before .before .before .before .before .before .before .before .before .before .before .before .before .before .args .b2) (c .before .before .before .before .before .before .before .before .before .before .before .before .before .before .before .fits .b2)) at (c .before .before .before .before .piece-no .ensures) in let pz : firstNo (pieceQuestions (countsOf (asked (c .before .before .before .before .before .before .before .before .before .before .before .before .before .before .before))) (c .before .before .before .before .before .before .before .before .before .before .before .before .before .before .before .args .marks .now) (c .before .before .before .before .before .before .before .before .before .before .before .before .before .before .before .args .triplet) (c .before .before .before .before .before .before .before .before .before .before .before .before .before .before .before .args .b1) (c .before .before .before .before .before .before .before .before .before .before .before .before .before .before .before .args .b2)) ≡ 0 = sym n ∙ c .before .before .before .if2 .left in let nm : _ = piece-named (countsOf (asked (c .before .before .before .before .before .before .before .before .before .before .before .before .before .before .before))) (c .before .before .before .before .before .before .before .before .before .before .before .before .before .before .before .args .marks .now) (c .before .before .before .before .before .before .before .before .before .before .before .before .before .before .before .args .triplet) (c .before .before .before .before .before .before .before .before .before .before .before .before .before .before .before .args .b1) (c .before .before .before .before .before .before .before .before .before .before .before .before .before .before .before .args .b2) pz in refused-call (asked (c .before .before .before .before .before .before .before .before .before .before .before .before .before .before .before)) (start (c .before .before .before .before .before .before .before .before .before .before .before .before .before .before .before)) (call (c .before .before .before .before .before .before .before .before .before .before .before .before .before .before .before)) (20) (verdict-own (asked (c .before .before .before .before .before .before .before .before .before .before .before .before .before .before .before)) (start (c .before .before .before .before .before .before .before .before .before .before .before .before .before .before .before)) (call (c .before .before .before .before .before .before .before .before .before .before .before .before .before .before .before)) y ∙ group-yes (pieceQuestions (countsOf (asked (c .before .before .before .before .before .before .before .before .before .before .before .before .before .before .before))) (c .before .before .before .before .before .before .before .before .before .before .before .before .before .before .before .args .marks .now) (c .before .before .before .before .before .before .before .before .before .before .before .before .before .before .before .args .triplet) (c .before .before .before .before .before .before .before .before .before .before .before .before .before .before .before .args .b1) (c .before .before .before .before .before .before .before .before .before .before .before .before .before .before .before .args .b2)) (tallyQuestions (c .before .before .before .before .before .before .before .before .before .before .before .before .before .before .before .args .tally .runs) 1) (piece-numbered (countsOf (asked (c .before .before .before .before .before .before .before .before .before .before .before .before .before .before .before))) (c .before .before .before .before .before .before .before .before .before .before .before .before .before .before .before .args .marks .now) (c .before .before .before .before .before .before .before .before .before .before .before .before .before .before .before .args .triplet) (c .before .before .before .before .before .before .before .before .before .before .before .before .before .before .before .args .b1) (c .before .before .before .before .before .before .before .before .before .before .before .before .before .before .before .args .b2)) pz ∙ no-room (c .before .before .before .before .before .before .before .before .before .before .before .before .before .before .before .args .tally .runs) 1 _ (sym (c .enum-told .given .1) ∙ c .before .before .add .ensures)) (λ e. omega arith)
 
 tp-type-of-requires : tie.Need-tp-type-of-requires
 tp-type-of-requires c κs =
@@ -140,7 +140,7 @@ same-length-6 c =
 returns-4 : tie.Need-returns-4
 unfolding effect
 returns-4 c =
-    let y : firstNo (commonOf (asked (c .before .before .before .before .before .before .before .before .before .before .before .before .before .before .before .before .before .before .before .before .before .before .before .before .before .before .before .before .before .before .before .before .before .before)) (start (c .before .before .before .before .before .before .before .before .before .before .before .before .before .before .before .before .before .before .before .before .before .before .before .before .before .before .before .before .before .before .before .before .before .before)) (call (c .before .before .before .before .before .before .before .before .before .before .before .before .before .before .before .before .before .before .before .before .before .before .before .before .before .before .before .before .before .before .before .before .before .before))) ≡ 0 = sym (c .before .before .before .before .before .before .before .before .before .before .before .before .before .before .before .before .before .before .before .before .before .before .before .before .before .before .before .common-no .ensures) ∙ c .before .before .before .before .before .before .before .before .before .before .before .before .before .before .before .before .before .before .before .before .before .before .before .before .before .before .if1 .left in let zs : c .before .before .before .before .before .before .before .before .before .before .before .before .before .before .before .before .before .before .before .before .before .before .before .before .before .sizes-of .result ≡ countsOf (asked (c .before .before .before .before .before .before .before .before .before .before .before .before .before .before .before .before .before .before .before .before .before .before .before .before .before .before .before .before .before .before .before .before .before .before)) = c .before .before .before .before .before .before .before .before .before .before .before .before .before .before .before .before .before .before .before .before .before .before .before .before .before .sizes-of .ensures ∙ sizes-same (asked (c .before .before .before .before .before .before .before .before .before .before .before .before .before .before .before .before .before .before .before .before .before .before .before .before .before .before .before .before .before .before .before .before .before .before)) in let l : _ = lengths-yes (asked (c .before .before .before .before .before .before .before .before .before .before .before .before .before .before .before .before .before .before .before .before .before .before .before .before .before .before .before .before .before .before .before .before .before .before)) (start (c .before .before .before .before .before .before .before .before .before .before .before .before .before .before .before .before .before .before .before .before .before .before .before .before .before .before .before .before .before .before .before .before .before .before)) (call (c .before .before .before .before .before .before .before .before .before .before .before .before .before .before .before .before .before .before .before .before .before .before .before .before .before .before .before .before .before .before .before .before .before .before)) y in let cy : Counted (countsOf (asked (c .before .before .before .before .before .before .before .before .before .before .before .before .before .before .before .before .before .before .before .before .before .before .before .before .before .before .before .before .before .before .before .before .before .before))) = counts-yes (asked (c .before .before .before .before .before .before .before .before .before .before .before .before .before .before .before .before .before .before .before .before .before .before .before .before .before .before .before .before .before .before .before .before .before .before)) (start (c .before .before .before .before .before .before .before .before .before .before .before .before .before .before .before .before .before .before .before .before .before .before .before .before .before .before .before .before .before .before .before .before .before .before)) (call (c .before .before .before .before .before .before .before .before .before .before .before .before .before .before .before .before .before .before .before .before .before .before .before .before .before .before .before .before .before .before .before .before .before .before)) y in let et : c .before .before .before .before .before .before .before .before .before .before .before .before .before .before .tp-type-of .result ≡ tpTypeOf (c .before .before .before .before .before .before .before .before .before .before .before .before .before .before .before .before .before .before .before .before .before .before .before .before .before .before .before .before .before .before .before .before .before .before .args .shape .«tp_type») = rw (back (c .before .before .before .before .before .before .before .before .before .before .before .before .before .before .before .before .before .before .before .before .before .before .before .before .before .before .before .before .before .before .before .before .before .before .args .shape .«tp_type») (c .before .before .before .before .before .before .before .before .before .before .before .before .before .before .before .before .before .struct-told .given .1 .1 .0 .1)) at (c .before .before .before .before .before .before .before .before .before .before .before .before .before .before .tp-type-of .ensures) in let eg : c .before .before .before .before .before .before .before .before .before .before .before .before .before .grid-of .result ≡ gridOf (c .before .before .before .before .before .before .before .before .before .before .before .before .before .before .before .before .before .before .before .before .before .before .before .before .before .before .before .before .before .before .before .before .before .before .args .shape .«bz_grid_type») (c .before .before .before .before .before .before .before .before .before .before .before .before .before .before .before .before .before .before .before .before .before .before .before .before .before .before .before .before .before .before .before .before .before .before .args .shape .«d_diag») = rw (back (c .before .before .before .before .before .before .before .before .before .before .before .before .before .before .before .before .before .before .before .before .before .before .before .before .before .before .before .before .before .before .before .before .before .before .args .shape .«bz_grid_type») (c .before .before .before .before .before .before .before .before .before .before .before .before .before .before .before .before .struct-told2 .given .0 .1)) at (c .before .before .before .before .before .before .before .before .before .before .before .before .before .grid-of .ensures) in let n : c .before .before .before .before .before .before .before .before .before .before .before .before .before .before .before .before .before .before .before .before .before .before .before .piece-no .result ≡ firstNo (pieceQuestions (countsOf (asked (c .before .before .before .before .before .before .before .before .before .before .before .before .before .before .before .before .before .before .before .before .before .before .before .before .before .before .before .before .before .before .before .before .before .before))) (c .before .before .before .before .before .before .before .before .before .before .before .before .before .before .before .before .before .before .before .before .before .before .before .before .before .before .before .before .before .before .before .before .before .before .args .marks .now) (c .before .before .before .before .before .before .before .before .before .before .before .before .before .before .before .before .before .before .before .before .before .before .before .before .before .before .before .before .before .before .before .before .before .before .args .triplet) (c .before .before .before .before .before .before .before .before .before .before .before .before .before .before .before .before .before .before .before .before .before .before .before .before .before .before .before .before .before .before .before .before .before .before .args .b1) (c .before .before .before .before .before .before .before .before .before .before .before .before .before .before .before .before .before .before .before .before .before .before .before .before .before .before .before .before .before .before .before .before .before .before .args .b2)) = rw (zs, toZ-ofZ w64 (c .before .before .before .before .before .before .before .before .before .before .before .before .before .before .before .before .before .before .before .before .before .before .before .before .before .before .before .before .before .before .before .before .before .before .args .triplet) (c .before .before .before .before .before .before .before .before .before .before .before .before .before .before .before .before .before .before .before .before .before .before .before .before .before .before .before .before .before .before .before .before .before .before .fits .triplet), toZ-ofZ w64 (c .before .before .before .before .before .before .before .before .before .before .before .before .before .before .before .before .before .before .before .before .before .before .before .before .before .before .before .before .before .before .before .before .before .before .args .b1) (c .before .before .before .before .before .before .before .before .before .before .before .before .before .before .before .before .before .before .before .before .before .before .before .before .before .before .before .before .before .before .before .before .before .before .fits .b1), toZ-ofZ w64 (c .before .before .before .before .before .before .before .before .before .before .before .before .before .before .before .before .before .before .before .before .before .before .before .before .before .before .before .before .before .before .before .before .before .before .args .b2) (c .before .before .before .before .before .before .before .before .before .before .before .before .before .before .before .before .before .before .before .before .before .before .before .before .before .before .before .before .before .before .before .before .before .before .fits .b2)) at (c .before .before .before .before .before .before .before .before .before .before .before .before .before .before .before .before .before .before .before .before .before .before .before .piece-no .ensures) in let pz : firstNo (pieceQuestions (countsOf (asked (c .before .before .before .before .before .before .before .before .before .before .before .before .before .before .before .before .before .before .before .before .before .before .before .before .before .before .before .before .before .before .before .before .before .before))) (c .before .before .before .before .before .before .before .before .before .before .before .before .before .before .before .before .before .before .before .before .before .before .before .before .before .before .before .before .before .before .before .before .before .before .args .marks .now) (c .before .before .before .before .before .before .before .before .before .before .before .before .before .before .before .before .before .before .before .before .before .before .before .before .before .before .before .before .before .before .before .before .before .before .args .triplet) (c .before .before .before .before .before .before .before .before .before .before .before .before .before .before .before .before .before .before .before .before .before .before .before .before .before .before .before .before .before .before .before .before .before .before .args .b1) (c .before .before .before .before .before .before .before .before .before .before .before .before .before .before .before .before .before .before .before .before .before .before .before .before .before .before .before .before .before .before .before .before .before .before .args .b2)) ≡ 0 = sym n ∙ c .before .before .before .before .before .before .before .before .before .before .before .before .before .before .before .before .before .before .before .before .before .before .if2 .left in let nm : _ = piece-named (countsOf (asked (c .before .before .before .before .before .before .before .before .before .before .before .before .before .before .before .before .before .before .before .before .before .before .before .before .before .before .before .before .before .before .before .before .before .before))) (c .before .before .before .before .before .before .before .before .before .before .before .before .before .before .before .before .before .before .before .before .before .before .before .before .before .before .before .before .before .before .before .before .before .before .args .marks .now) (c .before .before .before .before .before .before .before .before .before .before .before .before .before .before .before .before .before .before .before .before .before .before .before .before .before .before .before .before .before .before .before .before .before .before .args .triplet) (c .before .before .before .before .before .before .before .before .before .before .before .before .before .before .before .before .before .before .before .before .before .before .before .before .before .before .before .before .before .before .before .before .before .before .args .b1) (c .before .before .before .before .before .before .before .before .before .before .before .before .before .before .before .before .before .before .before .before .before .before .before .before .before .before .before .before .before .before .before .before .before .before .args .b2) pz in let m0 : c .before .before .before .before .before .before .before .before .before .before .before .before .magnitude .result ≡ mag (c .before .before .before .before .before .before .before .before .before .before .before .before .before .before .before .before .before .before .before .before .before .before .before .before .before .before .before .before .before .before .before .before .before .before .args .triplet) = c .before .before .before .before .before .before .before .before .before .before .before .before .magnitude .ensures ∙ ap mag (toZ-ofZ w64 (c .before .before .before .before .before .before .before .before .before .before .before .before .before .before .before .before .before .before .before .before .before .before .before .before .before .before .before .before .before .before .before .before .before .before .args .triplet) (c .before .before .before .before .before .before .before .before .before .before .before .before .before .before .before .before .before .before .before .before .before .before .before .before .before .before .before .before .before .before .before .before .before .before .fits .triplet)) in let m1 : c .before .before .before .before .before .before .before .before .before .before .before .magnitude2 .result ≡ mag (c .before .before .before .before .before .before .before .before .before .before .before .before .before .before .before .before .before .before .before .before .before .before .before .before .before .before .before .before .before .before .before .before .before .before .args .b1) = c .before .before .before .before .before .before .before .before .before .before .before .magnitude2 .ensures ∙ ap mag (toZ-ofZ w64 (c .before .before .before .before .before .before .before .before .before .before .before .before .before .before .before .before .before .before .before .before .before .before .before .before .before .before .before .before .before .before .before .before .before .before .args .b1) (c .before .before .before .before .before .before .before .before .before .before .before .before .before .before .before .before .before .before .before .before .before .before .before .before .before .before .before .before .before .before .before .before .before .before .fits .b1)) in let m2 : c .before .before .before .before .before .before .before .before .before .before .magnitude3 .result ≡ mag (c .before .before .before .before .before .before .before .before .before .before .before .before .before .before .before .before .before .before .before .before .before .before .before .before .before .before .before .before .before .before .before .before .before .before .args .b2) = c .before .before .before .before .before .before .before .before .before .before .magnitude3 .ensures ∙ ap mag (toZ-ofZ w64 (c .before .before .before .before .before .before .before .before .before .before .before .before .before .before .before .before .before .before .before .before .before .before .before .before .before .before .before .before .before .before .before .before .before .before .args .b2) (c .before .before .before .before .before .before .before .before .before .before .before .before .before .before .before .before .before .before .before .before .before .before .before .before .before .before .before .before .before .before .before .before .before .before .fits .b2)) in let pq : (c .before .before .before .before .before .before .before .before .before .before .before .before .magnitude .result * c .before .before .before .before .before .before .before .before .before .before .before .before .before .before .before .before .before .before .before .before .before .before .before .before .before .sizes-of .result .pairs + (c .before .before .before .before .before .before .before .before .before .before .before .magnitude2 .result * c .before .before .before .before .before .before .before .before .before .before .before .before .before .before .before .before .before .before .before .before .before .before .before .before .before .sizes-of .result .bands2 + c .before .before .before .before .before .before .before .before .before .before .magnitude3 .result)) ≡ pieceOf (countsOf (asked (c .before .before .before .before .before .before .before .before .before .before .before .before .before .before .before .before .before .before .before .before .before .before .before .before .before .before .before .before .before .before .before .before .before .before))) (c .before .before .before .before .before .before .before .before .before .before .before .before .before .before .before .before .before .before .before .before .before .before .before .before .before .before .before .before .before .before .before .before .before .before .args .triplet) (c .before .before .before .before .before .before .before .before .before .before .before .before .before .before .before .before .before .before .before .before .before .before .before .before .before .before .before .before .before .before .before .before .before .before .args .b1) (c .before .before .before .before .before .before .before .before .before .before .before .before .before .before .before .before .before .before .before .before .before .before .before .before .before .before .before .before .before .before .before .before .before .before .args .b2) = rw (m0, m1, m2, zs) in let sm : _ = study-made (asked (c .before .before .before .before .before .before .before .before .before .before .before .before .before .before .before .before .before .before .before .before .before .before .before .before .before .before .before .before .before .before .before .before .before .before)) (c .before .before .before .before .before .before .before .before .before .before .before .before .before .before .before .before .before .before .before .before .before .before .before .before .before .sizes-of .result) (c .before .before .before .before .before .before .before .before .before .before .before .before .before .before .tp-type-of .result) (c .before .before .before .before .before .before .before .before .before .before .before .before .before .grid-of .result) zs et eg in let fw : _ ≡ computedWeights (studyOf (asked (c .before .before .before .before .before .before .before .before .before .before .before .before .before .before .before .before .before .before .before .before .before .before .before .before .before .before .before .before .before .before .before .before .before .before))) (λ k. eqb k (pieceOf (countsOf (asked (c .before .before .before .before .before .before .before .before .before .before .before .before .before .before .before .before .before .before .before .before .before .before .before .before .before .before .before .before .before .before .before .before .before .before))) (c .before .before .before .before .before .before .before .before .before .before .before .before .before .before .before .before .before .before .before .before .before .before .before .before .before .before .before .before .before .before .before .before .before .before .args .triplet) (c .before .before .before .before .before .before .before .before .before .before .before .before .before .before .before .before .before .before .before .before .before .before .before .before .before .before .before .before .before .before .before .before .before .before .args .b1) (c .before .before .before .before .before .before .before .before .before .before .before .before .before .before .before .before .before .before .before .before .before .before .before .before .before .before .before .before .before .before .before .before .before .before .args .b2))) (c .before .before .before .before .before .before .before .before .before .before .before .before .before .before .before .before .before .before .before .before .before .before .before .before .before .before .before .before .before .before .before .before .before .before .args .weights .now) = c .before .before .before .before .before .before .before .fill-named .ensures .0 ∙ (λ i. computedWeights (sm i) (λ k. eqb k (pq i)) (c .before .before .before .before .before .before .before .before .before .before .before .before .before .before .before .before .before .before .before .before .before .before .before .before .before .before .before .before .before .before .before .before .before .before .args .weights .now)) in let ff : _ ≡ computedFlags (studyOf (asked (c .before .before .before .before .before .before .before .before .before .before .before .before .before .before .before .before .before .before .before .before .before .before .before .before .before .before .before .before .before .before .before .before .before .before))) (λ k. eqb k (pieceOf (countsOf (asked (c .before .before .before .before .before .before .before .before .before .before .before .before .before .before .before .before .before .before .before .before .before .before .before .before .before .before .before .before .before .before .before .before .before .before))) (c .before .before .before .before .before .before .before .before .before .before .before .before .before .before .before .before .before .before .before .before .before .before .before .before .before .before .before .before .before .before .before .before .before .before .args .triplet) (c .before .before .before .before .before .before .before .before .before .before .before .before .before .before .before .before .before .before .before .before .before .before .before .before .before .before .before .before .before .before .before .before .before .before .args .b1) (c .before .before .before .before .before .before .before .before .before .before .before .before .before .before .before .before .before .before .before .before .before .before .before .before .before .before .before .before .before .before .before .before .before .before .args .b2))) (c .before .before .before .before .before .before .before .before .before .before .before .before .before .before .before .before .before .before .before .before .before .before .before .before .before .before .before .before .before .before .before .before .before .before .args .flags .now) = c .before .before .before .before .before .before .before .fill-named .ensures .1 ∙ (λ i. computedFlags (sm i) (λ k. eqb k (pq i)) (c .before .before .before .before .before .before .before .before .before .before .before .before .before .before .before .before .before .before .before .before .before .before .before .before .before .before .before .before .before .before .before .before .before .before .args .flags .now)) in let rm : _ = room (c .before .before .before .before .before .before .before .before .before .before .before .before .before .before .before .before .before .before .before .before .before .before .before .before .before .before .before .before .before .before .before .before .before .before .args .tally .runs) 1 _ (sym (c .before .before .before .before .before .before .before .before .before .before .before .before .before .before .before .before .before .before .before .next .given .1) ∙ c .before .before .before .before .before .before .before .before .before .before .before .before .before .before .before .before .before .before .before .before .before .add .ensures) in let v : verdict (asked (c .before .before .before .before .before .before .before .before .before .before .before .before .before .before .before .before .before .before .before .before .before .before .before .before .before .before .before .before .before .before .before .before .before .before)) (start (c .before .before .before .before .before .before .before .before .before .before .before .before .before .before .before .before .before .before .before .before .before .before .before .before .before .before .before .before .before .before .before .before .before .before)) (call (c .before .before .before .before .before .before .before .before .before .before .before .before .before .before .before .before .before .before .before .before .before .before .before .before .before .before .before .before .before .before .before .before .before .before)) ≡ 0 = verdict-own (asked (c .before .before .before .before .before .before .before .before .before .before .before .before .before .before .before .before .before .before .before .before .before .before .before .before .before .before .before .before .before .before .before .before .before .before)) (start (c .before .before .before .before .before .before .before .before .before .before .before .before .before .before .before .before .before .before .before .before .before .before .before .before .before .before .before .before .before .before .before .before .before .before)) (call (c .before .before .before .before .before .before .before .before .before .before .before .before .before .before .before .before .before .before .before .before .before .before .before .before .before .before .before .before .before .before .before .before .before .before)) y ∙ group-yes (pieceQuestions (countsOf (asked (c .before .before .before .before .before .before .before .before .before .before .before .before .before .before .before .before .before .before .before .before .before .before .before .before .before .before .before .before .before .before .before .before .before .before))) (c .before .before .before .before .before .before .before .before .before .before .before .before .before .before .before .before .before .before .before .before .before .before .before .before .before .before .before .before .before .before .before .before .before .before .args .marks .now) (c .before .before .before .before .before .before .before .before .before .before .before .before .before .before .before .before .before .before .before .before .before .before .before .before .before .before .before .before .before .before .before .before .before .before .args .triplet) (c .before .before .before .before .before .before .before .before .before .before .before .before .before .before .before .before .before .before .before .before .before .before .before .before .before .before .before .before .before .before .before .before .before .before .args .b1) (c .before .before .before .before .before .before .before .before .before .before .before .before .before .before .before .before .before .before .before .before .before .before .before .before .before .before .before .before .before .before .before .before .before .before .args .b2)) (tallyQuestions (c .before .before .before .before .before .before .before .before .before .before .before .before .before .before .before .before .before .before .before .before .before .before .before .before .before .before .before .before .before .before .before .before .before .before .args .tally .runs) 1) (piece-numbered (countsOf (asked (c .before .before .before .before .before .before .before .before .before .before .before .before .before .before .before .before .before .before .before .before .before .before .before .before .before .before .before .before .before .before .before .before .before .before))) (c .before .before .before .before .before .before .before .before .before .before .before .before .before .before .before .before .before .before .before .before .before .before .before .before .before .before .before .before .before .before .before .before .before .before .args .marks .now) (c .before .before .before .before .before .before .before .before .before .before .before .before .before .before .before .before .before .before .before .before .before .before .before .before .before .before .before .before .before .before .before .before .before .before .args .triplet) (c .before .before .before .before .before .before .before .before .before .before .before .before .before .before .before .before .before .before .before .before .before .before .before .before .before .before .before .before .before .before .before .before .before .before .args .b1) (c .before .before .before .before .before .before .before .before .before .before .before .before .before .before .before .before .before .before .before .before .before .before .before .before .before .before .before .before .before .before .before .before .before .before .args .b2)) pz ∙ rm .0 in let ds : effect (asked (c .before .before .before .before .before .before .before .before .before .before .before .before .before .before .before .before .before .before .before .before .before .before .before .before .before .before .before .before .before .before .before .before .before .before)) (start (c .before .before .before .before .before .before .before .before .before .before .before .before .before .before .before .before .before .before .before .before .before .before .before .before .before .before .before .before .before .before .before .before .before .before)) (call (c .before .before .before .before .before .before .before .before .before .before .before .before .before .before .before .before .before .before .before .before .before .before .before .before .before .before .before .before .before .before .before .before .before .before)) ≡ step (asked (c .before .before .before .before .before .before .before .before .before .before .before .before .before .before .before .before .before .before .before .before .before .before .before .before .before .before .before .before .before .before .before .before .before .before)) (start (c .before .before .before .before .before .before .before .before .before .before .before .before .before .before .before .before .before .before .before .before .before .before .before .before .before .before .before .before .before .before .before .before .before .before)) (call (c .before .before .before .before .before .before .before .before .before .before .before .before .before .before .before .before .before .before .before .before .before .before .before .before .before .before .before .before .before .before .before .before .before .before)) = done-sheet (asked (c .before .before .before .before .before .before .before .before .before .before .before .before .before .before .before .before .before .before .before .before .before .before .before .before .before .before .before .before .before .before .before .before .before .before)) (start (c .before .before .before .before .before .before .before .before .before .before .before .before .before .before .before .before .before .before .before .before .before .before .before .before .before .before .before .before .before .before .before .before .before .before)) (call (c .before .before .before .before .before .before .before .before .before .before .before .before .before .before .before .before .before .before .before .before .before .before .before .before .before .before .before .before .before .before .before .before .before .before)) v in (done-answer (asked (c .before .before .before .before .before .before .before .before .before .before .before .before .before .before .before .before .before .before .before .before .before .before .before .before .before .before .before .before .before .before .before .before .before .before)) (start (c .before .before .before .before .before .before .before .before .before .before .before .before .before .before .before .before .before .before .before .before .before .before .before .before .before .before .before .before .before .before .before .before .before .before)) (call (c .before .before .before .before .before .before .before .before .before .before .before .before .before .before .before .before .before .before .before .before .before .before .before .before .before .before .before .before .before .before .before .before .before .before)) _ v (rm .1), (fw ∙ ap (λ (x : Sheet). x .weights) ds, (ff ∙ ap (λ (x : Sheet). x .flags) ds, c .before .before .set-mark .ensures ∙ ap (λ (k : ℕ). set (c .before .before .before .before .before .before .before .before .before .before .before .before .before .before .before .before .before .before .before .before .before .before .before .before .before .before .before .before .before .before .before .before .before .before .args .marks .now) k 1) pq ∙ ap (λ (x : Sheet). x .marks) ds)))
+    let y : firstNo (commonOf (asked (c .before .before .before .before .before .before .before .before .before .before .before .before .before .before .before .before .before .before .before .before .before .before .before .before .before .before .before .before .before .before .before .before .before .before)) (start (c .before .before .before .before .before .before .before .before .before .before .before .before .before .before .before .before .before .before .before .before .before .before .before .before .before .before .before .before .before .before .before .before .before .before)) (call (c .before .before .before .before .before .before .before .before .before .before .before .before .before .before .before .before .before .before .before .before .before .before .before .before .before .before .before .before .before .before .before .before .before .before))) ≡ 0 = sym (c .before .before .before .before .before .before .before .before .before .before .before .before .before .before .before .before .before .before .before .before .before .before .before .before .before .before .before .common-no .ensures) ∙ c .before .before .before .before .before .before .before .before .before .before .before .before .before .before .before .before .before .before .before .before .before .before .before .before .before .before .if1 .left in let zs : c .before .before .before .before .before .before .before .before .before .before .before .before .before .before .before .before .before .before .before .before .before .before .before .before .before .sizes-of .result ≡ countsOf (asked (c .before .before .before .before .before .before .before .before .before .before .before .before .before .before .before .before .before .before .before .before .before .before .before .before .before .before .before .before .before .before .before .before .before .before)) = c .before .before .before .before .before .before .before .before .before .before .before .before .before .before .before .before .before .before .before .before .before .before .before .before .before .sizes-of .ensures ∙ sizes-same (asked (c .before .before .before .before .before .before .before .before .before .before .before .before .before .before .before .before .before .before .before .before .before .before .before .before .before .before .before .before .before .before .before .before .before .before)) in let l : _ = lengths-yes (asked (c .before .before .before .before .before .before .before .before .before .before .before .before .before .before .before .before .before .before .before .before .before .before .before .before .before .before .before .before .before .before .before .before .before .before)) (start (c .before .before .before .before .before .before .before .before .before .before .before .before .before .before .before .before .before .before .before .before .before .before .before .before .before .before .before .before .before .before .before .before .before .before)) (call (c .before .before .before .before .before .before .before .before .before .before .before .before .before .before .before .before .before .before .before .before .before .before .before .before .before .before .before .before .before .before .before .before .before .before)) y in let cy : Counted (countsOf (asked (c .before .before .before .before .before .before .before .before .before .before .before .before .before .before .before .before .before .before .before .before .before .before .before .before .before .before .before .before .before .before .before .before .before .before))) = counts-yes (asked (c .before .before .before .before .before .before .before .before .before .before .before .before .before .before .before .before .before .before .before .before .before .before .before .before .before .before .before .before .before .before .before .before .before .before)) (start (c .before .before .before .before .before .before .before .before .before .before .before .before .before .before .before .before .before .before .before .before .before .before .before .before .before .before .before .before .before .before .before .before .before .before)) (call (c .before .before .before .before .before .before .before .before .before .before .before .before .before .before .before .before .before .before .before .before .before .before .before .before .before .before .before .before .before .before .before .before .before .before)) y in let et : c .before .before .before .before .before .before .before .before .before .before .before .before .before .before .tp-type-of .result ≡ tpTypeOf (c .before .before .before .before .before .before .before .before .before .before .before .before .before .before .before .before .before .before .before .before .before .before .before .before .before .before .before .before .before .before .before .before .before .before .args .shape .«tp_type») = rw (back (c .before .before .before .before .before .before .before .before .before .before .before .before .before .before .before .before .before .before .before .before .before .before .before .before .before .before .before .before .before .before .before .before .before .before .args .shape .«tp_type») (c .before .before .before .before .before .before .before .before .before .before .before .before .before .before .before .before .before .struct-told .given .1 .1 .0 .1)) at (c .before .before .before .before .before .before .before .before .before .before .before .before .before .before .tp-type-of .ensures) in let eg : c .before .before .before .before .before .before .before .before .before .before .before .before .before .grid-of .result ≡ gridOf (c .before .before .before .before .before .before .before .before .before .before .before .before .before .before .before .before .before .before .before .before .before .before .before .before .before .before .before .before .before .before .before .before .before .before .args .shape .«bz_grid_type») (c .before .before .before .before .before .before .before .before .before .before .before .before .before .before .before .before .before .before .before .before .before .before .before .before .before .before .before .before .before .before .before .before .before .before .args .shape .«d_diag») = rw (back (c .before .before .before .before .before .before .before .before .before .before .before .before .before .before .before .before .before .before .before .before .before .before .before .before .before .before .before .before .before .before .before .before .before .before .args .shape .«bz_grid_type») (c .before .before .before .before .before .before .before .before .before .before .before .before .before .before .before .before .struct-told2 .given .0 .1)) at (c .before .before .before .before .before .before .before .before .before .before .before .before .before .grid-of .ensures) in let n : c .before .before .before .before .before .before .before .before .before .before .before .before .before .before .before .before .before .before .before .before .before .before .before .piece-no .result ≡ firstNo (pieceQuestions (countsOf (asked (c .before .before .before .before .before .before .before .before .before .before .before .before .before .before .before .before .before .before .before .before .before .before .before .before .before .before .before .before .before .before .before .before .before .before))) (c .before .before .before .before .before .before .before .before .before .before .before .before .before .before .before .before .before .before .before .before .before .before .before .before .before .before .before .before .before .before .before .before .before .before .args .marks .now) (c .before .before .before .before .before .before .before .before .before .before .before .before .before .before .before .before .before .before .before .before .before .before .before .before .before .before .before .before .before .before .before .before .before .before .args .triplet) (c .before .before .before .before .before .before .before .before .before .before .before .before .before .before .before .before .before .before .before .before .before .before .before .before .before .before .before .before .before .before .before .before .before .before .args .b1) (c .before .before .before .before .before .before .before .before .before .before .before .before .before .before .before .before .before .before .before .before .before .before .before .before .before .before .before .before .before .before .before .before .before .before .args .b2)) = rw (zs, toZ-ofZ w64 (c .before .before .before .before .before .before .before .before .before .before .before .before .before .before .before .before .before .before .before .before .before .before .before .before .before .before .before .before .before .before .before .before .before .before .args .triplet) (c .before .before .before .before .before .before .before .before .before .before .before .before .before .before .before .before .before .before .before .before .before .before .before .before .before .before .before .before .before .before .before .before .before .before .fits .triplet), toZ-ofZ w64 (c .before .before .before .before .before .before .before .before .before .before .before .before .before .before .before .before .before .before .before .before .before .before .before .before .before .before .before .before .before .before .before .before .before .before .args .b1) (c .before .before .before .before .before .before .before .before .before .before .before .before .before .before .before .before .before .before .before .before .before .before .before .before .before .before .before .before .before .before .before .before .before .before .fits .b1), toZ-ofZ w64 (c .before .before .before .before .before .before .before .before .before .before .before .before .before .before .before .before .before .before .before .before .before .before .before .before .before .before .before .before .before .before .before .before .before .before .args .b2) (c .before .before .before .before .before .before .before .before .before .before .before .before .before .before .before .before .before .before .before .before .before .before .before .before .before .before .before .before .before .before .before .before .before .before .fits .b2)) at (c .before .before .before .before .before .before .before .before .before .before .before .before .before .before .before .before .before .before .before .before .before .before .before .piece-no .ensures) in let pz : firstNo (pieceQuestions (countsOf (asked (c .before .before .before .before .before .before .before .before .before .before .before .before .before .before .before .before .before .before .before .before .before .before .before .before .before .before .before .before .before .before .before .before .before .before))) (c .before .before .before .before .before .before .before .before .before .before .before .before .before .before .before .before .before .before .before .before .before .before .before .before .before .before .before .before .before .before .before .before .before .before .args .marks .now) (c .before .before .before .before .before .before .before .before .before .before .before .before .before .before .before .before .before .before .before .before .before .before .before .before .before .before .before .before .before .before .before .before .before .before .args .triplet) (c .before .before .before .before .before .before .before .before .before .before .before .before .before .before .before .before .before .before .before .before .before .before .before .before .before .before .before .before .before .before .before .before .before .before .args .b1) (c .before .before .before .before .before .before .before .before .before .before .before .before .before .before .before .before .before .before .before .before .before .before .before .before .before .before .before .before .before .before .before .before .before .before .args .b2)) ≡ 0 = sym n ∙ c .before .before .before .before .before .before .before .before .before .before .before .before .before .before .before .before .before .before .before .before .before .before .if2 .left in let nm : _ = piece-named (countsOf (asked (c .before .before .before .before .before .before .before .before .before .before .before .before .before .before .before .before .before .before .before .before .before .before .before .before .before .before .before .before .before .before .before .before .before .before))) (c .before .before .before .before .before .before .before .before .before .before .before .before .before .before .before .before .before .before .before .before .before .before .before .before .before .before .before .before .before .before .before .before .before .before .args .marks .now) (c .before .before .before .before .before .before .before .before .before .before .before .before .before .before .before .before .before .before .before .before .before .before .before .before .before .before .before .before .before .before .before .before .before .before .args .triplet) (c .before .before .before .before .before .before .before .before .before .before .before .before .before .before .before .before .before .before .before .before .before .before .before .before .before .before .before .before .before .before .before .before .before .before .args .b1) (c .before .before .before .before .before .before .before .before .before .before .before .before .before .before .before .before .before .before .before .before .before .before .before .before .before .before .before .before .before .before .before .before .before .before .args .b2) pz in let m0 : c .before .before .before .before .before .before .before .before .before .before .before .before .magnitude .result ≡ mag (c .before .before .before .before .before .before .before .before .before .before .before .before .before .before .before .before .before .before .before .before .before .before .before .before .before .before .before .before .before .before .before .before .before .before .args .triplet) = c .before .before .before .before .before .before .before .before .before .before .before .before .magnitude .ensures ∙ ap mag (toZ-ofZ w64 (c .before .before .before .before .before .before .before .before .before .before .before .before .before .before .before .before .before .before .before .before .before .before .before .before .before .before .before .before .before .before .before .before .before .before .args .triplet) (c .before .before .before .before .before .before .before .before .before .before .before .before .before .before .before .before .before .before .before .before .before .before .before .before .before .before .before .before .before .before .before .before .before .before .fits .triplet)) in let m1 : c .before .before .before .before .before .before .before .before .before .before .before .magnitude2 .result ≡ mag (c .before .before .before .before .before .before .before .before .before .before .before .before .before .before .before .before .before .before .before .before .before .before .before .before .before .before .before .before .before .before .before .before .before .before .args .b1) = c .before .before .before .before .before .before .before .before .before .before .before .magnitude2 .ensures ∙ ap mag (toZ-ofZ w64 (c .before .before .before .before .before .before .before .before .before .before .before .before .before .before .before .before .before .before .before .before .before .before .before .before .before .before .before .before .before .before .before .before .before .before .args .b1) (c .before .before .before .before .before .before .before .before .before .before .before .before .before .before .before .before .before .before .before .before .before .before .before .before .before .before .before .before .before .before .before .before .before .before .fits .b1)) in let m2 : c .before .before .before .before .before .before .before .before .before .before .magnitude3 .result ≡ mag (c .before .before .before .before .before .before .before .before .before .before .before .before .before .before .before .before .before .before .before .before .before .before .before .before .before .before .before .before .before .before .before .before .before .before .args .b2) = c .before .before .before .before .before .before .before .before .before .before .magnitude3 .ensures ∙ ap mag (toZ-ofZ w64 (c .before .before .before .before .before .before .before .before .before .before .before .before .before .before .before .before .before .before .before .before .before .before .before .before .before .before .before .before .before .before .before .before .before .before .args .b2) (c .before .before .before .before .before .before .before .before .before .before .before .before .before .before .before .before .before .before .before .before .before .before .before .before .before .before .before .before .before .before .before .before .before .before .fits .b2)) in let pq : (c .before .before .before .before .before .before .before .before .before .before .before .before .magnitude .result * c .before .before .before .before .before .before .before .before .before .before .before .before .before .before .before .before .before .before .before .before .before .before .before .before .before .sizes-of .result .pairs + (c .before .before .before .before .before .before .before .before .before .before .before .magnitude2 .result * c .before .before .before .before .before .before .before .before .before .before .before .before .before .before .before .before .before .before .before .before .before .before .before .before .before .sizes-of .result .bands2 + c .before .before .before .before .before .before .before .before .before .before .magnitude3 .result)) ≡ pieceOf (countsOf (asked (c .before .before .before .before .before .before .before .before .before .before .before .before .before .before .before .before .before .before .before .before .before .before .before .before .before .before .before .before .before .before .before .before .before .before))) (c .before .before .before .before .before .before .before .before .before .before .before .before .before .before .before .before .before .before .before .before .before .before .before .before .before .before .before .before .before .before .before .before .before .before .args .triplet) (c .before .before .before .before .before .before .before .before .before .before .before .before .before .before .before .before .before .before .before .before .before .before .before .before .before .before .before .before .before .before .before .before .before .before .args .b1) (c .before .before .before .before .before .before .before .before .before .before .before .before .before .before .before .before .before .before .before .before .before .before .before .before .before .before .before .before .before .before .before .before .before .before .args .b2) = rw (m0, m1, m2, zs) in let sm : _ = study-made (asked (c .before .before .before .before .before .before .before .before .before .before .before .before .before .before .before .before .before .before .before .before .before .before .before .before .before .before .before .before .before .before .before .before .before .before)) (c .before .before .before .before .before .before .before .before .before .before .before .before .before .before .before .before .before .before .before .before .before .before .before .before .before .sizes-of .result) (c .before .before .before .before .before .before .before .before .before .before .before .before .before .before .tp-type-of .result) (c .before .before .before .before .before .before .before .before .before .before .before .before .before .grid-of .result) zs et eg in let fw : _ ≡ computedWeights (studyOf (asked (c .before .before .before .before .before .before .before .before .before .before .before .before .before .before .before .before .before .before .before .before .before .before .before .before .before .before .before .before .before .before .before .before .before .before))) (λ k. eqb k (pieceOf (countsOf (asked (c .before .before .before .before .before .before .before .before .before .before .before .before .before .before .before .before .before .before .before .before .before .before .before .before .before .before .before .before .before .before .before .before .before .before))) (c .before .before .before .before .before .before .before .before .before .before .before .before .before .before .before .before .before .before .before .before .before .before .before .before .before .before .before .before .before .before .before .before .before .before .args .triplet) (c .before .before .before .before .before .before .before .before .before .before .before .before .before .before .before .before .before .before .before .before .before .before .before .before .before .before .before .before .before .before .before .before .before .before .args .b1) (c .before .before .before .before .before .before .before .before .before .before .before .before .before .before .before .before .before .before .before .before .before .before .before .before .before .before .before .before .before .before .before .before .before .before .args .b2))) (c .before .before .before .before .before .before .before .before .before .before .before .before .before .before .before .before .before .before .before .before .before .before .before .before .before .before .before .before .before .before .before .before .before .before .args .weights .now) = c .before .before .before .before .before .before .before .fill-named .ensures .0 ∙ (λ i. computedWeights (sm i) (λ k. eqb k (pq i)) (c .before .before .before .before .before .before .before .before .before .before .before .before .before .before .before .before .before .before .before .before .before .before .before .before .before .before .before .before .before .before .before .before .before .before .args .weights .now)) in let ff : _ ≡ computedFlags (studyOf (asked (c .before .before .before .before .before .before .before .before .before .before .before .before .before .before .before .before .before .before .before .before .before .before .before .before .before .before .before .before .before .before .before .before .before .before))) (λ k. eqb k (pieceOf (countsOf (asked (c .before .before .before .before .before .before .before .before .before .before .before .before .before .before .before .before .before .before .before .before .before .before .before .before .before .before .before .before .before .before .before .before .before .before))) (c .before .before .before .before .before .before .before .before .before .before .before .before .before .before .before .before .before .before .before .before .before .before .before .before .before .before .before .before .before .before .before .before .before .before .args .triplet) (c .before .before .before .before .before .before .before .before .before .before .before .before .before .before .before .before .before .before .before .before .before .before .before .before .before .before .before .before .before .before .before .before .before .before .args .b1) (c .before .before .before .before .before .before .before .before .before .before .before .before .before .before .before .before .before .before .before .before .before .before .before .before .before .before .before .before .before .before .before .before .before .before .args .b2))) (c .before .before .before .before .before .before .before .before .before .before .before .before .before .before .before .before .before .before .before .before .before .before .before .before .before .before .before .before .before .before .before .before .before .before .args .flags .now) = c .before .before .before .before .before .before .before .fill-named .ensures .1 ∙ (λ i. computedFlags (sm i) (λ k. eqb k (pq i)) (c .before .before .before .before .before .before .before .before .before .before .before .before .before .before .before .before .before .before .before .before .before .before .before .before .before .before .before .before .before .before .before .before .before .before .args .flags .now)) in let rm : _ = room (c .before .before .before .before .before .before .before .before .before .before .before .before .before .before .before .before .before .before .before .before .before .before .before .before .before .before .before .before .before .before .before .before .before .before .args .tally .runs) 1 _ (sym (c .before .before .before .before .before .before .before .before .before .before .before .before .before .before .before .before .before .before .before .next .given .1) ∙ c .before .before .before .before .before .before .before .before .before .before .before .before .before .before .before .before .before .before .before .before .before .add .ensures) in let v : verdict (asked (c .before .before .before .before .before .before .before .before .before .before .before .before .before .before .before .before .before .before .before .before .before .before .before .before .before .before .before .before .before .before .before .before .before .before)) (start (c .before .before .before .before .before .before .before .before .before .before .before .before .before .before .before .before .before .before .before .before .before .before .before .before .before .before .before .before .before .before .before .before .before .before)) (call (c .before .before .before .before .before .before .before .before .before .before .before .before .before .before .before .before .before .before .before .before .before .before .before .before .before .before .before .before .before .before .before .before .before .before)) ≡ 0 = verdict-own (asked (c .before .before .before .before .before .before .before .before .before .before .before .before .before .before .before .before .before .before .before .before .before .before .before .before .before .before .before .before .before .before .before .before .before .before)) (start (c .before .before .before .before .before .before .before .before .before .before .before .before .before .before .before .before .before .before .before .before .before .before .before .before .before .before .before .before .before .before .before .before .before .before)) (call (c .before .before .before .before .before .before .before .before .before .before .before .before .before .before .before .before .before .before .before .before .before .before .before .before .before .before .before .before .before .before .before .before .before .before)) y ∙ group-yes (pieceQuestions (countsOf (asked (c .before .before .before .before .before .before .before .before .before .before .before .before .before .before .before .before .before .before .before .before .before .before .before .before .before .before .before .before .before .before .before .before .before .before))) (c .before .before .before .before .before .before .before .before .before .before .before .before .before .before .before .before .before .before .before .before .before .before .before .before .before .before .before .before .before .before .before .before .before .before .args .marks .now) (c .before .before .before .before .before .before .before .before .before .before .before .before .before .before .before .before .before .before .before .before .before .before .before .before .before .before .before .before .before .before .before .before .before .before .args .triplet) (c .before .before .before .before .before .before .before .before .before .before .before .before .before .before .before .before .before .before .before .before .before .before .before .before .before .before .before .before .before .before .before .before .before .before .args .b1) (c .before .before .before .before .before .before .before .before .before .before .before .before .before .before .before .before .before .before .before .before .before .before .before .before .before .before .before .before .before .before .before .before .before .before .args .b2)) (tallyQuestions (c .before .before .before .before .before .before .before .before .before .before .before .before .before .before .before .before .before .before .before .before .before .before .before .before .before .before .before .before .before .before .before .before .before .before .args .tally .runs) 1) (piece-numbered (countsOf (asked (c .before .before .before .before .before .before .before .before .before .before .before .before .before .before .before .before .before .before .before .before .before .before .before .before .before .before .before .before .before .before .before .before .before .before))) (c .before .before .before .before .before .before .before .before .before .before .before .before .before .before .before .before .before .before .before .before .before .before .before .before .before .before .before .before .before .before .before .before .before .before .args .marks .now) (c .before .before .before .before .before .before .before .before .before .before .before .before .before .before .before .before .before .before .before .before .before .before .before .before .before .before .before .before .before .before .before .before .before .before .args .triplet) (c .before .before .before .before .before .before .before .before .before .before .before .before .before .before .before .before .before .before .before .before .before .before .before .before .before .before .before .before .before .before .before .before .before .before .args .b1) (c .before .before .before .before .before .before .before .before .before .before .before .before .before .before .before .before .before .before .before .before .before .before .before .before .before .before .before .before .before .before .before .before .before .before .args .b2)) pz ∙ rm .0 in done-call (asked (c .before .before .before .before .before .before .before .before .before .before .before .before .before .before .before .before .before .before .before .before .before .before .before .before .before .before .before .before .before .before .before .before .before .before)) (start (c .before .before .before .before .before .before .before .before .before .before .before .before .before .before .before .before .before .before .before .before .before .before .before .before .before .before .before .before .before .before .before .before .before .before)) (call (c .before .before .before .before .before .before .before .before .before .before .before .before .before .before .before .before .before .before .before .before .before .before .before .before .before .before .before .before .before .before .before .before .before .before)) _ _ _ _ v (rm .1) fw ff (c .before .before .set-mark .ensures ∙ ap (λ (k : ℕ). set (c .before .before .before .before .before .before .before .before .before .before .before .before .before .before .before .before .before .before .before .before .before .before .before .before .before .before .before .before .before .before .before .before .before .before .args .marks .now) k 1) pq)
 
 pub run-piece-spec : {M : Type 1} → statement M
 run-piece-spec =
