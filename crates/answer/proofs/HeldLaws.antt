@@ -23,9 +23,12 @@ use Rattle.study.specs.Studies.{Study, Holds, holds, holdsNone, studyOf}
 use Rattle.study.specs.Told.{toldStudy}
 use Rattle.study_print.proofs.StudyOnlyLaws.{PrintedOnly, printed-only}
 use Rattle.study_print.proofs.LengthLaws.{Small, study-small}
-use Rattle.answer_weights.specs.Asked.{Asked, asked}
-use Rattle.answer_weights.specs.Answers.{answerTo}
-use Rattle.answer.specs.Texts.{floatsOf, answerOfHeld, answerOf, answered}
+use Rattle.listing_length.proofs.ListingLengthLaws.{refusal-short}
+use Rattle.questions.specs.Ask.{firstNo}
+use Rattle.answer_weights.specs.Asked.{Asked, asked, questionsOf, weighed}
+use Rattle.answer_weights.specs.Answers.{listingFor, answerBy, answerTo}
+use Rattle.answer_weights.proofs.ReadyLaws.{listing-room}
+use Rattle.answer.specs.Texts.{floatsOf, askedOf, answerOfHeld, answerOf, answered}
 
 pub length-floats : (patterns : List ℕ) → length (floatsOf patterns) ≡ length patterns
 unfolding floatsOf
@@ -96,3 +99,23 @@ module _ (text : List ℕ) (r : StudyRead) (x₁ x₂ : List ℤ) (x₃ x₄ x�
 -- the answer lies within the buffer: for callers
 pub answer-within : (r : ℕ) (text old new : List ℕ) → r ≡ length (answerOf text) → new ≡ answered (answerOf text) old → r ≤ length new
 answer-within r text old new e g = omega (arith, e, ap length g, length-append (answerOf text) (drop (length (answerOf text)) old))
+
+-- ---- how long an answer can be
+
+module _ (s : Study) (w : Small s) where
+  by-number : (n : ℕ) → firstNo (questionsOf (askedOf s)) ≡ n → length (answerBy n (listingFor (weighed (askedOf s)))) ≤ 118617
+  by-number zero e = listing-room (askedOf s) e (omega (arith, length-floats (s .points), w .points)) (w .triplets)
+  by-number (suc n) e = omega (arith, refusal-short (suc n))
+
+  answer-short : length (answerTo (askedOf s)) ≤ 118617
+  unfolding answerTo
+  answer-short = by-number (firstNo (questionsOf (askedOf s))) refl
+
+-- no answer is longer than 118,617 bytes; `longest-reached` of listing_length tells that one can be as long
+pub answer-longest : (text : List ℕ) → length (answerOf text) ≤ 118617
+unfolding answerOf
+answer-longest text = go (studyOf text) refl
+  where
+    go : (h : Holds) → studyOf text ≡ h → length (answerOfHeld h) ≤ 118617
+    go holdsNone e = omega (arith, refusal-short 1)
+    go (holds s) e = answer-short s (study-small s (printed-only text s e .printable))

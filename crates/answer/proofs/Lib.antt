@@ -1,2 +1,4 @@
 pub mod AnswerLaws
 pub mod HeldLaws
+pub mod NanLaws
+pub mod TableLaws

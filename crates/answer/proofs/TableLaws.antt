@@ -1,0 +1,52 @@
+-- Question 7 is answered yes by each built-in table, so the program never refuses with 7. Assumes nothing.
+use mathlib.Core.Path.{_≡_, refl}
+use mathlib.Core.Bool.{Bool, true, false, cond}
+use Prim.Native.Nat.{ℕ, zero, suc, _<_}
+use native.Mathlib.Omega.{arith}
+use lib.ListN.{length}
+use lib.Signed.{mag}
+use Rattle.list_laws.specs.Lists.{allBelow}
+use Rattle.list_laws.specs.Signed.{within, isBetween}
+use Rattle.questions.specs.Ask.{firstNo}
+use Rattle.common.specs.Mesh.{countOf, meshOf as meshOfList}
+use Rattle.questions.specs.Grids.{areTriples, triplesIn, isGridKind, isMesh, areAddresses, isMap}
+use Rattle.questions.specs.Studies.{tripletsIn, areStudyCounts, areTriplets, areStudyFrequencies}
+use Rattle.questions.specs.TpTypes.{isTpType}
+use Rattle.questions.specs.Tables.{isTable}
+use Rattle.tetrahedron_tables.specs.Tables.{tableOf, flat, table0, table1, table2, table3}
+use Rattle.answer_weights.specs.Asked.{Asked, meshOf, questionsOf}
+use Rattle.study.specs.declared.Head.{Head}
+use Rattle.study.specs.Counts.{fewWeights}
+use Rattle.answer.proofs.AnswerLaws.{diagonal-lt}
+
+pub built-in : (d : ℕ) → d < 4 → isTable (flat (tableOf d)) ≡ true
+unfolding isTable areTriples allBelow within flat tableOf table0 table1 table2 table3
+built-in zero h = refl
+built-in (suc zero) h = refl
+built-in (suc (suc zero)) h = refl
+built-in (suc (suc (suc zero))) h = refl
+built-in (suc (suc (suc (suc d)))) h = absurd (omega (arith, h))
+
+-- of a head with `diag` 0 to 3, as every well formed text has, the first no is never 7
+pub never-seven : (a : Asked) → isBetween 0 3 (a .head .diag) ≡ true → firstNo (questionsOf a) ≡ 7 → ⊥
+unfolding firstNo
+never-seven a d e =
+    let h : Head = a .head in
+    let n : ℕ = countOf (meshOfList (meshOf h)) in
+    let p : ℕ = triplesIn (a .addresses) in
+    go (fewWeights (h .«tp_type») (h .«num_band1») (h .«num_band2») (length (a .points)) (tripletsIn (a .triplets))) (isGridKind (h .«bz_grid_type»)) (isMesh 128 (meshOf h)) (areAddresses n (a .addresses))
+    (isMap (h .«bz_grid_type») n p (a .map)) (isTpType (h .«tp_type»)) (areStudyCounts (h .«num_band1») (h .«num_band2») (length (a .points)) (tripletsIn (a .triplets))) (areTriplets p (a .triplets))
+    (areStudyFrequencies p (mag (h .«num_band1»)) (mag (h .«num_band2»)) (a .frequencies1) (a .frequencies2) (a .points))
+    (rw (built-in (mag (a .head .diag)) (diagonal-lt (a .head .diag) d)) at e)
+  where
+    go : (b1 b3 b4 b5 b6 b8 b9 b10 b11 : Bool) → _≡_ {A = ℕ} (cond b1 (cond b3 (cond b4 (cond b5 (cond b6 (cond b8 (cond b9 (cond b10 (cond b11 0 11) 10) 9) 8) 6) 5) 4) 3) 1) 7 → ⊥
+    go false b3 b4 b5 b6 b8 b9 b10 b11 e = omega (arith, e)
+    go true false b4 b5 b6 b8 b9 b10 b11 e = omega (arith, e)
+    go true true false b5 b6 b8 b9 b10 b11 e = omega (arith, e)
+    go true true true false b6 b8 b9 b10 b11 e = omega (arith, e)
+    go true true true true false b8 b9 b10 b11 e = omega (arith, e)
+    go true true true true true false b9 b10 b11 e = omega (arith, e)
+    go true true true true true true false b10 b11 e = omega (arith, e)
+    go true true true true true true true false b11 e = omega (arith, e)
+    go true true true true true true true true false e = omega (arith, e)
+    go true true true true true true true true true e = omega (arith, e)
