@@ -2,6 +2,8 @@
 use borrow.Author.Needs.{needs}
 use mathlib.Core.Bool.{false, true}
 use mathlib.Core.Path.{_∙_, _≡_, sym}
+use mir.Syntax.{w64}
+use mir.Val.{ofZ, toZ}
 use Rattle.book.proofs.CallLaws.{call-average, call-carry, call-run}
 use Rattle.book.specs.Calls.{idsFrom, numberAt}
 use Rattle.list_laws.proofs.SignedLaws.{back}
@@ -86,7 +88,7 @@ same-length-9 c = search needs
 
 returns-3 : tie.Need-returns-3
 returns-3 c =
-    let h0 : isNat (numberAt (c .before .before .before .before .before .before .before .before .before .before .before .before .before .before .before .before .before .before .before .before .before .before .before .before .before .before .args .list .now) (c .before .before .before .before .before .before .before .before .before .before .before .before .before .before .before .before .before .before .before .before .before .before .before .before .before .before .args .i) 0) 0 ≡ false = rw (back (c .before .before .before .before .before .before .before .before .before .before .before .before .before .before .before .before .before .before .before .before .number .result) (c .before .before .before .before .before .before .before .before .before .before .before .before .before .before .before .before .before .before .before .before .number .ok), c .before .before .before .before .before .before .before .before .before .before .before .before .before .before .before .before .before .before .before .before .number .ensures) at (sym (c .before .before .before .before .before .before .before .before .before .before .before .before .before .before .before .before .is-nat .ensures) ∙ c .before .before .before .before .before .before .before .before .before .before .before .before .before .before .before .if1 .left) in let h1 : isNat (numberAt (c .before .before .before .before .before .before .before .before .before .before .before .before .before .before .before .before .before .before .before .before .before .before .before .before .before .before .args .list .now) (c .before .before .before .before .before .before .before .before .before .before .before .before .before .before .before .before .before .before .before .before .before .before .before .before .before .before .args .i) 0) 1 ≡ false = rw (back (c .before .before .before .before .before .before .before .before .before .before .before .before .before .before .before .before .before .before .before .before .number .result) (c .before .before .before .before .before .before .before .before .before .before .before .before .before .before .before .before .before .before .before .before .number .ok), c .before .before .before .before .before .before .before .before .before .before .before .before .before .before .before .before .before .before .before .before .number .ensures) at (sym (c .before .before .before .before .before .before .before .before .before .before .before .before .before .before .is-nat2 .ensures) ∙ c .before .before .before .before .before .before .before .before .before .before .before .before .before .if2 .left) in let i1 : c .before .before .before .before .before .before .before .before .before .before .ids-from .result .now ≡ idsFrom (c .before .before .before .before .before .before .before .before .before .before .before .before .before .before .before .before .before .before .before .before .before .before .before .before .before .before .args .ids .now) (numberAt (c .before .before .before .before .before .before .before .before .before .before .before .before .before .before .before .before .before .before .before .before .before .before .before .before .before .before .args .list .now) (c .before .before .before .before .before .before .before .before .before .before .before .before .before .before .before .before .before .before .before .before .before .before .before .before .before .before .args .i) 2) (numberAt (c .before .before .before .before .before .before .before .before .before .before .before .before .before .before .before .before .before .before .before .before .before .before .before .before .before .before .args .list .now) (c .before .before .before .before .before .before .before .before .before .before .before .before .before .before .before .before .before .before .before .before .before .before .before .before .before .before .args .i) 3) = rw (back (c .before .before .before .before .before .before .before .before .before .before .before .before .before .before .before .before .before .before .number3 .result) (c .before .before .before .before .before .before .before .before .before .before .before .before .before .before .before .before .before .before .number3 .ok), back (c .before .before .before .before .before .before .before .before .before .before .before .before .before .before .before .before .before .number4 .result) (c .before .before .before .before .before .before .before .before .before .before .before .before .before .before .before .before .before .number4 .ok), c .before .before .before .before .before .before .before .before .before .before .before .before .before .before .before .before .before .before .number3 .ensures, c .before .before .before .before .before .before .before .before .before .before .before .before .before .before .before .before .before .number4 .ensures) at (c .before .before .before .before .before .before .before .before .before .before .ids-from .ensures) in let i2 : c .before .before .before .before .before .before .before .before .before .ids-from2 .result .now ≡ idsFrom (c .before .before .before .before .before .before .before .before .before .before .before .before .before .before .before .before .before .before .before .before .before .before .before .before .before .before .args .ids .now) (numberAt (c .before .before .before .before .before .before .before .before .before .before .before .before .before .before .before .before .before .before .before .before .before .before .before .before .before .before .args .list .now) (c .before .before .before .before .before .before .before .before .before .before .before .before .before .before .before .before .before .before .before .before .before .before .before .before .before .before .args .i) 4) (numberAt (c .before .before .before .before .before .before .before .before .before .before .before .before .before .before .before .before .before .before .before .before .before .before .before .before .before .before .args .list .now) (c .before .before .before .before .before .before .before .before .before .before .before .before .before .before .before .before .before .before .before .before .before .before .before .before .before .before .args .i) 5) = rw (back (c .before .before .before .before .before .before .before .before .before .before .before .before .number5 .result) (c .before .before .before .before .before .before .before .before .before .before .before .before .number5 .ok), back (c .before .before .before .before .before .before .before .before .before .before .before .number6 .result) (c .before .before .before .before .before .before .before .before .before .before .before .number6 .ok), c .before .before .before .before .before .before .before .before .before .before .before .before .number5 .ensures, c .before .before .before .before .before .before .before .before .before .before .before .number6 .ensures) at (c .before .before .before .before .before .before .before .before .before .ids-from2 .ensures) in rw (call-average (c .before .before .before .before .before .before .before .before .before .before .before .before .before .before .before .before .before .before .before .before .before .before .before .before .before .before .args .list .now) (c .before .before .before .before .before .before .before .before .before .before .before .before .before .before .before .before .before .before .before .before .before .before .before .before .before .before .args .ids .now) (c .before .before .before .before .before .before .before .before .before .before .before .before .before .before .before .before .before .before .before .before .before .before .before .before .before .before .args .i) h0 h1) (rw (back (c .before .before .before .before .before .before .before .before .before .before .before .before .before .before .before .before .before .before .before .number2 .result) (c .before .before .before .before .before .before .before .before .before .before .before .before .before .before .before .before .before .before .before .number2 .ok), c .before .before .before .before .before .before .before .before .before .before .before .before .before .before .before .before .before .before .before .number2 .ensures, i1, i2) at (c .before .before .before .before .before .average-triplet .ensures))
+    let h0 : isNat (numberAt (c .before .before .before .before .before .before .before .before .before .before .before .before .before .before .before .before .before .before .before .before .before .before .before .before .before .before .args .list .now) (c .before .before .before .before .before .before .before .before .before .before .before .before .before .before .before .before .before .before .before .before .before .before .before .before .before .before .args .i) 0) 0 ≡ false = rw (back (c .before .before .before .before .before .before .before .before .before .before .before .before .before .before .before .before .before .before .before .before .number .result) (c .before .before .before .before .before .before .before .before .before .before .before .before .before .before .before .before .before .before .before .before .number .ok), c .before .before .before .before .before .before .before .before .before .before .before .before .before .before .before .before .before .before .before .before .number .ensures) at (sym (c .before .before .before .before .before .before .before .before .before .before .before .before .before .before .before .before .is-nat .ensures) ∙ c .before .before .before .before .before .before .before .before .before .before .before .before .before .before .before .if1 .left) in let h1 : isNat (numberAt (c .before .before .before .before .before .before .before .before .before .before .before .before .before .before .before .before .before .before .before .before .before .before .before .before .before .before .args .list .now) (c .before .before .before .before .before .before .before .before .before .before .before .before .before .before .before .before .before .before .before .before .before .before .before .before .before .before .args .i) 0) 1 ≡ false = rw (back (c .before .before .before .before .before .before .before .before .before .before .before .before .before .before .before .before .before .before .before .before .number .result) (c .before .before .before .before .before .before .before .before .before .before .before .before .before .before .before .before .before .before .before .before .number .ok), c .before .before .before .before .before .before .before .before .before .before .before .before .before .before .before .before .before .before .before .before .number .ensures) at (sym (c .before .before .before .before .before .before .before .before .before .before .before .before .before .before .is-nat2 .ensures) ∙ c .before .before .before .before .before .before .before .before .before .before .before .before .before .if2 .left) in let n3 : toZ w64 (ofZ w64 (c .before .before .before .before .before .before .before .before .before .before .before .before .before .before .before .before .before .before .number3 .result)) ≡ (numberAt (c .before .before .before .before .before .before .before .before .before .before .before .before .before .before .before .before .before .before .before .before .before .before .before .before .before .before .args .list .now) (c .before .before .before .before .before .before .before .before .before .before .before .before .before .before .before .before .before .before .before .before .before .before .before .before .before .before .args .i) 2) = back (c .before .before .before .before .before .before .before .before .before .before .before .before .before .before .before .before .before .before .number3 .result) (c .before .before .before .before .before .before .before .before .before .before .before .before .before .before .before .before .before .before .number3 .ok) ∙ c .before .before .before .before .before .before .before .before .before .before .before .before .before .before .before .before .before .before .number3 .ensures in let n4 : toZ w64 (ofZ w64 (c .before .before .before .before .before .before .before .before .before .before .before .before .before .before .before .before .before .number4 .result)) ≡ (numberAt (c .before .before .before .before .before .before .before .before .before .before .before .before .before .before .before .before .before .before .before .before .before .before .before .before .before .before .args .list .now) (c .before .before .before .before .before .before .before .before .before .before .before .before .before .before .before .before .before .before .before .before .before .before .before .before .before .before .args .i) 3) = back (c .before .before .before .before .before .before .before .before .before .before .before .before .before .before .before .before .before .number4 .result) (c .before .before .before .before .before .before .before .before .before .before .before .before .before .before .before .before .before .number4 .ok) ∙ c .before .before .before .before .before .before .before .before .before .before .before .before .before .before .before .before .before .number4 .ensures in let i1 : c .before .before .before .before .before .before .before .before .before .before .ids-from .result .now ≡ idsFrom (c .before .before .before .before .before .before .before .before .before .before .before .before .before .before .before .before .before .before .before .before .before .before .before .before .before .before .args .ids .now) (numberAt (c .before .before .before .before .before .before .before .before .before .before .before .before .before .before .before .before .before .before .before .before .before .before .before .before .before .before .args .list .now) (c .before .before .before .before .before .before .before .before .before .before .before .before .before .before .before .before .before .before .before .before .before .before .before .before .before .before .args .i) 2) (numberAt (c .before .before .before .before .before .before .before .before .before .before .before .before .before .before .before .before .before .before .before .before .before .before .before .before .before .before .args .list .now) (c .before .before .before .before .before .before .before .before .before .before .before .before .before .before .before .before .before .before .before .before .before .before .before .before .before .before .args .i) 3) = c .before .before .before .before .before .before .before .before .before .before .ids-from .ensures ∙ (λ k. idsFrom (c .before .before .before .before .before .before .before .before .before .before .before .before .before .before .before .before .before .before .before .before .before .before .before .before .before .before .args .ids .now) (n3 k) (n4 k)) in let n5 : toZ w64 (ofZ w64 (c .before .before .before .before .before .before .before .before .before .before .before .before .number5 .result)) ≡ (numberAt (c .before .before .before .before .before .before .before .before .before .before .before .before .before .before .before .before .before .before .before .before .before .before .before .before .before .before .args .list .now) (c .before .before .before .before .before .before .before .before .before .before .before .before .before .before .before .before .before .before .before .before .before .before .before .before .before .before .args .i) 4) = back (c .before .before .before .before .before .before .before .before .before .before .before .before .number5 .result) (c .before .before .before .before .before .before .before .before .before .before .before .before .number5 .ok) ∙ c .before .before .before .before .before .before .before .before .before .before .before .before .number5 .ensures in let n6 : toZ w64 (ofZ w64 (c .before .before .before .before .before .before .before .before .before .before .before .number6 .result)) ≡ (numberAt (c .before .before .before .before .before .before .before .before .before .before .before .before .before .before .before .before .before .before .before .before .before .before .before .before .before .before .args .list .now) (c .before .before .before .before .before .before .before .before .before .before .before .before .before .before .before .before .before .before .before .before .before .before .before .before .before .before .args .i) 5) = back (c .before .before .before .before .before .before .before .before .before .before .before .number6 .result) (c .before .before .before .before .before .before .before .before .before .before .before .number6 .ok) ∙ c .before .before .before .before .before .before .before .before .before .before .before .number6 .ensures in let i2 : c .before .before .before .before .before .before .before .before .before .ids-from2 .result .now ≡ idsFrom (c .before .before .before .before .before .before .before .before .before .before .before .before .before .before .before .before .before .before .before .before .before .before .before .before .before .before .args .ids .now) (numberAt (c .before .before .before .before .before .before .before .before .before .before .before .before .before .before .before .before .before .before .before .before .before .before .before .before .before .before .args .list .now) (c .before .before .before .before .before .before .before .before .before .before .before .before .before .before .before .before .before .before .before .before .before .before .before .before .before .before .args .i) 4) (numberAt (c .before .before .before .before .before .before .before .before .before .before .before .before .before .before .before .before .before .before .before .before .before .before .before .before .before .before .args .list .now) (c .before .before .before .before .before .before .before .before .before .before .before .before .before .before .before .before .before .before .before .before .before .before .before .before .before .before .args .i) 5) = c .before .before .before .before .before .before .before .before .before .ids-from2 .ensures ∙ (λ k. idsFrom (c .before .before .before .before .before .before .before .before .before .before .before .before .before .before .before .before .before .before .before .before .before .before .before .before .before .before .args .ids .now) (n5 k) (n6 k)) in rw (call-average (c .before .before .before .before .before .before .before .before .before .before .before .before .before .before .before .before .before .before .before .before .before .before .before .before .before .before .args .list .now) (c .before .before .before .before .before .before .before .before .before .before .before .before .before .before .before .before .before .before .before .before .before .before .before .before .before .before .args .ids .now) (c .before .before .before .before .before .before .before .before .before .before .before .before .before .before .before .before .before .before .before .before .before .before .before .before .before .before .args .i) h0 h1) (rw (back (c .before .before .before .before .before .before .before .before .before .before .before .before .before .before .before .before .before .before .before .number2 .result) (c .before .before .before .before .before .before .before .before .before .before .before .before .before .before .before .before .before .before .before .number2 .ok), c .before .before .before .before .before .before .before .before .before .before .before .before .before .before .before .before .before .before .before .number2 .ensures, i1, i2) at (c .before .before .before .before .before .average-triplet .ensures))
 
 pub one-call-spec : {M : Type 1} → statement M
 one-call-spec =

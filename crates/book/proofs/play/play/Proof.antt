@@ -56,7 +56,7 @@ mul-answers c =
 
 slice-write-answers : tie.Need-slice-write-answers Inv-loop μ-loop
 slice-write-answers c =
-    c .before .before .before .before .before .before .before .before .before .before .before .loop-test .taken
+    let v = c .before .before .before .before .before .before .before .before .before .before .before .before .loop .inv in let at-i : c .before .before .before .before .before .before .before .before .before .before .before .before .loop .i < length (c .before .before .before .before .before .before .before .before .before .before .before .before .before .before .before .before .before .before .before .before .args .answers .now) = omega (arith, v .4, c .before .before .before .before .before .before .before .before .before .before .before .loop-test .taken) in omega (arith, at-i, v .4)
 
 mul-tallies : tie.Need-mul-tallies Inv-loop μ-loop
 mul-tallies c =
