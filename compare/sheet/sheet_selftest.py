@@ -1,0 +1,359 @@
+#!/usr/bin/env python3
+"""Random studies, starts and calls for the model of the run sheet; self-test.
+
+    python3 sheet_selftest.py [LISTS] [SEED]
+"""
+import math
+import random
+import sys
+
+from sheet_model import (
+    SIGN, Sheet, Study, answer_table, average_flags, average_weights, bits, blocks_of, book,
+    built_in, check_step, div, do, grid_index, neighbour, open_count, piece, power, program,
+    sort_omegas, value, weight, within)
+
+INFINITY = 0x7FF << 52
+
+# ---------------------------------------------------------------- makers
+
+MESHES = ((1, 1, 1), (2, 1, 1), (1, 2, 1), (1, 1, 2), (2, 2, 1), (2, 1, 2), (1, 3, 1),
+          (3, 2, 1), (2, 2, 2))
+
+
+def canonical(n, mesh):
+    return [n % mesh[0], n // mesh[0] % mesh[1], n // (mesh[0] * mesh[1])]
+
+
+def random_grid(rng, kind, mesh, extra):
+    """Addresses and map. Mostly a true grid, sometimes any content that passes."""
+    n = mesh[0] * mesh[1] * mesh[2]
+    wild = rng.random() < 0.25
+
+    def image(i):
+        if wild and rng.random() < 0.5:
+            return [rng.choice((rng.randint(-4, 4), -4096, 4096)) for _ in range(3)]
+        return [a + d * rng.choice((0, 0, -1, 1)) for a, d in zip(canonical(i, mesh), mesh)]
+
+    tail = [rng.choice((0, -1, 7, 1 << 62, -1 << 63)) for _ in range(rng.choice((0, 0, 0, 1, 3)))]
+    if kind == 1:
+        addresses = [image(i) for i in range(n)]
+        addresses += [image(rng.randrange(n)) for _ in range(min(extra, 7 * n))]
+        p = len(addresses)
+        table = [8 * n] * (8 * n)
+        if wild:
+            table = [rng.choice((8 * n, rng.randrange(p))) for _ in table]
+        else:
+            for i, a in enumerate(addresses):
+                table[grid_index(a, [2 * d for d in mesh])] = i
+    else:
+        sizes = [1] * n
+        for _ in range(min(extra, 7 * n)):
+            sizes[rng.randrange(n)] += 1
+        addresses = [image(i) for i in range(n) for _ in range(sizes[i])]
+        table = [0]
+        for size in sizes:
+            table.append(table[-1] + size)
+    return [x for a in addresses for x in a], table + tail
+
+
+def random_frequencies(rng, count):
+    """Patterns of one style: quarters, reals, near equal, or any magnitude."""
+    style = rng.choice(("quarter", "quarter", "real", "near", "wide"))
+    base = rng.choice((0.0, 1.0, 5.0))
+    out = []
+    for _ in range(count):
+        if style == "quarter":
+            x = rng.randint(-4, 12) / 4.0
+        elif style == "real":
+            x = rng.uniform(-1.0, 6.0)
+        elif style == "near":
+            x = base + rng.randint(-6, 6) * rng.choice((2.5e-11, 5e-11, 1e-10))
+        else:
+            x = rng.choice((0.0, -0.0, 2.0 ** -600, -2.0 ** -600, 2.0 ** 30, -2.0 ** 30,
+                            rng.choice((-1.0, 1.0)) * 2.0 ** rng.uniform(-600, 30)))
+            if not within(bits(x), -600, 30):
+                x = 1.0
+        out.append(bits(x))
+    return out
+
+
+def random_points(rng, count, f1, f2):
+    """On a corner value, between two, on the box's ends, or anywhere."""
+    out = []
+    for _ in range(count):
+        a, b, c = (value(rng.choice(f)) if f else 0.0 for f in (f1, f2, f1 + f2))
+        x = rng.choice((a + b, b - a, a - b, max(a, 0.0) + max(b, 0.0), (a + b) / 2.0,
+                        max(a, 0.0) - max(b, 0.0), rng.uniform(-2.0, 7.0), c, -c,
+                        (a + b + c) / 3.0, 0.0, -0.0, rng.choice(
+                            (2.0 ** 31, -2.0 ** 31, 2.0 ** -660, -2.0 ** -660, 1.0, 2.0))))
+        out.append(bits(x) if within(bits(x), -660, 31) else bits(1.0))
+    return out
+
+
+def random_study(rng):
+    """An accepted study."""
+    kind = rng.choice((1, 2))
+    mesh = rng.choice(MESHES)
+    addresses, table_map = random_grid(rng, kind, mesh, rng.choice((0, 0, 1, 2, 5)))
+    p = len(addresses) // 3
+    b1 = rng.randint(1, 3)
+    bands = (b1, b1 if rng.random() < 0.75 else rng.randint(1, 3))
+    sets = rng.choice((1, 1, 1, 1, 2, 3, 4))
+    table = built_in(*(rng.randrange(4) for _ in range(sets)))
+    if rng.random() < 0.15:
+        table = [rng.randint(-3, 3) for _ in table]
+    if rng.random() < 0.1:
+        table[rng.randrange(len(table))] = rng.choice((-4096, 4096))
+    f1 = random_frequencies(rng, p * bands[0])
+    f2 = random_frequencies(rng, p * bands[1])
+    t = rng.choice((0, 1, 1, 2, 2, 2, 3, 3))
+    return Study(kind=kind, mesh=mesh, type=rng.choice((2, 3, 4)), bands=bands,
+                 addresses=addresses, map=table_map, table=table, frequencies1=f1,
+                 frequencies2=f2, points=random_points(rng, rng.randint(1, 3), f1, f2),
+                 triplets=[rng.randrange(p) for _ in range(3 * t)])
+
+
+STRANGE = (0, SIGN, INFINITY, INFINITY | SIGN, 0x7FF8000000000000,
+           0xFFF8000000000001, 0x7FF0000000000001, 0x7FF4DEADBEEF0123,
+           0xFFFFFFFFFFFFFFFF, 0x7FFFFFFFFFFFFFFF, 1, SIGN | 1, power(60),
+           power(60) | SIGN, power(60) + 1, 0x7FEFFFFFFFFFFFFF, bits(1.0), bits(-2.5))
+
+TALLIES = (0,) * 16 + (1, 5, (1 << 63) - 8, (1 << 63) - 3, (1 << 63) - 2, (1 << 63) - 1,
+           1 << 63, (1 << 63) + 1, (1 << 64) - 1)
+
+
+def lengths(s):
+    """Lengths of weights, flags, marks of an accepted study."""
+    pieces = s.t * s.bands[0] * s.bands[1]
+    return s.channels * s.f * pieces, s.f * pieces, pieces
+
+
+def random_start(rng, s, marks=None, tally=None):
+    """Old content of every sort; marks all 0 unless given."""
+    nw, nf, nm = lengths(s)
+    if marks is None:
+        marks = [0] * nm
+    return Sheet([rng.choice(STRANGE) if rng.random() < 0.7 else rng.getrandbits(64)
+                  for _ in range(nw)],
+                 [rng.choice((0, 1, -1, 2, 127, -128)) for _ in range(nf)], marks,
+                 rng.choice(TALLIES) if tally is None else tally)
+
+
+def random_ids(rng, count):
+    ids = []
+    for i in range(count):
+        ids.append(i if i == 0 or rng.random() < 0.5 else ids[-1])
+    return tuple(ids)
+
+
+FAR = (1 << 63) - 1
+DEEP = -(1 << 63)
+
+
+def wrong_ids(rng, count):
+    """Mostly wrong; the questions judge."""
+    ids = list(random_ids(rng, count))
+    how = rng.randrange(5)
+    if how == 0:
+        ids = ids[:-1]
+    elif how == 1:
+        ids.append(count)
+    elif how == 2:
+        ids = []
+    else:
+        i = rng.randrange(count)
+        ids[i] = rng.choice((i + 1, -1, ids[i] - 1, FAR, DEEP, count, 0, 1))
+    return tuple(ids)
+
+
+def random_call(rng, s, wrong=0.15):
+    """Of an accepted study; with some chance with a wrong argument."""
+    kind = rng.choice(("run", "run", "run", "carry_on", "average", "average"))
+    if kind == "carry_on":
+        return ("carry_on",)
+    bad = rng.random() < wrong or s.t == 0
+
+    def one(count):
+        if bad and rng.random() < 0.5:
+            return rng.choice((-1, count, count + 1, FAR, DEEP))
+        return rng.randrange(count) if count else 0
+
+    if kind == "run":
+        return ("run", one(s.t), one(s.bands[0]), one(s.bands[1]))
+    t = one(s.t)
+    ids1, ids2 = random_ids(rng, s.bands[0]), random_ids(rng, s.bands[1])
+    if bad and rng.random() < 0.5:
+        ids1 = wrong_ids(rng, s.bands[0])
+    if bad and rng.random() < 0.3:
+        ids2 = wrong_ids(rng, s.bands[1])
+    return ("average", t, ids1, ids2)
+
+
+def spoil_study(rng, s):
+    """One or two changes that may make a study wrong; the questions judge."""
+    any_number = (0, -1, 1, 2, 3, 5, 65, 129, 4097, -4097, FAR, DEEP)
+    for _ in range(rng.choice((1, 1, 2))):
+        field = rng.choice(Study.FIELDS)
+        v = getattr(s, field)
+        if field in ("kind", "type"):
+            v = rng.choice(any_number)
+        elif field in ("mesh", "bands"):
+            v = list(v)
+            v[rng.randrange(len(v))] = rng.choice(any_number)
+        elif field in ("frequencies1", "frequencies2", "points"):
+            v = list(v)
+            if v and rng.random() < 0.7:
+                v[rng.randrange(len(v))] = rng.choice(STRANGE)
+            elif v and rng.random() < 0.5:
+                v.pop()
+            else:
+                v.append(0)
+        else:
+            v = list(v)
+            if v and rng.random() < 0.7:
+                v[rng.randrange(len(v))] = rng.choice(any_number)
+            elif v and rng.random() < 0.5:
+                v = v[:-rng.choice((1, 2, 3))]
+            else:
+                v += [0] * rng.choice((1, 2, 3))
+        s = s.but(**{field: v})
+    return s
+
+
+def spoil_lengths(rng, start):
+    name = rng.choice(("weights", "flags", "marks"))
+    v = getattr(start, name)
+    if v and rng.random() < 0.6:
+        v.pop()
+    else:
+        v.append(0)
+
+
+# ---------------------------------------------------------------- self-test
+
+def points_to_check():
+    """The points of document 01 that concern this model."""
+    def same(four, omega):
+        return weight(omega, [list(map(float, four))] * 24)
+
+    assert same((0, 4, 4, 4), 2.0) == 0.375
+    assert same((0, 4, 4, 4), -1.0) == 0.0
+    assert same((0, 4, 4, 4), 0.0) == 0.0
+    assert same((0, 4, 4, 4), 4.0) == 0.0
+    assert same((4, 0, 0, 0), 2.0) == 0.375
+    assert same((0, 0, 0, 5e-11), 0.0) == 0.0
+    assert same((0, 0, 4, 4), 0.0) == 0.0
+    assert sort_omegas([4.0, 0.0, 4.0, 4.0])[1] == 2
+    assert sort_omegas([4.0, 0.0, 0.0, 0.0])[1] == 3
+    for n in range(4):
+        flat = built_in(n)
+        assert len(flat) == 288
+        for i in range(0, 288, 12):
+            a, b, c = flat[i + 3:i + 6], flat[i + 6:i + 9], flat[i + 9:i + 12]
+            det = (a[0] * (b[1] * c[2] - b[2] * c[1]) - a[1] * (b[0] * c[2] - b[2] * c[0])
+                   + a[2] * (b[0] * c[1] - b[1] * c[0]))
+            assert det in (-1, 1)
+    one = bits(1.0)
+    s = Study(kind=2, mesh=(2, 1, 1), type=2, bands=(1, 1), map=(0, 1, 3),
+              addresses=(0, 0, 0, 1, 0, 0, -1, 0, 0), table=built_in(0),
+              frequencies1=[one] * 3, frequencies2=[one] * 3, points=[one], triplets=[0] * 3)
+    assert neighbour(s, 0, (-1, 0, 0)) == 2
+    assert neighbour(s, 0, (3, 0, 0)) == 1
+    # The study of the document's example.
+    s = Study(kind=2, mesh=(1, 1, 1), type=2, bands=(1, 1), addresses=(0, 0, 0), map=(0, 1),
+              table=built_in(0), frequencies1=[one], frequencies2=[one],
+              points=[bits(2.0), bits(3.0)], triplets=(0, 0, 0))
+    assert piece(s, 0, 0, 0) == [((0, 0), 0), ((0, 0), 1)]
+    # Averaging: ids 0,0 and 0,1.
+    w = [bits(x) for x in (1.0, 2.0, 3.0, 5.0)]
+    z = [1, 0, 1, 1]
+    blocks = blocks_of((0, 0), (0, 1))
+    average_weights(w, blocks, 2)
+    average_flags(z, blocks, 2)
+    assert [value(b) for b in w] == [2.0, 3.5, 2.0, 3.5] and z == [1, 0, 1, 0]
+    # 23 rows, mesh 128 and 129, counts.
+    sheet = Sheet([0] * 4, [0] * 2, [0], 0)
+    assert do(s, sheet.copy(), ("carry_on",)) == ("done", 1)
+    assert do(s.but(table=built_in(0)[:276]), sheet.copy(), ("carry_on",)) == ("refused", 7)
+    for d, want in ((128, ("done", 1)), (129, ("refused", 4))):
+        big = s.but(mesh=(1, d, 1), addresses=[0, 0, 0] * d, map=range(d + 1),
+                    frequencies1=[one] * d, frequencies2=[one] * d)
+        assert do(big, sheet.copy(), ("carry_on",)) == want
+    for count, want in ((65536, 12), (65537, 9)):
+        big = s.but(triplets=[0] * (3 * count))
+        assert do(big, sheet.copy(), ("carry_on",)) == ("refused", want)
+    assert do(s.but(triplets=[0] * (3 * 65536 + 1)), sheet.copy(), ("carry_on",)) == ("refused", 9)
+    for count, want in ((1024, 12), (1025, 9)):
+        big = s.but(points=[one] * count)
+        assert do(big, sheet.copy(), ("carry_on",)) == ("refused", want)
+    # Open count.
+    assert open_count((1, 2, 2, 2), [0, 1, 0, -1, 2, 0, 0, 0], 0) == ("done", 2)
+    assert open_count((1, 2, 2, 2), [0, 1, 0, -1, 2, 0, 0, 0], 1) == ("done", 3)
+    assert open_count((1, 2, 2, 2), [0] * 8, 2) == ("refused", 14)
+    assert open_count((1, 2, 2, 2), [0] * 7, 2) == ("refused", 12)
+    assert open_count((1, 2, 0, 2), [0] * 7, 2) == ("refused", 9)
+    assert open_count((1, 2, 2, -1), [], 0) == ("refused", 9)
+    # Division.
+    assert div(1.0, 0.0) == math.inf and div(-1.0, 0.0) == -math.inf
+    assert div(1.0, -0.0) == -math.inf and div(0.0, 0.0) != div(0.0, 0.0)
+
+
+def self_test(count, seed):
+    """Program against book (marks all 0 at the start), and program against the
+    patch of each call (any marks at the start)."""
+    points_to_check()
+    rng = random.Random(seed)
+    seen = {}
+    calls_made = patches = lists = 0
+    while lists < count:
+        s = random_study(rng)
+        how = rng.random()
+        for _ in range(3):
+            study = spoil_study(rng, s) if how < 0.25 else s
+            start = random_start(rng, s)
+            if 0.25 < how < 0.3:
+                spoil_lengths(rng, start)
+            calls = [random_call(rng, s) for _ in range(rng.randint(0, 14))]
+            if calls and rng.random() < 0.4:
+                calls[rng.randrange(min(3, len(calls)))] = ("carry_on",)
+            a, b = program(study, start, calls), book(study, start, calls)
+            before = start
+            for call, (answer, sheet), (answer2, sheet2) in zip(calls, a, b):
+                assert answer == answer2, (call, answer, answer2)
+                assert sheet.content() == sheet2.content(), (call, answer)
+                check_step(study, before, call, answer, sheet)
+                before = sheet
+                key = (call[0],) + ((answer[1],) if answer[0] == "refused" else ("done",))
+                seen[key] = seen.get(key, 0) + 1
+            calls_made += len(calls)
+            lists += 1
+        # Any marks at the start: no book, each call against its patch.
+        nbb = s.bands[0] * s.bands[1]
+        marks = []
+        for _ in range(s.t):
+            k = rng.randrange(6)
+            marks += ([1] * nbb if k < 3 else [2] * nbb if k == 3 else
+                      [rng.choice((0, 1)) for _ in range(nbb)] if k == 4 else
+                      [rng.choice((0, 1, 2, 3, 255)) for _ in range(nbb)])
+        before = random_start(rng, s, marks)
+        if rng.random() < 0.6:
+            before.weights = [rng.choice((0, 1, power(60), power(60) | SIGN, bits(0.1), bits(-7.3)))
+                              for _ in before.weights]
+        for _ in range(rng.randint(1, 8)):
+            call = random_call(rng, s)
+            sheet = before.copy()
+            answer = do(s, sheet, call)
+            check_step(s, before, call, answer, sheet)
+            before = sheet
+            patches += 1
+            key = (call[0],) + ((answer[1],) if answer[0] == "refused" else ("done",))
+            seen[key] = seen.get(key, 0) + 1
+    return lists, calls_made, patches, seen
+
+
+if __name__ == "__main__":
+    want = int(sys.argv[1]) if len(sys.argv) > 1 else 3000
+    lists, made, patches, seen = self_test(want, int(sys.argv[2]) if len(sys.argv) > 2 else 1)
+    print("%d lists, %d calls: program and book agree; %d calls on any marks agree with their patch"
+          % (lists, made, patches))
+    print(answer_table(seen))

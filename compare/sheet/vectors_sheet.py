@@ -1,0 +1,148 @@
+#!/usr/bin/env python3
+"""Writes the stored input and output of the program `vectors_sheet` from the lists of calls in sheet_cases.py.
+
+    python3 vectors_sheet.py CRATE [SEED]      CRATE: the folder that gets stdin and stdout
+
+The program's source says what the records are. Every answer and content is the model's; this file only spells them.
+"""
+import os
+import sys
+
+sys.path.insert(0, os.path.join(os.path.dirname(os.path.abspath(__file__)), ".."))
+
+import records
+import sheet_cases
+import sheet_model as m
+
+KINDS = {"run": 1, "carry_on": 2, "average": 3}
+NAMES = {1: "run of a piece", 2: "carry on", 3: "average of a triplet", 4: "open count"}
+# The program's buffers: of a sheet, of whole numbers, of floats; and its flags.
+ROOM = 256
+NUMBERS = 1500
+REALS = 1100
+FLAGS = (-128, -1, 0, 1, 2, 5, 9, 127)
+# So many lists share a spelled table, at most.
+TOGETHER = 12
+
+
+def words(xs):
+    return [str(x) for x in xs]
+
+
+def patterns(xs):
+    return ["%016x" % x for x in xs]
+
+
+def counted(xs):
+    return [str(len(xs))] + xs
+
+
+def numbers(xs):
+    assert len(xs) <= NUMBERS
+    return counted(words(xs))
+
+
+def reals(xs):
+    assert len(xs) <= REALS
+    return counted(patterns(xs))
+
+
+def line(*parts):
+    return "\t".join(x for part in parts for x in part) + "\n"
+
+
+def record(kind, text):
+    """With its kind and how many bytes it has."""
+    return "%d\t%d\t%s" % (kind, len(text), text)
+
+
+def grid(s):
+    return record(1, line([str(s["kind"])], words(s["mesh"]), numbers(s["addresses"]), numbers(s["map"])))
+
+
+def table(s):
+    return record(2, line(numbers(s["table"])))
+
+
+def study(s):
+    return record(3, line([str(s["type"])], words(s["bands"]), reals(s["frequencies1"]), reals(s["frequencies2"]),
+                          reals(s["points"]), numbers(s["triplets"])))
+
+
+def content(sheet):
+    return patterns(sheet["weights"]) + words(sheet["flags"]) + words(sheet["marks"])
+
+
+def number_of(answer):
+    return answer[1] if answer[0] == "refused" else 0
+
+
+def list_of_calls(c, seen):
+    start = c["start"]
+    sizes = [len(start[n]) for n in ("weights", "flags", "marks")]
+    assert max(sizes) <= ROOM
+    out = [line(words(sizes), content(start), ["%x" % start["tally"], str(len(c["calls"]))])]
+    before = start
+    for call, step in zip(c["calls"], c["steps"]):
+        kind, number = KINDS[call[0]], number_of(step["answer"])
+        assert set(step["flags"]) <= set(FLAGS) and sizes == [len(step[n]) for n in ("weights", "flags", "marks")]
+        assert number != 0 or step["answer"][1] == step["tally"]
+        kept = content(before) == content(step)
+        assert number == 0 or (kept and before["tally"] == step["tally"])
+        arguments = []
+        if call[0] == "run":
+            arguments = words(call[1:])
+        if call[0] == "average":
+            arguments = [str(call[1])] + numbers(call[2]) + numbers(call[3])
+        out.append(line([str(kind)], arguments, [str(number), "%x" % step["tally"]], ["0"] if kept else ["1"] + content(step)))
+        seen[kind, number] = seen.get((kind, number), 0) + 1
+        before = step
+    return [record(4, "".join(out))]
+
+
+def open_count(c, seen):
+    b1, b2, points, triplets = c["counts"]
+    assert set(c["flags"]) <= set(FLAGS) and len(c["flags"]) <= ROOM
+    number = number_of(c["answer"])
+    seen[4, number] = seen.get((4, number), 0) + 1
+    return [record(5, line(words((triplets, points, b1, b2)), numbers(c["flags"]),
+                           [str(c["triplet"]), str(number), "%x" % (c["answer"][1] if number == 0 else 0)]))]
+
+
+def groups(seed, seen):
+    """Groups of records that need no other: lists with the same table, their grids and studies where they change."""
+    by_table = {}
+    for c in sheet_cases.cases(seed):
+        by_table.setdefault(c["table"], []).append(c)
+    for lists in by_table.values():
+        for i in range(0, len(lists), TOGETHER):
+            group, last = [table(lists[i]["study"])], ["", ""]
+            for c in lists[i:i + TOGETHER]:
+                now = [grid(c["study"]), study(c["study"])]
+                group += [x for x, y in zip(now, last) if x != y]
+                last = now
+                group += list_of_calls(c, seen)
+            yield group
+    for c in sheet_cases.open_count_cases(seed):
+        yield open_count(c, seen)
+
+
+def main():
+    crate = sys.argv[1]
+    seed = int(sys.argv[2]) if len(sys.argv) > 2 else sheet_cases.SEED
+    seen = {}
+    data = records.blocks(groups(seed, seen))
+    asked = {KINDS[k]: (0,) + v for k, v in m.ASKED.items()}
+    asked[4] = (0, 9, 12, 14)
+    assert sorted(seen) == sorted((k, n) for k, v in asked.items() for n in v)
+    with open(os.path.join(crate, "stdin"), "wb") as f:
+        f.write(data)
+    with open(os.path.join(crate, "stdout"), "w") as f:
+        for kind, number in sorted(seen):
+            f.write("%s\t%s\t%d\n" % (NAMES[kind], "refused %d" % number if number else "done", seen[kind, number]))
+        f.write("differences\t0\n")
+    print("seed %d: %d calls, %d bytes" % (seed, sum(seen.values()), len(data)))
+
+
+if __name__ == "__main__":
+    main()
