@@ -1,0 +1,3 @@
+-- Laws that the proofs use.
+pub mod SheetLaws
+pub mod StatusLaws
