@@ -30,7 +30,7 @@ Stepped s w f m t = (w ≡ s .weights) × ((f ≡ s .flags) × ((m ≡ s .marks)
 
 -- `seen` is the call as the code below sees it, `call` as its caller names it
 module _ (g : Given) (s : Sheet) (seen call : Call) (same : seen ≡ call) (a : SheetAnswer) (w : List Float) (f : List ℤ) (m : List ℕ)
-         (h : (a ≡ stepAnswer g s seen) × Left (step g s seen) w f m) where
+    (h : (a ≡ stepAnswer g s seen) × Left (step g s seen) w f m) where
   stepped : (t : ℕ) → t ≡ step g s call .tally → Stepped (step g s call) w f m t
   stepped t e = (h .1 .0 ∙ ap (λ (c : Call). step g s c .weights) same, (h .1 .1 .0 ∙ ap (λ (c : Call). step g s c .flags) same, (h .1 .1 .1 ∙ ap (λ (c : Call). step g s c .marks) same, e)))
 
