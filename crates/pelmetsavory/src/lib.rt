@@ -169,8 +169,8 @@ pub extern "C" fn pelmetsavory_carry_on(
         marks,
         before,
     ) {
-        SheetAnswer::Done(after) => {
-            *tally = after.runs;
+        SheetAnswer::Done(after_all) => {
+            *tally = after_all.runs;
             0
         }
         SheetAnswer::Refused(number) => number,
@@ -226,8 +226,8 @@ pub extern "C" fn pelmetsavory_average_triplet(
         degenerate_ids1,
         degenerate_ids2,
     ) {
-        SheetAnswer::Done(after) => {
-            *tally = after.runs;
+        SheetAnswer::Done(same) => {
+            *tally = same.runs;
             0
         }
         SheetAnswer::Refused(number) => number,
@@ -628,8 +628,8 @@ pub extern "C" fn pelmetsavory_tally_add(tally: &mut u64, runs: u64) -> u64
     let before = *tally;
     let counted = Tally { runs: before };
     match counted.add(runs) {
-        Added::To(after) => {
-            *tally = after.runs;
+        Added::To(sum) => {
+            *tally = sum.runs;
             0
         }
         Added::Refused(number) => number,

@@ -10,8 +10,8 @@ use Rattle.pelmetsavory.proofs.pelmetsavory_average_triplet.Tie as tie
 average-triplet-requires : tie.Need-average-triplet-requires
 average-triplet-requires c κs = search needs
 
-enum-known-after : tie.Need-enum-known-after
-enum-known-after c = search needs
+enum-known-same : tie.Need-enum-known-same
+enum-known-same c = search needs
 
 enum-known-number : tie.Need-enum-known-number
 enum-known-number c = search needs
@@ -27,7 +27,7 @@ same-length-3 c = search needs
 
 returns : tie.Need-returns
 returns c =
-    done _ _ _ _ (λ i. average (toZ-ofZ w64 (c .before .before .before .before .before .before .before .before .before .before .before .before .before .before .before .before .before .before .args .triplet) (c .before .before .before .before .before .before .before .before .before .before .before .before .before .before .before .before .before .before .fits .triplet) i) (c .before .before .before .before .before .before .before .before .before .before .before .before .before .before .before .before .before .before .args .degenerate-ids1 .now) (c .before .before .before .before .before .before .before .before .before .before .before .before .before .before .before .before .before .before .args .degenerate-ids2 .now)) _ _ _ _ (c .before .before .before .before .before .before .before .before .average-triplet .ensures) _ (c .before .after .given .1)
+    done _ _ _ _ (λ i. average (toZ-ofZ w64 (c .before .before .before .before .before .before .before .before .before .before .before .before .before .before .before .before .before .before .args .triplet) (c .before .before .before .before .before .before .before .before .before .before .before .before .before .before .before .before .before .before .fits .triplet) i) (c .before .before .before .before .before .before .before .before .before .before .before .before .before .before .before .before .before .before .args .degenerate-ids1 .now) (c .before .before .before .before .before .before .before .before .before .before .before .before .before .before .before .before .before .before .args .degenerate-ids2 .now)) _ _ _ _ (c .before .before .before .before .before .before .before .before .average-triplet .ensures) _ (c .before .same .given .1)
 
 same-length-4 : tie.Need-same-length-4
 same-length-4 c = search needs
@@ -47,7 +47,7 @@ pelmetsavory-average-triplet-spec =
     tie.close
     (tie.spec
     average-triplet-requires
-    enum-known-after
+    enum-known-same
     enum-known-number
     same-length
     same-length-2

@@ -8,8 +8,8 @@ use Rattle.pelmetsavory.proofs.pelmetsavory_carry_on.Tie as tie
 carry-on-requires : tie.Need-carry-on-requires
 carry-on-requires c κs = search needs
 
-enum-known-after : tie.Need-enum-known-after
-enum-known-after c = search needs
+enum-known-after-all : tie.Need-enum-known-after-all
+enum-known-after-all c = search needs
 
 enum-known-number : tie.Need-enum-known-number
 enum-known-number c = search needs
@@ -25,7 +25,7 @@ same-length-3 c = search needs
 
 returns : tie.Need-returns
 returns c =
-    done _ _ _ _ (refl) _ _ _ _ (c .before .before .before .before .before .before .before .before .carry-on .ensures) _ (c .before .after .given .1)
+    done _ _ _ _ (refl) _ _ _ _ (c .before .before .before .before .before .before .before .before .carry-on .ensures) _ (c .before .after-all .given .1)
 
 same-length-4 : tie.Need-same-length-4
 same-length-4 c = search needs
@@ -45,7 +45,7 @@ pelmetsavory-carry-on-spec =
     tie.close
     (tie.spec
     carry-on-requires
-    enum-known-after
+    enum-known-after-all
     enum-known-number
     same-length
     same-length-2

@@ -8,15 +8,15 @@ use Rattle.pelmetsavory.proofs.pelmetsavory_tally_add.Tie as tie
 add-requires : tie.Need-add-requires
 add-requires c κs = search needs
 
-enum-known-after : tie.Need-enum-known-after
-enum-known-after c = search needs
+enum-known-sum : tie.Need-enum-known-sum
+enum-known-sum c = search needs
 
 enum-known-number : tie.Need-enum-known-number
 enum-known-number c = search needs
 
 returns : tie.Need-returns
 returns c =
-    add-done _ _ _ (sym (c .before .after .given .1) ∙ c .before .before .before .add .ensures)
+    add-done _ _ _ (sym (c .before .sum .given .1) ∙ c .before .before .before .add .ensures)
 
 returns-2 : tie.Need-returns-2
 returns-2 c =
@@ -24,4 +24,4 @@ returns-2 c =
 
 pub pelmetsavory-tally-add-spec : {M : Type 1} → statement M
 pelmetsavory-tally-add-spec =
-    tie.close (tie.spec add-requires enum-known-after enum-known-number returns returns-2)
+    tie.close (tie.spec add-requires enum-known-sum enum-known-number returns returns-2)
