@@ -35,6 +35,7 @@ impl Tally {
 }
 
 // The counts of a sheet, any numbers.
+#[repr(C)]
 pub struct Counts {
     pub num_triplets: i64,
     pub num_band0: i64,

@@ -2,6 +2,7 @@
 pub mod kernel;
 
 // The numbers of a study: any values, tested by the questions.
+#[repr(C)]
 pub struct Shape {
     pub bz_grid_type: i64,
     pub d_diag: [i64; 3],

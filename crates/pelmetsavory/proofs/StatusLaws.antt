@@ -1,0 +1,96 @@
+-- A status in place of an answer: the number of a refusal, or 0, is the number of the first no. Assumes nothing.
+use mathlib.Core.Path.{_≡_, refl, sym, ap, _∙_}
+use mathlib.Core.Bool.{Bool, true, false}
+use Prim.Native.Nat.{ℕ, zero, suc}
+use native.Mathlib.Omega.{arith}
+use lib.Ieee.{Float}
+use Rattle.questions.specs.Ask.{afterCall}
+use Rattle.averaging.specs.Answers.{answerOf}
+use Rattle.averaging.specs.declared.AveragingAnswer.{AveragingAnswer}
+use Rattle.averaging.specs.declared.AveragingAnswer.the-variants as averaging
+use Rattle.bzgrid.specs.Calls.{neighbourAnswer}
+use Rattle.bzgrid.specs.declared.NeighbourAnswer.{NeighbourAnswer}
+use Rattle.bzgrid.specs.declared.NeighbourAnswer.the-variants as neighbour
+use Rattle.grid_point_weights.specs.Calls.{gridPointAnswer}
+use Rattle.grid_point_weights.specs.declared.GridPointAnswer.{GridPointAnswer}
+use Rattle.grid_point_weights.specs.declared.GridPointAnswer.the-variants as grid-point
+use Rattle.triplet_addresses.specs.Copies.{copyAnswer}
+use Rattle.triplet_addresses.specs.declared.CopyAnswer.{CopyAnswer}
+use Rattle.triplet_addresses.specs.declared.CopyAnswer.the-variants as copy
+use Rattle.triplet_addresses.specs.Normal.{isNAnswer}
+use Rattle.triplet_addresses.specs.declared.IsNAnswer.the-variants as is-n
+use Rattle.triplet_iw.specs.Calls.{weightsAnswer}
+use Rattle.triplet_iw.specs.declared.WeightsAnswer.{WeightsAnswer}
+use Rattle.triplet_iw.specs.declared.WeightsAnswer.the-variants as weights
+use Rattle.tetrahedron_method.specs.Answer.{answered}
+use Rattle.tetrahedron_method.specs.declared.WeightAnswer.the-variants as weight
+use Rattle.sheet_marks.specs.OpenCount.{openAnswer}
+use Rattle.sheet_marks.specs.declared.OpenAnswer.the-variants as count
+
+-- ---- answers that hold nothing but the number of a refusal
+
+abbrev weightsNumber : WeightsAnswer → ℕ
+weightsNumber weights.Filled = 0
+weightsNumber (weights.Refused k) = k
+
+pub weights-status : (v : ℕ) (a b : WeightsAnswer) → a ≡ weightsAnswer v → a ≡ b → weightsNumber b ≡ v
+weights-status zero a b h e = ap weightsNumber (sym e ∙ h)
+weights-status (suc v) a b h e = ap weightsNumber (sym e ∙ h)
+
+abbrev averagingNumber : AveragingAnswer → ℕ
+averagingNumber averaging.Averaged = 0
+averagingNumber (averaging.Refused k) = k
+
+pub averaging-status : (v : ℕ) (a b : AveragingAnswer) → a ≡ answerOf v → a ≡ b → averagingNumber b ≡ v
+averaging-status zero a b h e = ap averagingNumber (sym e ∙ h)
+averaging-status (suc v) a b h e = ap averagingNumber (sym e ∙ h)
+
+abbrev gridPointNumber : GridPointAnswer → ℕ
+gridPointNumber grid-point.Filled = 0
+gridPointNumber (grid-point.Refused k) = k
+
+pub grid-point-status : (v : ℕ) (a b : GridPointAnswer) → a ≡ gridPointAnswer v → a ≡ b → gridPointNumber b ≡ v
+grid-point-status zero a b h e = ap gridPointNumber (sym e ∙ h)
+grid-point-status (suc v) a b h e = ap gridPointNumber (sym e ∙ h)
+
+abbrev copyNumber : CopyAnswer → ℕ
+copyNumber copy.Filled = 0
+copyNumber (copy.Refused k) = k
+
+pub copy-status : (v : ℕ) (a b : CopyAnswer) → a ≡ copyAnswer v → a ≡ b → copyNumber b ≡ v
+copy-status zero a b h e = ap copyNumber (sym e ∙ h)
+copy-status (suc v) a b h e = ap copyNumber (sym e ∙ h)
+
+abbrev neighbourNumber : NeighbourAnswer → ℕ
+neighbourNumber neighbour.Filled = 0
+neighbourNumber (neighbour.Refused k) = k
+
+pub neighbour-status : (v : ℕ) (a b : NeighbourAnswer) → a ≡ neighbourAnswer v → a ≡ b → neighbourNumber b ≡ v
+neighbour-status zero a b h e = ap neighbourNumber (sym e ∙ h)
+neighbour-status (suc v) a b h e = ap neighbourNumber (sym e ∙ h)
+
+-- ---- answers that hold a value
+
+pub count-done : (v n x old : ℕ) → count.Open x ≡ openAnswer v n → (0 ≡ v) × (x ≡ afterCall v n old)
+count-done zero n x old h = (refl, cc)
+count-done (suc v) n x old h = absurd (let z : _≡_ {A = ℕ} 0 1 = cc in omega arith)
+
+pub count-refused : (v n k old : ℕ) → count.Refused k ≡ openAnswer v n → (k ≡ v) × (old ≡ afterCall v n old)
+count-refused zero n k old h = absurd (let z : _≡_ {A = ℕ} 0 1 = cc in omega arith)
+count-refused (suc v) n k old h = (cc, refl)
+
+pub weight-done : (v : ℕ) (n x old : Float) → weight.Weight x ≡ answered v n → (0 ≡ v) × (x ≡ afterCall v n old)
+weight-done zero n x old h = (refl, cc)
+weight-done (suc v) n x old h = absurd (let z : _≡_ {A = ℕ} 0 1 = cc in omega arith)
+
+pub weight-refused : (v : ℕ) (n : Float) (k : ℕ) (old : Float) → weight.Refused k ≡ answered v n → (k ≡ v) × (old ≡ afterCall v n old)
+weight-refused zero n k old h = absurd (let z : _≡_ {A = ℕ} 0 1 = cc in omega arith)
+weight-refused (suc v) n k old h = (cc, refl)
+
+pub normal-done : (v : ℕ) (n x : Bool) (f : Bool → ℕ) (old : ℕ) → is-n.Normal x ≡ isNAnswer v n → (0 ≡ v) × (f x ≡ afterCall v (f n) old)
+normal-done zero n x f old h = (refl, ap f (let e : x ≡ n = cc in e))
+normal-done (suc v) n x f old h = absurd (let z : _≡_ {A = ℕ} 0 1 = cc in omega arith)
+
+pub normal-refused : (v : ℕ) (n : Bool) (k : ℕ) (f : Bool → ℕ) (old : ℕ) → is-n.Refused k ≡ isNAnswer v n → (k ≡ v) × (old ≡ afterCall v (f n) old)
+normal-refused zero n k f old h = absurd (let z : _≡_ {A = ℕ} 0 1 = cc in omega arith)
+normal-refused (suc v) n k f old h = (cc, refl)

@@ -1,0 +1,38 @@
+-- The questions of calls that ask one or two, in the form of a status, and what two numbers of a foreign caller name.
+use mathlib.Core.Bool.{Bool}
+use mathlib.Core.List.{List, [], _∷_}
+use Prim.Native.Nat.{ℕ}
+use lib.Dec.{eqb}
+use lib.Ieee.{Float}
+use lib.IntN.{ℤ}
+use Rattle.list_laws.specs.Patch.{pick}
+use Rattle.common.specs.Matrix.{isLattice, isVector}
+use Rattle.questions.specs.Ask.{Question, asks}
+use Rattle.questions.specs.Grids.{isMesh}
+use Rattle.questions.specs.TpTypes.{isTpType}
+use Rattle.tetrahedron_method.specs.declared.WeightFunction.{WeightFunction}
+use Rattle.tetrahedron_method.specs.declared.WeightFunction.the-variants.{I, J}
+
+-- the letter I (73) names I; any other byte names J, as the source has it: "non-'I' branch: piecewise J"
+unfoldable pub functionOf : ℕ → WeightFunction
+functionOf letter = pick (eqb letter 73) I J
+
+-- 1 for yes, 0 for no
+abbrev pub oneOf : Bool → ℕ
+oneOf b = pick b 1 0
+
+-- the grid index: "Is each mesh number .. (the grid index alone: 1 to 256, its address any)? No: 4."
+abbrev pub indexQuestions : List ℤ → List Question
+indexQuestions diag = asks 4 (isMesh 256 diag) ∷ []
+
+-- the choice of a table: "Are lattice entries finite, magnitude at most 2^30? No: 2."
+abbrev pub latticeQuestions : List (List Float) → List Question
+latticeQuestions a = asks 2 (isLattice a) ∷ []
+
+-- `matvec_di`: 2 the lattice; "its vector falls under question 7's ±4,096"
+abbrev pub matvecQuestions : List (List Float) → List ℤ → List Question
+matvecQuestions a b = asks 2 (isLattice a) ∷ asks 7 (isVector b) ∷ []
+
+-- "Is the type 2, 3 or 4? No: 8"
+abbrev pub typeQuestions : ℤ → List Question
+typeQuestions tp = asks 8 (isTpType tp) ∷ []
