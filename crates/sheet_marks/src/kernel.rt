@@ -33,14 +33,14 @@ pub fn cells_of(counts: Counts) -> usize
 }
 
 // The number of the first question of the open count that is answered no, or 0.
-pub fn open_no(counts: Counts, length: usize, triplet: i64) -> u64
-    ensures { λ r. ⌜ r ≡ firstNo (openQuestions counts length triplet) ⌝ }
+pub fn open_no(counts: Counts, num_flags: usize, triplet: i64) -> u64
+    ensures { λ r. ⌜ r ≡ firstNo (openQuestions counts «num_flags» triplet) ⌝ }
 {
     if !counts_ok(counts) {
         return questions::BAD_COUNT;
     }
     let triplets = common::kernel::magnitude(counts.num_triplets);
-    if length != triplets * cells_of(counts) {
+    if num_flags != triplets * cells_of(counts) {
         return questions::BAD_LENGTH;
     }
     if !common::kernel::is_below(triplet, triplets) {
