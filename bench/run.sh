@@ -85,14 +85,18 @@ net() {
   if [ $counting -eq 0 ]; then echo 0; return; fi
   call=$1 before=$2
   shift 2
-  echo $(($(count "$call" "$@") - $(count "$before" "$@")))
+  all=$(count "$call" "$@")
+  less=$(count "$before" "$@")
+  echo $((all - less))
 }
 # Median milliseconds of a call in the last timing.
 of() { sed -n "s/^$1 //p" "$tmp/time"; }
 # Milliseconds and instructions of both sides: sheet LOAD
 sheet() {
   "$program" time 11 "$@" > "$tmp/time"
-  echo "$(of rust) $(of carry-on) $(net rust nothing "$@") $(net carry-on nothing "$@")"
+  theirs=$(net rust nothing "$@")
+  ours=$(net carry-on nothing "$@")
+  echo "$(of rust) $(of carry-on) $theirs $ours"
 }
 
 first=$(sheet 100 6 10 10)
@@ -107,7 +111,8 @@ echo "$first" | awk '{
 
 echo 'one call on that sheet'
 while read -r call before words; do
-  printf '%-36s %9.4f %12d\n' "$words" "$(of "$call")" "$(net "$call" "$before" 100 6 10 10)"
+  ours=$(net "$call" "$before" 100 6 10 10)
+  printf '%-36s %9.4f %12d\n' "$words" "$(of "$call")" "$ours"
 done <<'EOF'
 named nothing a named run (run_piece)
 questions nothing the questions of every call alone
@@ -118,10 +123,9 @@ EOF
 
 # What grows, how many of it, and the load.
 while read -r what units load; do
-  case $load in
-    '100 6 10 10') echo "$what $units $first" ;;
-    *) echo "$what $units $(sheet $load)" ;;
-  esac
+  numbers=$first
+  if [ "$load" != '100 6 10 10' ]; then numbers=$(sheet $load); fi
+  echo "$what $units $numbers"
 done > "$tmp/growth" <<'EOF'
 triplets 25 25 6 10 10
 triplets 50 50 6 10 10
