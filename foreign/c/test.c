@@ -1,4 +1,5 @@
 /* Calls every entry. Writes what it got, as text, to the file that PELMETSAVORY_OUT names: Rust and Python write the same. */
+#define _POSIX_C_SOURCE 200809L
 #include <pthread.h>
 #include "small.h"
 
@@ -35,9 +36,8 @@ static int listed(const pelmetsavory_sheet *s)
     return same;
 }
 
-static void *calls(void *unused)
+static void calls(void)
 {
-    (void)unused;
     pelmetsavory_sheet s = new_sheet(-7.25, 5, 40), t = new_sheet(-7.25, 5, 0);
     pelmetsavory_study b;
     y = small_study();
@@ -189,7 +189,46 @@ static void *calls(void *unused)
     WANT(5, pelmetsavory_fill_neighboring_grid_points(NULL, 0, 0, NULL, 0, grid, NULL, 0, NULL, 0));
     WANT(10, pelmetsavory_is_n(first, NULL, 0, &normal));
     free_sheet(&s); free_sheet(&t);
+}
+
+/* the entries with work areas, on a stack that was filled with 0xa5 before */
+static void *deep(void *sheet)
+{
+    static double at[18], weights[ENTRIES], w1[135];
+    static int8_t flags[CELLS], f1[45];
+    static int64_t all[1152], which[288];
+    static size_t index;
+    static const double two[2] = {0.5, 1.25}, unit[9] = {1, 0, 0, 0, 1, 0, 0, 0, 1};
+    static const int64_t three[3] = {0, 7, 11}, irreducible[12];
+    static const pelmetsavory_grid grid = {2, {2, 2, 2}};
+    static const pelmetsavory_triple second = {{3, 5, 6}};
+    WANT(0, pelmetsavory_sheet_run_piece(&y, sheet, piece_at(0)));
+    WANT(0, pelmetsavory_sheet_carry_on(&y, sheet));
+    WANT(0, pelmetsavory_sheet_average_triplet(&y, sheet, 0, ids1, 3, ids2, 3));
+    WANT(0, pelmetsavory_integration_weight(PELMETSAVORY_STUDY(&y), triplets, 9, weights, ENTRIES, flags, CELLS));
+    WANT(0, pelmetsavory_integration_weight_per_triplet(PELMETSAVORY_STUDY(&y), second, w1, 135, f1, 45));
+    WANT(0, pelmetsavory_integration_weights_at_grid_points(at, 18, two, 2, table, 288, three, 3, frequencies1, 12, 3, 4, grid, addresses, 36, gp_map, 9, irreducible, 12, 'I'));
+    WANT(0, pelmetsavory_relative_grid_address(unit, which, &index));
+    pelmetsavory_all_relative_grid_address(all);
     return NULL;
+}
+
+static void stack_need(void)
+{
+    enum { SIZE = 128 * 1024 };
+    unsigned char *stack = aligned_alloc(4096, SIZE);
+    pelmetsavory_sheet s = new_sheet(0, 0, 0);
+    pthread_t thread;
+    pthread_attr_t own;
+    YES(stack);
+    memset(stack, 0xa5, SIZE);
+    YES(!pthread_attr_init(&own) && !pthread_attr_setstack(&own, stack, SIZE) && !pthread_create(&thread, &own, deep, &s) && !pthread_join(thread, NULL));
+    int untouched = 0;
+    while (stack[untouched] == 0xa5) untouched++;
+    printf("c: a thread that calls used %d bytes of its stack\n", SIZE - untouched);
+    YES(SIZE - untouched < 48 * 1024);
+    free_sheet(&s);
+    free(stack);
 }
 
 int main(int argc, char **argv)
@@ -201,11 +240,9 @@ int main(int argc, char **argv)
     }
     (void)argv;
     if (getenv("PELMETSAVORY_OUT")) out = fopen(getenv("PELMETSAVORY_OUT"), "w");
-    /* on a thread with a small stack, which also holds this file's own arrays */
-    pthread_t thread;
-    pthread_attr_t small;
-    YES(!pthread_attr_init(&small) && !pthread_attr_setstacksize(&small, 64 * 1024) && !pthread_create(&thread, &small, calls, NULL) && !pthread_join(thread, NULL));
+    calls();
     if (out) YES(!fclose(out));
+    if (argc < 2) stack_need();
     puts("c: ok");
     return 0;
 }

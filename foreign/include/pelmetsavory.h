@@ -8,7 +8,7 @@
  * answered no (pelmetsavory_question gives its words). After a refusal every buffer and the tally are as they were.
  * A function letter is 'I'; any other byte is J.
  * Floats: the thread must round to nearest, without flush-to-zero (FTZ) and denormals-are-zero (DAZ): pelmetsavory_float_mode_ok.
- * A call needs less than 16 KiB of stack, allocates nothing, and keeps nothing: threads may call on different sheets at once. */
+ * A call needs less than 48 KiB of stack, allocates nothing, and keeps nothing: threads may call on different sheets at once. */
 #ifndef PELMETSAVORY_H
 #define PELMETSAVORY_H
 #include <stddef.h>
