@@ -50,7 +50,7 @@ static void work(const pelmetsavory_study *y, const char *path, const int *piece
         uint64_t status = pelmetsavory_sheet_run_piece(y, &own, piece_at(pieces[k]));
         if (status) { fprintf(stderr, "%s\n", pelmetsavory_question(status)); exit(1); }
         save(&own, path);
-        pause_ms(10); /* in place of a larger piece */
+        pause_ms(50); /* in place of a larger piece */
     }
     exit(0);
 }
@@ -91,7 +91,7 @@ int main(int argc, char **argv)
             if ((job[k] = fork()) < 0) { perror("fork"); return 1; }
             if (job[k] == 0) work(&y, path[k], open + from, count * (k + 1) / WORKERS - from);
         }
-        pause_ms(30);
+        pause_ms(120);
         for (int k = 0; k < 2 && count > 8; k++) kill(job[k], SIGKILL);
         for (int k = 0; k < WORKERS; k++) {
             int how;

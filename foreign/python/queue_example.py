@@ -16,7 +16,7 @@ def work(path, pieces):  # a worker has a sheet of its own, and stores it after 
     for piece in pieces:
         own.run_piece(*piece)
         own.save(path)
-        time.sleep(0.01)  # in place of a larger piece
+        time.sleep(0.05)  # in place of a larger piece
 
 if __name__ == "__main__":
     sheet, one, killed = pm.Sheet(study), pm.Sheet(study), 0
@@ -25,7 +25,7 @@ if __name__ == "__main__":
         with tempfile.TemporaryDirectory() as folder:
             jobs = [multiprocessing.Process(target=work, args=(f"{folder}/{k}", share)) for k, share in enumerate(shares)]
             [job.start() for job in jobs]
-            time.sleep(0.03)
+            time.sleep(0.12)
             [job.kill() for job in jobs[:2] if len(shares[0]) > 2]
             [job.join() for job in jobs]
             killed += sum(job.exitcode == -9 for job in jobs)
