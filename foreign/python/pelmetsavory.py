@@ -104,9 +104,10 @@ class Study:
         self._args = [shape] + grid._args + _slices(self.table, self.frequencies1, self.frequencies2, self.points)
 
     def shapes(self, triplets=None):
-        """The shapes of weights, flags and marks."""
+        """The shapes of weights, flags and marks. A type that is none has no channels: the calls refuse it in its turn."""
         t, n = len(self.triplets) if triplets is None else triplets, len(self.points)
-        return (num_channels(self.tp_type), t, n, *self.bands), (t, n, *self.bands), (t, *self.bands)
+        channels = num_channels(self.tp_type) if self.tp_type in (2, 3, 4) else 0
+        return (channels, t, n, *self.bands), (t, n, *self.bands), (t, *self.bands)
 
 
 class Sheet:
