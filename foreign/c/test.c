@@ -1,0 +1,248 @@
+/* Calls every entry. Writes what it got, as text, to the file that PELMETSAVORY_OUT names: Rust and Python write the same. */
+#define _POSIX_C_SOURCE 200809L
+#include <pthread.h>
+#include "small.h"
+
+static pelmetsavory_study y;
+static FILE *out;
+
+#define WANT(want, call) do { uint64_t got_ = (call); if (got_ != (want)) { printf("line %d: status %llu, not %llu\n", __LINE__, (unsigned long long)got_, (unsigned long long)(want)); exit(1); } } while (0)
+#define YES(x) do { if (!(x)) { printf("line %d: not so: %s\n", __LINE__, #x); exit(1); } } while (0)
+/* a refusal that leaves the sheet as it was */
+#define KEPT(want, sheet, call) do { unsigned char a_[SHEET_BYTES], b_[SHEET_BYTES]; to_bytes(sheet, a_); WANT(want, call); to_bytes(sheet, b_); \
+    YES(!memcmp(a_, b_, SHEET_BYTES) && pelmetsavory_question(want)); } while (0)
+
+static void name(const char *s) { if (out) fputs(s, out); }
+static void floats(const double *x, int n) { for (int k = 0; k < n; k++) { uint64_t b; memcpy(&b, x + k, 8); if (out) fprintf(out, "\t%016llx", (unsigned long long)b); } }
+static void number(long long x) { if (out) fprintf(out, "\t%lld", x); }
+static void wholes(const int64_t *x, int n) { for (int k = 0; k < n; k++) number(x[k]); }
+static void end(void) { if (out) fputc('\n', out); }
+
+/* whether a sheet's entries are the stored listing */
+static int listed(const pelmetsavory_sheet *s)
+{
+    FILE *f = fopen(getenv("PELMETSAVORY_LISTING"), "r");
+    char line[256], want[256];
+    YES(f && fgets(line, sizeof line, f) && !strcmp(line, "triplet\tpoint\tb1\tb2\tflag\tw\n"));
+    int same = 1;
+    for (int k = 0; k < CELLS; k++) {
+        int n = snprintf(want, sizeof want, "%d\t%d\t%d\t%d\t%d", k / 45, k / 9 % 5, k / 3 % 3, k % 3, s->flags[k]);
+        for (int c = 0; c < 3; c++) { uint64_t b; memcpy(&b, s->weights + c * CELLS + k, 8); n += snprintf(want + n, sizeof want - (size_t)n, "\t%016llx", (unsigned long long)b); }
+        snprintf(want + n, sizeof want - (size_t)n, "\n");
+        same = same && fgets(line, sizeof line, f) && !strcmp(line, want);
+    }
+    same = same && !fgets(line, sizeof line, f);
+    fclose(f);
+    return same;
+}
+
+static void calls(void)
+{
+    pelmetsavory_sheet s = new_sheet(-7.25, 5, 40), t = new_sheet(-7.25, 5, 0);
+    pelmetsavory_study b;
+    y = small_study();
+
+    /* refusals, each of which leaves the sheet as it was; a count one too small is a slice one shorter */
+    b = y; b.shape.bz_grid_type = INT64_MIN; KEPT(3, &s, pelmetsavory_sheet_carry_on(&b, &s));
+    b = y; b.shape.d_diag[1] = 129; KEPT(4, &s, pelmetsavory_sheet_carry_on(&b, &s));
+    b = y; b.addresses_len = 35; KEPT(5, &s, pelmetsavory_sheet_carry_on(&b, &s));
+    b = y; b.addresses = NULL; b.addresses_len = 0; KEPT(5, &s, pelmetsavory_sheet_carry_on(&b, &s));
+    b = y; b.gp_map_len = 8; KEPT(6, &s, pelmetsavory_sheet_carry_on(&b, &s));
+    b = y; b.relative_grid_address_len = 276; KEPT(7, &s, pelmetsavory_sheet_carry_on(&b, &s));
+    b = y; b.shape.tp_type = 5; KEPT(8, &s, pelmetsavory_sheet_carry_on(&b, &s));
+    b = y; b.frequency_points = NULL; b.frequency_points_len = 0; KEPT(9, &s, pelmetsavory_sheet_carry_on(&b, &s));
+    int64_t far[9]; memcpy(far, triplets, sizeof far); far[4] = 12;
+    b = y; b.triplets = far; KEPT(10, &s, pelmetsavory_sheet_carry_on(&b, &s));
+    b = y; b.frequencies1_len = 35; KEPT(11, &s, pelmetsavory_sheet_carry_on(&b, &s));
+    s.weights_len--; KEPT(12, &s, pelmetsavory_sheet_carry_on(&y, &s)); s.weights_len++;
+    s.flags_len--; KEPT(12, &s, pelmetsavory_sheet_carry_on(&y, &s)); s.flags_len++;
+    s.marks_len--; KEPT(12, &s, pelmetsavory_sheet_carry_on(&y, &s)); s.marks_len++;
+    s.marks[19] = 3; KEPT(13, &s, pelmetsavory_sheet_carry_on(&y, &s)); s.marks[19] = 0;
+    const pelmetsavory_piece off[] = {{3, 0, 0}, {0, 3, 0}, {0, 0, 3}, {-1, 0, 0}, {0, INT64_MIN, 0}};
+    for (int k = 0; k < 5; k++) KEPT(14, &s, pelmetsavory_sheet_run_piece(&y, &s, off[k]));
+    KEPT(14, &s, pelmetsavory_sheet_average_triplet(&y, &s, 3, ids1, 3, ids2, 3));
+    KEPT(18, &s, pelmetsavory_sheet_average_triplet(&y, &s, 0, ids1, 3, ids2, 3));
+    KEPT(17, &s, pelmetsavory_sheet_average_triplet(&y, &s, 0, ids1, 2, ids2, 3));
+    KEPT(17, &s, pelmetsavory_sheet_average_triplet(&y, &s, 0, NULL, 0, ids2, 3));
+    b = y; b.shape.num_band2 = 2; b.frequencies2_len = 24;
+    pelmetsavory_sheet narrow = s; narrow.weights_len = 270; narrow.flags_len = 90; narrow.marks_len = 18;
+    KEPT(16, &s, pelmetsavory_sheet_average_triplet(&b, &narrow, 0, ids1, 2, ids2, 2));
+    s.tally = INT64_MAX; KEPT(20, &s, pelmetsavory_sheet_run_piece(&y, &s, piece_at(0))); KEPT(20, &s, pelmetsavory_sheet_carry_on(&y, &s)); s.tally = 40;
+
+    /* pieces in a mixed order, repeats counted, averages */
+    for (int k = 0; k < PIECES; k++) WANT(0, pelmetsavory_sheet_run_piece(&y, &s, piece_at(k * 5 % PIECES)));
+    YES(listed(&s) && s.tally == 67);
+    WANT(0, pelmetsavory_sheet_run_piece(&y, &s, piece_at(13)));
+    YES(s.tally == 68);
+    const pelmetsavory_counts counts = {TRIPLETS, POINTS, BANDS, BANDS};
+    uint64_t open = 77;
+    name("open");
+    for (int k = 0; k < TRIPLETS; k++) { WANT(0, pelmetsavory_open_count(counts, s.flags, CELLS, k, &open)); number((long long)open); }
+    end();
+    WANT(14, pelmetsavory_open_count(counts, s.flags, CELLS, 3, &open));
+    WANT(12, pelmetsavory_open_count(counts, NULL, 0, 0, &open));
+    WANT(0, pelmetsavory_sheet_run_piece(&y, &t, piece_at(7)));
+    WANT(0, pelmetsavory_sheet_carry_on(&y, &t));
+    YES(listed(&t) && t.tally == 27);
+    double kept = t.weights[CELLS]; uint64_t bits = 0x7ff8000000000001; memcpy(t.weights + CELLS, &bits, 8);
+    KEPT(19, &t, pelmetsavory_sheet_average_triplet(&y, &t, 0, ids1, 3, ids2, 3));
+    t.weights[CELLS] = kept;
+    WANT(0, pelmetsavory_sheet_average_triplet(&y, &s, 1, ids1, 3, ids2, 3));
+    KEPT(15, &s, pelmetsavory_sheet_run_piece(&y, &s, piece_at(9)));
+    KEPT(15, &s, pelmetsavory_sheet_average_triplet(&y, &s, 1, ids1, 3, ids2, 3));
+    name("averaged"); floats(s.weights, ENTRIES);
+    for (int k = 0; k < CELLS; k++) number(s.flags[k]);
+    for (int k = 0; k < PIECES; k++) number(s.marks[k]);
+    number((long long)s.tally); end();
+
+    /* all triplets, one triplet, its averages */
+    double w[ENTRIES], w1[135]; int8_t f[CELLS], f1[45];
+    memset(w, 0x55, sizeof w);
+    WANT(12, pelmetsavory_integration_weight(PELMETSAVORY_STUDY(&y), triplets, 9, w, ENTRIES - 1, f, CELLS));
+    YES(w[0] == w[ENTRIES - 1]);
+    WANT(0, pelmetsavory_integration_weight(PELMETSAVORY_STUDY(&y), triplets, 9, w, ENTRIES, f, CELLS));
+    YES(!memcmp(w, t.weights, sizeof w) && !memcmp(f, t.flags, sizeof f));
+    const pelmetsavory_triple second = {{3, 5, 6}}, none = {{3, 5, -1}};
+    WANT(10, pelmetsavory_integration_weight_per_triplet(PELMETSAVORY_STUDY(&y), none, w1, 135, f1, 45));
+    WANT(0, pelmetsavory_integration_weight_per_triplet(PELMETSAVORY_STUDY(&y), second, w1, 135, f1, 45));
+    for (int c = 0; c < 3; c++) YES(!memcmp(w1 + c * 45, w + c * CELLS + 45, 45 * 8));
+    YES(!memcmp(f1, f + 45, 45));
+    WANT(8, pelmetsavory_average_weights_over_degenerate_sets(w1, 135, f1, 45, ids1, 3, ids2, 3, POINTS, BANDS, 1));
+    WANT(0, pelmetsavory_average_weights_over_degenerate_sets(w1, 135, f1, 45, ids1, 3, ids2, 3, POINTS, BANDS, 3));
+    for (int c = 0; c < 3; c++) YES(!memcmp(w1 + c * 45, s.weights + c * CELLS + 45, 45 * 8));
+    YES(!memcmp(f1, s.flags + 45, 45));
+
+    /* the other entries */
+    const pelmetsavory_grid grid = {2, {2, 2, 2}};
+    const double two[2] = {0.5, 1.25};
+    const int64_t three[3] = {0, 7, 11};
+    int64_t irreducible[12], outside[12];
+    double at[18], rows[96], one;
+    for (int k = 0; k < 12; k++) { irreducible[k] = k % 4; outside[k] = 4; }
+    for (int k = 0; k < 96; k++) rows[k] = k % 4 ? 4 : 0;
+    for (int k = 0; k < 2; k++) {
+        WANT(0, pelmetsavory_integration_weights_at_grid_points(at, 18, two, 2, table, 288, three, 3, frequencies1, 12, 3, 4, grid, addresses, 36, gp_map, 9, irreducible, 12, "IJ"[k]));
+        name("grid-points"); floats(at, 18); end();
+        WANT(0, pelmetsavory_tetrahedra_integration_weight(2, rows, 96, "IJ"[k], &one));
+        YES(one == (k ? 0.3125 : 0.375));
+        name("weight"); floats(&one, 1); end();
+    }
+    WANT(7, pelmetsavory_tetrahedra_integration_weight(2, rows, 92, 'I', &one));
+    WANT(11, pelmetsavory_integration_weights_at_grid_points(at, 18, two, 2, table, 288, three, 3, frequencies1, 12, 3, 4, grid, addresses, 36, gp_map, 9, outside, 12, 'I'));
+    YES(one == 0.3125);
+    const pelmetsavory_triple first = {{0, 1, 2}}, beyond = {{0, 1, 12}};
+    uint8_t normal = 9;
+    name("is_n");
+    WANT(0, pelmetsavory_is_n(first, addresses, 36, &normal)); number(normal);
+    WANT(0, pelmetsavory_is_n(second, addresses, 36, &normal)); number(normal); end();
+    WANT(10, pelmetsavory_is_n(beyond, addresses, 36, &normal));
+    int64_t copies[576], many[12 * 96], near[3], all[1152], index = 7;
+    name("copies");
+    WANT(0, pelmetsavory_set_relative_grid_address(copies, 576, table, 288, 2)); wholes(copies, 576);
+    WANT(0, pelmetsavory_set_relative_grid_address(copies, 576, table, 288, 4)); wholes(copies, 576); end();
+    WANT(8, pelmetsavory_set_relative_grid_address(copies, 576, table, 288, 0));
+    const int64_t steps[9] = {-1, 0, 0, 3, 0, 0, -2, 0, 0}, long_step[3] = {4097, 0, 0}, zero[1] = {0};
+    int64_t every[12];
+    for (int k = 0; k < 12; k++) every[k] = k;
+    name("neighbours"); WANT(0, pelmetsavory_fill_neighboring_grid_points(near, 3, 1, steps, 9, grid, addresses, 36, gp_map, 9)); wholes(near, 3); end();
+    name("many"); WANT(0, pelmetsavory_neighboring_grid_points_many(many, 12 * 96, every, 12, table, 288, grid, addresses, 36, gp_map, 9)); wholes(many, 12 * 96); end();
+    WANT(10, pelmetsavory_fill_neighboring_grid_points(near, 3, 12, steps, 9, grid, addresses, 36, gp_map, 9));
+    WANT(7, pelmetsavory_neighboring_grid_points_many(near, 1, zero, 1, long_step, 3, grid, addresses, 36, gp_map, 9));
+    const pelmetsavory_triple address = {{-1, 300, 5}}, mesh = {{256, 7, 9}}, wide = {{257, 1, 1}};
+    WANT(0, pelmetsavory_grid_index_from_address(address, mesh, &index));
+    name("index"); number(index); end();
+    WANT(4, pelmetsavory_grid_index_from_address(address, wide, &index));
+    double unit[9] = {1, 0, 0, 0, 1, 0, 0, 0, 1}; int64_t chosen[288]; size_t which = 9;
+    WANT(0, pelmetsavory_relative_grid_address(unit, chosen, &which));
+    pelmetsavory_all_relative_grid_address(all);
+    name("tables"); number((long long)which); wholes(chosen, 288); wholes(all, 1152); end();
+    unit[4] = 2147483648.0;
+    WANT(2, pelmetsavory_relative_grid_address(unit, chosen, &which));
+    const double lattice[9] = {0.1, 0.2, 0.3, 1, 2, 3, -4, 0, 4};
+    const pelmetsavory_triple vector = {{3, -4, 4096}}, longer = {{0, 0, 4097}};
+    double product[3];
+    WANT(0, pelmetsavory_matvec_di(lattice, vector, product));
+    name("matvec"); floats(product, 3); end();
+    WANT(7, pelmetsavory_matvec_di(lattice, longer, product));
+    size_t channels = 0;
+    name("channels");
+    for (int k = 2; k < 5; k++) { WANT(0, pelmetsavory_num_channels(k, &channels)); number((long long)channels); }
+    end();
+    WANT(8, pelmetsavory_num_channels(1, &channels));
+    YES(channels == 1 && index >= 0 && which == 0);
+    uint64_t tally = INT64_MAX - 1;
+    WANT(0, pelmetsavory_tally_add(&tally, 1));
+    WANT(20, pelmetsavory_tally_add(&tally, 1));
+    YES(tally == INT64_MAX);
+
+    /* empty arrays, without a pointer: no triplets is a sheet, no grid points is an answer */
+    b = y; b.triplets = NULL; b.triplets_len = 0;
+    pelmetsavory_sheet empty = {NULL, 0, NULL, 0, NULL, 0, 3};
+    WANT(0, pelmetsavory_sheet_carry_on(&b, &empty));
+    WANT(14, pelmetsavory_sheet_run_piece(&b, &empty, piece_at(0)));
+    WANT(14, pelmetsavory_sheet_average_triplet(&b, &empty, 0, ids1, 3, ids2, 3));
+    YES(empty.tally == 3);
+    WANT(0, pelmetsavory_integration_weight(PELMETSAVORY_STUDY(&y), NULL, 0, NULL, 0, NULL, 0));
+    WANT(0, pelmetsavory_neighboring_grid_points_many(NULL, 0, NULL, 0, steps, 9, grid, addresses, 36, gp_map, 9));
+    WANT(0, pelmetsavory_integration_weights_at_grid_points(NULL, 0, two, 2, table, 288, NULL, 0, frequencies1, 12, 3, 4, grid, addresses, 36, gp_map, 9, irreducible, 12, 'I'));
+    WANT(7, pelmetsavory_fill_neighboring_grid_points(NULL, 0, 0, NULL, 0, grid, addresses, 36, gp_map, 9));
+    WANT(5, pelmetsavory_fill_neighboring_grid_points(NULL, 0, 0, NULL, 0, grid, NULL, 0, NULL, 0));
+    WANT(10, pelmetsavory_is_n(first, NULL, 0, &normal));
+    free_sheet(&s); free_sheet(&t);
+}
+
+/* the entries with work areas, on a stack that was filled with 0xa5 before */
+static void *deep(void *sheet)
+{
+    static double at[18], weights[ENTRIES], w1[135];
+    static int8_t flags[CELLS], f1[45];
+    static int64_t all[1152], which[288];
+    static size_t index;
+    static const double two[2] = {0.5, 1.25}, unit[9] = {1, 0, 0, 0, 1, 0, 0, 0, 1};
+    static const int64_t three[3] = {0, 7, 11}, irreducible[12];
+    static const pelmetsavory_grid grid = {2, {2, 2, 2}};
+    static const pelmetsavory_triple second = {{3, 5, 6}};
+    WANT(0, pelmetsavory_sheet_run_piece(&y, sheet, piece_at(0)));
+    WANT(0, pelmetsavory_sheet_carry_on(&y, sheet));
+    WANT(0, pelmetsavory_sheet_average_triplet(&y, sheet, 0, ids1, 3, ids2, 3));
+    WANT(0, pelmetsavory_integration_weight(PELMETSAVORY_STUDY(&y), triplets, 9, weights, ENTRIES, flags, CELLS));
+    WANT(0, pelmetsavory_integration_weight_per_triplet(PELMETSAVORY_STUDY(&y), second, w1, 135, f1, 45));
+    WANT(0, pelmetsavory_integration_weights_at_grid_points(at, 18, two, 2, table, 288, three, 3, frequencies1, 12, 3, 4, grid, addresses, 36, gp_map, 9, irreducible, 12, 'I'));
+    WANT(0, pelmetsavory_relative_grid_address(unit, which, &index));
+    pelmetsavory_all_relative_grid_address(all);
+    return NULL;
+}
+
+static void stack_need(void)
+{
+    enum { SIZE = 128 * 1024 };
+    unsigned char *stack = aligned_alloc(4096, SIZE);
+    pelmetsavory_sheet s = new_sheet(0, 0, 0);
+    pthread_t thread;
+    pthread_attr_t own;
+    YES(stack);
+    memset(stack, 0xa5, SIZE);
+    YES(!pthread_attr_init(&own) && !pthread_attr_setstack(&own, stack, SIZE) && !pthread_create(&thread, &own, deep, &s) && !pthread_join(thread, NULL));
+    int untouched = 0;
+    while (stack[untouched] == 0xa5) untouched++;
+    printf("c: a thread that calls used %d bytes of its stack\n", SIZE - untouched);
+    YES(SIZE - untouched < 48 * 1024);
+    free_sheet(&s);
+    free(stack);
+}
+
+int main(int argc, char **argv)
+{
+    YES(pelmetsavory_float_mode_ok() && sizeof(pelmetsavory_shape) == 56);
+    if (argc < 2) { /* valgrind keeps no float mode: any argument leaves this out */
+        const unsigned modes[] = {0x8000, 0x0040, 0x2000, 0x4000, 0x6000}; /* flush to zero, denormals are zero, down, up, towards zero */
+        for (int k = 0; k < 5; k++) { _mm_setcsr(_mm_getcsr() | modes[k]); YES(!pelmetsavory_float_mode_ok()); _mm_setcsr(_mm_getcsr() & ~modes[k]); }
+    }
+    (void)argv;
+    if (getenv("PELMETSAVORY_OUT")) out = fopen(getenv("PELMETSAVORY_OUT"), "w");
+    calls();
+    if (out) YES(!fclose(out));
+    if (argc < 2) stack_need();
+    puts("c: ok");
+    return 0;
+}

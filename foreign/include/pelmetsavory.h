@@ -1,0 +1,73 @@
+/* The C interface of libpelmetsavory.a (x86-64, System V).
+ *
+ * A slice is a pointer and a count of ELEMENTS. A pointer must be valid for its count and aligned for its element; with count 0 nothing
+ * is read or written behind it, and it may be NULL. No count times the element's size may reach 2^63.
+ * What is written (buffers, tally) must not overlap anything else that the call is given; inputs may overlap one another.
+ * Nothing else may write these arrays while a call runs.
+ * Any values in arrays and structs are taken: what is wrong is told by the status, 0 or the number of the first question that is
+ * answered no (pelmetsavory_question gives its words). After a refusal every buffer and the tally are as they were.
+ * A function letter is 'I'; any other byte is J.
+ * Floats: the thread must round to nearest, without flush-to-zero (FTZ) and denormals-are-zero (DAZ): pelmetsavory_float_mode_ok.
+ * A call needs less than 48 KiB of stack, allocates nothing, and keeps nothing: threads may call on different sheets at once. */
+#ifndef PELMETSAVORY_H
+#define PELMETSAVORY_H
+#include <stddef.h>
+#include <stdint.h>
+#include <xmmintrin.h>
+
+#ifdef __cplusplus
+extern "C" {
+#endif
+
+#include "pelmetsavory_entries.h"
+
+/* 1 where the thread's float mode is the one that the proofs speak of. Loading a library built with -ffast-math can change it. */
+static inline int pelmetsavory_float_mode_ok(void) { return (_mm_getcsr() & 0xe040u) == 0; }
+
+/* A study and a sheet as structs, and the calls on them: the entries' arguments in order, nothing else. */
+typedef struct {
+    pelmetsavory_shape shape;
+    const int64_t *addresses; size_t addresses_len;
+    const int64_t *gp_map; size_t gp_map_len;
+    const int64_t *relative_grid_address; size_t relative_grid_address_len;
+    const double *frequencies1; size_t frequencies1_len;
+    const double *frequencies2; size_t frequencies2_len;
+    const double *frequency_points; size_t frequency_points_len;
+    const int64_t *triplets; size_t triplets_len;
+} pelmetsavory_study;
+
+typedef struct {
+    double *weights; size_t weights_len;  /* by channel, triplet, point, b1, b2 */
+    int8_t *flags; size_t flags_len;      /* by triplet, point, b1, b2 */
+    uint8_t *marks; size_t marks_len;     /* by triplet, b1, b2: 0 open, 1 computed, 2 averaged */
+    uint64_t tally;
+} pelmetsavory_sheet;
+
+#define PELMETSAVORY_STUDY(y) \
+    (y)->shape, (y)->addresses, (y)->addresses_len, (y)->gp_map, (y)->gp_map_len, (y)->relative_grid_address, \
+    (y)->relative_grid_address_len, (y)->frequencies1, (y)->frequencies1_len, (y)->frequencies2, (y)->frequencies2_len, \
+    (y)->frequency_points, (y)->frequency_points_len
+#define PELMETSAVORY_SHEET(s) \
+    (s)->weights, (s)->weights_len, (s)->flags, (s)->flags_len, (s)->marks, (s)->marks_len, &(s)->tally
+
+static inline uint64_t pelmetsavory_sheet_run_piece(const pelmetsavory_study *y, pelmetsavory_sheet *s, pelmetsavory_piece piece)
+{
+    return pelmetsavory_run_piece(PELMETSAVORY_STUDY(y), y->triplets, y->triplets_len, PELMETSAVORY_SHEET(s), piece);
+}
+
+static inline uint64_t pelmetsavory_sheet_carry_on(const pelmetsavory_study *y, pelmetsavory_sheet *s)
+{
+    return pelmetsavory_carry_on(PELMETSAVORY_STUDY(y), y->triplets, y->triplets_len, PELMETSAVORY_SHEET(s));
+}
+
+static inline uint64_t pelmetsavory_sheet_average_triplet(const pelmetsavory_study *y, pelmetsavory_sheet *s, int64_t triplet,
+    const int64_t *ids1, size_t ids1_len, const int64_t *ids2, size_t ids2_len)
+{
+    return pelmetsavory_average_triplet(PELMETSAVORY_STUDY(y), y->triplets, y->triplets_len, PELMETSAVORY_SHEET(s), triplet,
+        ids1, ids1_len, ids2, ids2_len);
+}
+
+#ifdef __cplusplus
+}
+#endif
+#endif

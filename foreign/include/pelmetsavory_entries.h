@@ -1,0 +1,296 @@
+/* made by foreign/bindings.py from the Rattle source and foreign/questions.txt: do not edit */
+#ifndef PELMETSAVORY_ENTRIES_H
+#define PELMETSAVORY_ENTRIES_H
+#include <stddef.h>
+#include <stdint.h>
+
+typedef struct {
+    int64_t triplet;
+    int64_t b1;
+    int64_t b2;
+} pelmetsavory_piece;
+
+typedef struct {
+    int64_t numbers[3];
+} pelmetsavory_triple;
+
+typedef struct {
+    int64_t bz_grid_type;
+    int64_t d_diag[3];
+} pelmetsavory_grid;
+
+typedef struct {
+    int64_t num_triplets;
+    int64_t num_band0;
+    int64_t num_band1;
+    int64_t num_band2;
+} pelmetsavory_counts;
+
+typedef struct {
+    int64_t bz_grid_type;
+    int64_t d_diag[3];
+    int64_t tp_type;
+    int64_t num_band1;
+    int64_t num_band2;
+} pelmetsavory_shape;
+
+uint64_t pelmetsavory_run_piece(
+    pelmetsavory_shape shape,
+    const int64_t *addresses,
+    size_t addresses_len,
+    const int64_t *gp_map,
+    size_t gp_map_len,
+    const int64_t *relative_grid_address,
+    size_t relative_grid_address_len,
+    const double *frequencies1,
+    size_t frequencies1_len,
+    const double *frequencies2,
+    size_t frequencies2_len,
+    const double *frequency_points,
+    size_t frequency_points_len,
+    const int64_t *triplets,
+    size_t triplets_len,
+    double *weights,
+    size_t weights_len,
+    int8_t *flags,
+    size_t flags_len,
+    uint8_t *marks,
+    size_t marks_len,
+    uint64_t *tally,
+    pelmetsavory_piece piece);
+
+uint64_t pelmetsavory_carry_on(
+    pelmetsavory_shape shape,
+    const int64_t *addresses,
+    size_t addresses_len,
+    const int64_t *gp_map,
+    size_t gp_map_len,
+    const int64_t *relative_grid_address,
+    size_t relative_grid_address_len,
+    const double *frequencies1,
+    size_t frequencies1_len,
+    const double *frequencies2,
+    size_t frequencies2_len,
+    const double *frequency_points,
+    size_t frequency_points_len,
+    const int64_t *triplets,
+    size_t triplets_len,
+    double *weights,
+    size_t weights_len,
+    int8_t *flags,
+    size_t flags_len,
+    uint8_t *marks,
+    size_t marks_len,
+    uint64_t *tally);
+
+uint64_t pelmetsavory_average_triplet(
+    pelmetsavory_shape shape,
+    const int64_t *addresses,
+    size_t addresses_len,
+    const int64_t *gp_map,
+    size_t gp_map_len,
+    const int64_t *relative_grid_address,
+    size_t relative_grid_address_len,
+    const double *frequencies1,
+    size_t frequencies1_len,
+    const double *frequencies2,
+    size_t frequencies2_len,
+    const double *frequency_points,
+    size_t frequency_points_len,
+    const int64_t *triplets,
+    size_t triplets_len,
+    double *weights,
+    size_t weights_len,
+    int8_t *flags,
+    size_t flags_len,
+    uint8_t *marks,
+    size_t marks_len,
+    uint64_t *tally,
+    int64_t triplet,
+    const int64_t *degenerate_ids1,
+    size_t degenerate_ids1_len,
+    const int64_t *degenerate_ids2,
+    size_t degenerate_ids2_len);
+
+uint64_t pelmetsavory_open_count(
+    pelmetsavory_counts counts,
+    const int8_t *flags,
+    size_t flags_len,
+    int64_t triplet,
+    uint64_t *count);
+
+uint64_t pelmetsavory_integration_weight(
+    pelmetsavory_shape shape,
+    const int64_t *addresses,
+    size_t addresses_len,
+    const int64_t *gp_map,
+    size_t gp_map_len,
+    const int64_t *relative_grid_address,
+    size_t relative_grid_address_len,
+    const double *frequencies1,
+    size_t frequencies1_len,
+    const double *frequencies2,
+    size_t frequencies2_len,
+    const double *frequency_points,
+    size_t frequency_points_len,
+    const int64_t *triplets,
+    size_t triplets_len,
+    double *weights,
+    size_t weights_len,
+    int8_t *flags,
+    size_t flags_len);
+
+uint64_t pelmetsavory_integration_weight_per_triplet(
+    pelmetsavory_shape shape,
+    const int64_t *addresses,
+    size_t addresses_len,
+    const int64_t *gp_map,
+    size_t gp_map_len,
+    const int64_t *relative_grid_address,
+    size_t relative_grid_address_len,
+    const double *frequencies1,
+    size_t frequencies1_len,
+    const double *frequencies2,
+    size_t frequencies2_len,
+    const double *frequency_points,
+    size_t frequency_points_len,
+    pelmetsavory_triple triplet,
+    double *weights,
+    size_t weights_len,
+    int8_t *flags,
+    size_t flags_len);
+
+uint64_t pelmetsavory_average_weights_over_degenerate_sets(
+    double *iw,
+    size_t iw_len,
+    int8_t *iw_zero,
+    size_t iw_zero_len,
+    const int64_t *degenerate_ids1,
+    size_t degenerate_ids1_len,
+    const int64_t *degenerate_ids2,
+    size_t degenerate_ids2_len,
+    int64_t num_band0,
+    int64_t num_band,
+    int64_t tp_type);
+
+uint64_t pelmetsavory_integration_weights_at_grid_points(
+    double *iw,
+    size_t iw_len,
+    const double *frequency_points,
+    size_t frequency_points_len,
+    const int64_t *relative_grid_address,
+    size_t relative_grid_address_len,
+    const int64_t *grid_points,
+    size_t grid_points_len,
+    const double *frequencies,
+    size_t frequencies_len,
+    int64_t num_band,
+    int64_t num_ir,
+    pelmetsavory_grid grid,
+    const int64_t *addresses,
+    size_t addresses_len,
+    const int64_t *gp_map,
+    size_t gp_map_len,
+    const int64_t *gp2irgp_map,
+    size_t gp2irgp_map_len,
+    uint8_t letter);
+
+uint64_t pelmetsavory_is_n(
+    pelmetsavory_triple triplet,
+    const int64_t *bz_grid_addresses,
+    size_t bz_grid_addresses_len,
+    uint8_t *normal);
+
+uint64_t pelmetsavory_set_relative_grid_address(
+    int64_t *out,
+    size_t out_len,
+    const int64_t *relative_grid_address,
+    size_t relative_grid_address_len,
+    int64_t tp_type);
+
+uint64_t pelmetsavory_fill_neighboring_grid_points(
+    int64_t *out,
+    size_t out_len,
+    int64_t grid_point,
+    const int64_t *relative_grid_address,
+    size_t relative_grid_address_len,
+    pelmetsavory_grid grid,
+    const int64_t *addresses,
+    size_t addresses_len,
+    const int64_t *gp_map,
+    size_t gp_map_len);
+
+uint64_t pelmetsavory_neighboring_grid_points_many(
+    int64_t *out,
+    size_t out_len,
+    const int64_t *grid_points,
+    size_t grid_points_len,
+    const int64_t *relative_grid_address,
+    size_t relative_grid_address_len,
+    pelmetsavory_grid grid,
+    const int64_t *addresses,
+    size_t addresses_len,
+    const int64_t *gp_map,
+    size_t gp_map_len);
+
+uint64_t pelmetsavory_grid_index_from_address(
+    pelmetsavory_triple address,
+    pelmetsavory_triple d_diag,
+    int64_t *index);
+
+uint64_t pelmetsavory_relative_grid_address(
+    const double *rec_lattice /* [9] */,
+    int64_t *table /* [288] */,
+    size_t *index);
+
+void pelmetsavory_all_relative_grid_address(
+    int64_t *all /* [1152] */);
+
+uint64_t pelmetsavory_tetrahedra_integration_weight(
+    double omega,
+    const double *tetrahedra_omegas,
+    size_t tetrahedra_omegas_len,
+    uint8_t letter,
+    double *weight);
+
+uint64_t pelmetsavory_matvec_di(
+    const double *a /* [9] */,
+    pelmetsavory_triple b,
+    double *product /* [3] */);
+
+uint64_t pelmetsavory_num_channels(
+    int64_t tp_type,
+    size_t *channels);
+
+uint64_t pelmetsavory_tally_add(
+    uint64_t *tally,
+    uint64_t runs);
+
+/* The question that a status carries, in words; NULL for any other number. */
+static inline const char *pelmetsavory_question(uint64_t status)
+{
+    switch (status) {
+    case 2: return "Are lattice entries finite, magnitude at most 2^30?";
+    case 3: return "Is the grid kind 1 or 2?";
+    case 4: return "Is each mesh number 1 to 128 (the grid index alone: 1 to 256)?";
+    case 5: return "Are addresses whole triples, from N to 8N of them, components within +-4096?";
+    case 6: return "Is the map sound (kind 1: at least 8N long, its first 8N values 0 to P-1 or 8N; kind 2: at least N+1 long, from 0 to P, rising strictly)?";
+    case 7: return "Has the table 24, 48, 72 or 96 rows (neighbour call: one triple or more), components within +-4096?";
+    case 8: return "Is the type 2, 3 or 4?";
+    case 9: return "Are band counts 1 to 64, frequency points 1 to 1024, triplets or grid points at most 65536?";
+    case 10: return "Is each grid point, and all three of each triplet, 0 to P-1?";
+    case 11: return "Do frequencies hold P times bands values (grid-point weights: R times bands, and P map values 0 to R-1), each zero or of magnitude 2^-600 to 2^30, points and vertices zero or 2^-660 to 2^31?";
+    case 12: return "Is each lent buffer exactly as long as its record?";
+    case 13: return "Are marks 0, 1, 2, and a triplet's all 2 or none 2?";
+    case 14: return "Is the named triplet or piece on the sheet?";
+    case 15: return "Is the triplet not yet averaged?";
+    case 16: return "Are both band counts equal?";
+    case 17: return "Have both id lists that length, each id its own place or the id before it?";
+    case 18: return "Are all the triplet's marks 1?";
+    case 19: return "Are its weights finite, magnitude at most 2^60, none a negative zero?";
+    case 20: return "Does the tally stay below 2^63 after all runs of this call?";
+    default: return NULL;
+    }
+}
+
+#endif

@@ -1,0 +1,179 @@
+"""Calls every entry. Writes what it got, as text, to the file that PELMETSAVORY_OUT names: C and Rust write the same."""
+import os
+import threading
+
+import numpy as np
+
+import pelmetsavory as pm
+from queue_example import addresses, grid, n, study, table
+
+DATA = os.path.join(os.path.dirname(os.path.abspath(__file__)), "../data/")
+lines = []
+hexed = lambda a: ["%016x" % x for x in np.asarray(a, np.float64).ravel().view(np.uint64)]
+say = lambda name, *values: lines.append("\t".join([name] + [str(int(v)) if not isinstance(v, str) else v for v in values]))
+say_sheet = lambda name, s: say(name, *hexed(s.weights), *s.flags.ravel(), *s.marks.ravel(), s.tally)
+
+
+def listing(s):
+    rows = ["triplet\tpoint\tb1\tb2\tflag\tw"]
+    for at in np.ndindex(s.flags.shape):
+        rows.append("\t".join([*map(str, at), str(s.flags[at])] + hexed(s.weights[(slice(None), *at)])))
+    return "\n".join(rows) + "\n"
+
+
+def refused(number, call, *sheets):
+    before = [(s.weights.tobytes(), s.flags.tobytes(), s.marks.tobytes(), s.tally) for s in sheets]
+    try:
+        call()
+    except pm.Refused as e:
+        assert e.number == number and str(e).endswith("?"), (e, number)
+    else:
+        raise AssertionError(f"not refused with {number}")
+    assert before == [(s.weights.tobytes(), s.flags.tobytes(), s.marks.tobytes(), s.tally) for s in sheets]
+
+
+def raises(error, call):
+    try:
+        call()
+    except error as e:
+        assert not isinstance(e, pm.Refused)
+        return
+    raise AssertionError("taken")
+
+
+def other(grid=grid, table=table, tp_type=3, f1=(n % 17 + 1) / 8, f2=(n % 13 - 1) / 8, points=(0, 0.5, 1.25, 3, 9), triplets=study.triplets):
+    return pm.Study(grid, table, tp_type, f1, f2, points, triplets)
+
+
+# the study is the stored one
+text = [("grid", 2, 2, 2, 2), ("diag", 1), ("type", 3), ("bands", 3, 3)] + [("addr", *a) for a in addresses] + [("map", m) for m in grid.gp_map]
+text += [(t, x) for t, a in (("f1", study.frequencies1), ("f2", study.frequencies2), ("point", study.points)) for x in hexed(a)]
+text += [("triplet", *t) for t in study.triplets]
+assert "".join("\t".join(map(str, line)) + "\n" for line in text) == open(DATA + "study.txt").read()
+assert pm.float_mode_ok()
+
+# refusals, each of which leaves the sheet as it was
+fresh = lambda y=study, tally=40: pm.Sheet(y, *(np.full(s, v, k) for s, v, k in zip(y.shapes(), (-7.25, 5, 0), (np.float64, np.int8, np.uint8))), tally)
+sheet = fresh()
+bad = lambda number, **change: refused(number, (s := fresh(other(**change))).carry_on, s)
+bad(3, grid=pm.Grid(7, [2, 2, 2], addresses, grid.gp_map))
+bad(4, grid=pm.Grid(2, [2, 129, 2], addresses, grid.gp_map))
+bad(5, grid=pm.Grid(2, [2, 2, 4], addresses, grid.gp_map))
+bad(6, grid=pm.Grid(2, [2, 2, 2], addresses, grid.gp_map[:-1]))
+bad(7, table=table[:23])
+bad(8, tp_type=5)
+bad(7, tp_type=5, table=table[:23])
+refused(8, lambda: pm.integration_weight(other(tp_type=5)))
+bad(9, points=[])
+bad(10, triplets=[(0, 1, 12)])
+bad(11, points=[float("nan")])
+bad(11, points=[2.0**31 + 1])
+refused(12, lambda: pm._checked(pm._lib.pelmetsavory_carry_on(*study._args, *pm._slices(study.triplets), sheet.weights.ctypes.data, sheet.weights.size - 1, *sheet._args[-5:])), sheet)
+sheet.marks[2, 0, 1] = 3
+refused(13, sheet.carry_on, sheet)
+sheet.marks[2, 0, 1] = 0
+for piece in (3, 0, 0), (0, 3, 0), (0, 0, 3), (-1, 0, 0), (0, -(2**63), 0):
+    refused(14, lambda: sheet.run_piece(*piece), sheet)
+refused(18, lambda: sheet.average_triplet(0, [0, 0, 2], [0, 1, 1]), sheet)
+refused(17, lambda: sheet.average_triplet(0, [0, 0, 1], [0, 1, 1]), sheet)
+refused(16, lambda: (s := fresh(other(f2=study.frequencies2[:, :2]))).average_triplet(0, [0, 0], [0, 0]))
+full = fresh(tally=2**63 - 1)
+refused(20, lambda: full.run_piece(0, 0, 0), full)
+refused(20, full.carry_on, full)
+
+# pieces in a mixed order, repeats counted, averages
+for k in range(27):
+    p = k * 5 % 27
+    sheet.run_piece(p // 9, p // 3 % 3, p % 3)
+assert listing(sheet) == open(DATA + "listing.txt").read(), "not the stored listing"
+assert sheet.tally == 67
+sheet.run_piece(1, 1, 1)
+assert sheet.tally == 68
+say("open", *(sheet.open_count(t) for t in range(3)))
+nan = fresh()
+nan.carry_on()
+nan.weights[1, 0, 0, 0, 0] = float("nan")
+refused(19, lambda: nan.average_triplet(0, [0, 0, 2], [0, 1, 1]), nan)
+sheet.average_triplet(1, [0, 0, 2], [0, 1, 1])
+refused(15, lambda: sheet.run_piece(1, 0, 0), sheet)
+refused(15, lambda: sheet.average_triplet(1, [0, 0, 2], [0, 1, 1]), sheet)
+say_sheet("averaged", sheet)
+carried = pm.Sheet(study)
+carried.run_piece(0, 2, 1)
+carried.carry_on()
+assert carried.tally == 27 and listing(carried) == open(DATA + "listing.txt").read()
+
+# all triplets, one triplet, its averages
+w, f = pm.integration_weight(study)
+assert w.tobytes() == carried.weights.tobytes() and f.tobytes() == carried.flags.tobytes()
+w1, f1 = pm.integration_weight_per_triplet(study, (3, 5, 6))
+assert w1.tobytes() == w[:, 1].tobytes() and f1.tobytes() == f[1].tobytes()
+refused(10, lambda: pm.integration_weight_per_triplet(study, (3, 5, -1)))
+w2, f2 = pm.average_weights_over_degenerate_sets(w1, f1, [0, 0, 2], [0, 1, 1], 3)
+assert w2.tobytes() == sheet.weights[:, 1].tobytes() and f2.tobytes() == sheet.flags[1].tobytes() and w1.tobytes() == w[:, 1].tobytes()
+refused(8, lambda: pm.average_weights_over_degenerate_sets(w1, f1, [0, 0, 2], [0, 1, 1], 1))
+
+# the other entries
+for function in "IJ":
+    say("grid-points", *hexed(pm.integration_weights_at_grid_points(grid, table, [0.5, 1.25], [0, 7, 11], study.frequencies1[:4], [k % 4 for k in range(12)], function)))
+    say("weight", *hexed(pm.tetrahedra_integration_weight(2, [[0, 4, 4, 4]] * 24, function)))
+assert pm.tetrahedra_integration_weight(2, [[0, 4, 4, 4]] * 24) == 0.375 and pm.tetrahedra_integration_weight(2, [[0, 4, 4, 4]] * 24, "J") == 0.3125
+refused(7, lambda: pm.tetrahedra_integration_weight(2, [[0, 4, 4, 4]] * 23))
+refused(11, lambda: pm.integration_weights_at_grid_points(grid, table, [0.5], [0], study.frequencies1[:4], [4] * 12))
+say("is_n", *(pm.is_n(t, addresses) for t in ((0, 1, 2), (3, 5, 6))))
+refused(10, lambda: pm.is_n((0, 1, 12), addresses))
+say("copies", *pm.set_relative_grid_address(table, 2).ravel(), *pm.set_relative_grid_address(table, 4).ravel())
+refused(8, lambda: pm.set_relative_grid_address(table, 0))
+say("neighbours", *pm.fill_neighboring_grid_points(grid, 1, [(-1, 0, 0), (3, 0, 0), (-2, 0, 0)]))
+say("many", *pm.neighboring_grid_points_many(grid, range(12), table.reshape(-1, 3)).ravel())
+refused(10, lambda: pm.fill_neighboring_grid_points(grid, 12, [(0, 0, 0)]))
+refused(7, lambda: pm.neighboring_grid_points_many(grid, [0], [(4097, 0, 0)]))
+say("index", pm.grid_index_from_address((-1, 300, 5), (256, 7, 9)))
+refused(4, lambda: pm.grid_index_from_address((0, 0, 0), (257, 1, 1)))
+say("tables", pm.relative_grid_address(np.eye(3))[1], *pm.relative_grid_address(np.eye(3))[0].ravel(), *pm.all_relative_grid_address().ravel())
+refused(2, lambda: pm.relative_grid_address(np.full((3, 3), np.inf)))
+say("matvec", *hexed(pm.matvec_di([[0.1, 0.2, 0.3], [1, 2, 3], [-4, 0, 4]], (3, -4, 4096))))
+refused(7, lambda: pm.matvec_di(np.eye(3), (0, 0, 4097)))
+say("channels", *(pm.num_channels(t) for t in (2, 3, 4)))
+refused(8, lambda: pm.num_channels(1))
+
+# empty arrays: no triplets is a sheet, no grid points is an answer, an empty table or grid is refused
+empty = pm.Sheet(other(triplets=[]))
+empty.carry_on()
+assert empty.weights.size == 0 and empty.tally == 0
+refused(14, lambda: empty.run_piece(0, 0, 0), empty)
+assert pm.neighboring_grid_points_many(grid, [], [(0, 0, 0)]).shape == (0, 1)
+assert pm.integration_weights_at_grid_points(grid, table, [0.5], [], study.frequencies1[:4], [0] * 12).shape == (0, 1, 3)
+refused(7, lambda: pm.fill_neighboring_grid_points(grid, 0, []))
+refused(5, lambda: pm.fill_neighboring_grid_points(pm.Grid(2, [1, 1, 1], [], []), 0, [(0, 0, 0)]))
+
+# what numpy must not do unseen, and shapes that numpy itself refuses
+odd = np.frombuffer(b"x" + study.frequencies1.tobytes(), np.float64, offset=1)
+for a in (odd, study.frequencies1.astype(">f8"), np.repeat(study.frequencies1, 2, 0)[::2], study.frequencies1.ravel()):
+    b = other(f1=a).frequencies1
+    assert b.tobytes() == study.frequencies1.tobytes() and b.flags.aligned and b.ctypes.data % 8 == 0
+raises(TypeError, lambda: pm.Grid(2, [2, 2, 2], np.array(addresses) * 1.0, grid.gp_map))
+raises(TypeError, lambda: other(points=[1, 2**53 + 1]))
+raises(TypeError, lambda: other(points=[1 + 0j]))
+raises(OverflowError, lambda: sheet.run_piece(2**63, 0, 0))
+raises(ValueError, lambda: pm.Grid(2, [2, 2, 2], [0, 0, 0, 1], grid.gp_map))
+raises(ValueError, lambda: pm.Grid(2, [2, 2], addresses, grid.gp_map))
+raises(ValueError, lambda: other(f1=study.frequencies1[:11]))
+raises(ValueError, lambda: other(triplets=[(0, 1)]))
+raises(TypeError, lambda: pm.Sheet(study, weights=sheet.weights.astype(np.float32)))
+raises(TypeError, lambda: pm.Sheet(study, flags=np.zeros((2 * sheet.flags.size), np.int8)[::2]))
+raises(ValueError, lambda: pm.Sheet(study, weights=np.zeros(404)))
+shared = np.zeros(405)
+raises(ValueError, lambda: pm.Sheet(study, weights=shared, marks=shared.view(np.uint8)[:27]))
+raises(ValueError, lambda: pm.Sheet(other(points=shared[:5]), weights=shared))
+
+# threads on sheets of their own
+sheets = [pm.Sheet(study) for _ in range(4)]
+threads = [threading.Thread(target=s.carry_on) for s in sheets]
+[t.start() for t in threads]
+[t.join() for t in threads]
+assert all(s.weights.tobytes() == carried.weights.tobytes() for s in sheets)
+
+if "PELMETSAVORY_OUT" in os.environ:
+    open(os.environ["PELMETSAVORY_OUT"], "w").write("\n".join(lines) + "\n")
+print("python: ok")

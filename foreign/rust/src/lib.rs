@@ -1,0 +1,320 @@
+//! A safe face of the proved library. A slice crosses as a pointer and a count; the borrow checker gives what a call takes for granted:
+//! valid memory, and no overlap with what is written. An `Err` carries the first question that is answered no; nothing was written then.
+//! The thread's float mode must be IEEE 754's: see [`float_mode_ok`].
+
+#[rustfmt::skip]
+mod c;
+pub use c::{Counts, Grid, Piece, Shape};
+use c::Triple;
+use std::{fmt, fs, io, path::Path};
+
+/// The number of the first question that is answered no.
+#[derive(Clone, Copy, Debug, PartialEq, Eq)]
+pub struct Refused(pub u64);
+
+impl fmt::Display for Refused {
+    fn fmt(&self, f: &mut fmt::Formatter) -> fmt::Result {
+        let words = c::QUESTIONS.iter().find(|q| q.0 == self.0).map_or("?", |q| q.1);
+        write!(f, "question {} is answered no: {}", self.0, words)
+    }
+}
+
+impl std::error::Error for Refused {}
+
+fn told(status: u64) -> Result<(), Refused> {
+    if status == 0 {
+        Ok(())
+    } else {
+        Err(Refused(status))
+    }
+}
+
+/// Whether this thread rounds to nearest, without flush-to-zero and denormals-are-zero, as the proofs take it.
+pub fn float_mode_ok() -> bool {
+    let mut mode = 0u32;
+    // SAFETY: stores the four bytes of MXCSR.
+    unsafe { std::arch::asm!("stmxcsr [{}]", in(reg) &mut mode, options(nostack)) };
+    mode & 0xe040 == 0
+}
+
+/// Which weight: I times the density, or J times the number of states.
+#[derive(Clone, Copy, Debug, PartialEq, Eq)]
+pub enum Function {
+    I,
+    J,
+}
+
+impl Function {
+    fn letter(self) -> u8 {
+        match self {
+            Function::I => b'I',
+            Function::J => b'J',
+        }
+    }
+}
+
+/// What a sheet is made of; `shape` may hold any numbers.
+#[derive(Clone, Copy)]
+pub struct Study<'a> {
+    pub shape: Shape,
+    pub addresses: &'a [i64],
+    pub gp_map: &'a [i64],
+    pub relative_grid_address: &'a [i64],
+    pub frequencies1: &'a [f64],
+    pub frequencies2: &'a [f64],
+    pub frequency_points: &'a [f64],
+    pub triplets: &'a [i64],
+}
+
+/// Calls an entry on a study, and on what follows it.
+macro_rules! on_study {
+    ($f:ident, $y:expr, $($rest:expr),*) => {
+        // SAFETY: the entry takes any values; each pair is a live slice, and what is written is borrowed `&mut`.
+        told(unsafe {
+            c::$f(
+                $y.shape,
+                $y.addresses.as_ptr(), $y.addresses.len(),
+                $y.gp_map.as_ptr(), $y.gp_map.len(),
+                $y.relative_grid_address.as_ptr(), $y.relative_grid_address.len(),
+                $y.frequencies1.as_ptr(), $y.frequencies1.len(),
+                $y.frequencies2.as_ptr(), $y.frequencies2.len(),
+                $y.frequency_points.as_ptr(), $y.frequency_points.len(),
+                $($rest),*
+            )
+        })
+    };
+}
+
+/// Calls an entry on a study and a sheet, and on what follows them.
+macro_rules! on_sheet {
+    ($f:ident, $s:expr, $y:expr $(, $rest:expr)*) => {
+        on_study!(
+            $f, $y,
+            $y.triplets.as_ptr(), $y.triplets.len(),
+            $s.weights.as_mut_ptr(), $s.weights.len(),
+            $s.flags.as_mut_ptr(), $s.flags.len(),
+            $s.marks.as_mut_ptr(), $s.marks.len(),
+            &mut $s.tally
+            $(, $rest)*
+        )
+    };
+}
+
+/// Weights by channel, triplet, point, b1, b2; flags without the channel; marks by triplet, b1, b2; the tally of accepted runs.
+#[derive(Clone, Debug, Default, PartialEq)]
+pub struct Sheet {
+    pub weights: Vec<f64>,
+    pub flags: Vec<i8>,
+    pub marks: Vec<u8>,
+    pub tally: u64,
+}
+
+impl Sheet {
+    /// A sheet of the study's size with every piece open. Numbers out of range give an empty one, which every call refuses.
+    pub fn new(y: &Study) -> Sheet {
+        let bands = |n: i64| if (1..=64).contains(&n) { n as usize } else { 0 };
+        let pairs = bands(y.shape.num_band1) * bands(y.shape.num_band2);
+        let (channels, triplets) = (num_channels(y.shape.tp_type).unwrap_or(0), y.triplets.len() / 3);
+        let cells = triplets * y.frequency_points.len() * pairs;
+        Sheet { weights: vec![0.0; channels * cells], flags: vec![0; cells], marks: vec![0; triplets * pairs], tally: 0 }
+    }
+
+    pub fn run_piece(&mut self, y: &Study, piece: Piece) -> Result<(), Refused> {
+        on_sheet!(pelmetsavory_run_piece, self, y, piece)
+    }
+
+    pub fn carry_on(&mut self, y: &Study) -> Result<(), Refused> {
+        on_sheet!(pelmetsavory_carry_on, self, y)
+    }
+
+    pub fn average_triplet(&mut self, y: &Study, triplet: i64, ids1: &[i64], ids2: &[i64]) -> Result<(), Refused> {
+        on_sheet!(pelmetsavory_average_triplet, self, y, triplet, ids1.as_ptr(), ids1.len(), ids2.as_ptr(), ids2.len())
+    }
+
+    /// Takes over the pieces that another sheet of the same study has computed and this one has open, and counts them.
+    /// Both sheets must have the study's size.
+    pub fn take(&mut self, y: &Study, other: &Sheet) -> Result<(), Refused> {
+        let pairs = (y.shape.num_band1 * y.shape.num_band2) as usize;
+        let new: Vec<usize> = (0..self.marks.len()).filter(|&p| other.marks[p] == 1 && self.marks[p] == 0).collect();
+        tally_add(&mut self.tally, new.len() as u64)?;
+        let (points, cells) = (y.frequency_points.len(), self.flags.len());
+        for p in new {
+            for point in 0..points {
+                let at = (p / pairs * points + point) * pairs + p % pairs;
+                self.flags[at] = other.flags[at];
+                for place in (at..self.weights.len()).step_by(cells) {
+                    self.weights[place] = other.weights[place];
+                }
+            }
+            self.marks[p] = 1;
+        }
+        Ok(())
+    }
+
+    /// Weights, flags, marks and tally as bytes.
+    pub fn to_bytes(&self) -> Vec<u8> {
+        let mut out: Vec<u8> = self.weights.iter().flat_map(|w| w.to_bits().to_le_bytes()).collect();
+        out.extend(self.flags.iter().map(|f| *f as u8));
+        out.extend(&self.marks);
+        out.extend(self.tally.to_le_bytes());
+        out
+    }
+
+    /// Stores the sheet so that a reader finds the old one or the new one whole.
+    pub fn save(&self, path: &Path) -> io::Result<()> {
+        let draft = path.with_file_name(format!("{}.{}", path.file_name().unwrap_or_default().to_string_lossy(), std::process::id()));
+        fs::write(&draft, self.to_bytes())?;
+        fs::rename(&draft, path)
+    }
+
+    /// Reads a stored sheet of the study.
+    pub fn load(y: &Study, path: &Path) -> io::Result<Sheet> {
+        let (mut s, data) = (Sheet::new(y), fs::read(path)?);
+        let (w, f) = (s.weights.len() * 8, s.flags.len());
+        if data.len() != w + f + s.marks.len() + 8 {
+            return Err(io::Error::new(io::ErrorKind::InvalidData, "the file is not a sheet of this study"));
+        }
+        for (x, bytes) in s.weights.iter_mut().zip(data.chunks_exact(8)) {
+            *x = f64::from_bits(u64::from_le_bytes(bytes.try_into().unwrap()));
+        }
+        s.flags.iter_mut().zip(&data[w..]).for_each(|(x, b)| *x = *b as i8);
+        s.marks.copy_from_slice(&data[w + f..data.len() - 8]);
+        s.tally = u64::from_le_bytes(data[data.len() - 8..].try_into().unwrap());
+        Ok(s)
+    }
+}
+
+/// The number of flags 0 of a triplet.
+pub fn open_count(counts: Counts, flags: &[i8], triplet: i64) -> Result<u64, Refused> {
+    let mut count = 0;
+    told(unsafe { c::pelmetsavory_open_count(counts, flags.as_ptr(), flags.len(), triplet, &mut count) })?;
+    Ok(count)
+}
+
+/// The weights and flags of all triplets.
+pub fn integration_weight(y: &Study, weights: &mut [f64], flags: &mut [i8]) -> Result<(), Refused> {
+    on_study!(pelmetsavory_integration_weight, y, y.triplets.as_ptr(), y.triplets.len(), weights.as_mut_ptr(), weights.len(), flags.as_mut_ptr(), flags.len())
+}
+
+/// The weights and flags of one triplet, any three grid points.
+pub fn integration_weight_per_triplet(y: &Study, triplet: [i64; 3], weights: &mut [f64], flags: &mut [i8]) -> Result<(), Refused> {
+    on_study!(pelmetsavory_integration_weight_per_triplet, y, Triple { numbers: triplet }, weights.as_mut_ptr(), weights.len(), flags.as_mut_ptr(), flags.len())
+}
+
+/// Averages one triplet's weights and flags in place.
+pub fn average_weights_over_degenerate_sets(iw: &mut [f64], iw_zero: &mut [i8], ids1: &[i64], ids2: &[i64], num_band0: i64, num_band: i64, tp_type: i64) -> Result<(), Refused> {
+    told(unsafe {
+        c::pelmetsavory_average_weights_over_degenerate_sets(
+            iw.as_mut_ptr(), iw.len(), iw_zero.as_mut_ptr(), iw_zero.len(),
+            ids1.as_ptr(), ids1.len(), ids2.as_ptr(), ids2.len(), num_band0, num_band, tp_type,
+        )
+    })
+}
+
+/// A tested grid is one that a call takes: kind and mesh, addresses, map.
+#[derive(Clone, Copy)]
+pub struct BzGrid<'a> {
+    pub grid: Grid,
+    pub addresses: &'a [i64],
+    pub gp_map: &'a [i64],
+}
+
+/// Frequencies of the irreducible points, row by row, and for each address its irreducible point.
+#[derive(Clone, Copy)]
+pub struct Irreducible<'a> {
+    pub frequencies: &'a [f64],
+    pub num_band: i64,
+    pub num_ir: i64,
+    pub gp2irgp_map: &'a [i64],
+}
+
+/// The weights of each band at each frequency point, for each grid point.
+pub fn integration_weights_at_grid_points(iw: &mut [f64], points: &[f64], table: &[i64], grid_points: &[i64], at: Irreducible, g: BzGrid, function: Function) -> Result<(), Refused> {
+    told(unsafe {
+        c::pelmetsavory_integration_weights_at_grid_points(
+            iw.as_mut_ptr(), iw.len(), points.as_ptr(), points.len(), table.as_ptr(), table.len(),
+            grid_points.as_ptr(), grid_points.len(), at.frequencies.as_ptr(), at.frequencies.len(), at.num_band, at.num_ir,
+            g.grid, g.addresses.as_ptr(), g.addresses.len(), g.gp_map.as_ptr(), g.gp_map.len(),
+            at.gp2irgp_map.as_ptr(), at.gp2irgp_map.len(), function.letter(),
+        )
+    })
+}
+
+/// Whether the three addresses of a triplet add to zero.
+pub fn is_n(triplet: [i64; 3], addresses: &[i64]) -> Result<bool, Refused> {
+    let mut normal = 0;
+    told(unsafe { c::pelmetsavory_is_n(Triple { numbers: triplet }, addresses.as_ptr(), addresses.len(), &mut normal) })?;
+    Ok(normal == 1)
+}
+
+/// Both copies of a table, one after the other.
+pub fn set_relative_grid_address(out: &mut [i64], table: &[i64], tp_type: i64) -> Result<(), Refused> {
+    told(unsafe { c::pelmetsavory_set_relative_grid_address(out.as_mut_ptr(), out.len(), table.as_ptr(), table.len(), tp_type) })
+}
+
+/// The neighbours of one grid point.
+pub fn fill_neighboring_grid_points(out: &mut [i64], grid_point: i64, steps: &[i64], g: BzGrid) -> Result<(), Refused> {
+    told(unsafe {
+        c::pelmetsavory_fill_neighboring_grid_points(
+            out.as_mut_ptr(), out.len(), grid_point, steps.as_ptr(), steps.len(),
+            g.grid, g.addresses.as_ptr(), g.addresses.len(), g.gp_map.as_ptr(), g.gp_map.len(),
+        )
+    })
+}
+
+/// The neighbours of many grid points, those of each in turn.
+pub fn neighboring_grid_points_many(out: &mut [i64], grid_points: &[i64], steps: &[i64], g: BzGrid) -> Result<(), Refused> {
+    told(unsafe {
+        c::pelmetsavory_neighboring_grid_points_many(
+            out.as_mut_ptr(), out.len(), grid_points.as_ptr(), grid_points.len(), steps.as_ptr(), steps.len(),
+            g.grid, g.addresses.as_ptr(), g.addresses.len(), g.gp_map.as_ptr(), g.gp_map.len(),
+        )
+    })
+}
+
+/// The grid index of an address.
+pub fn grid_index_from_address(address: [i64; 3], d_diag: [i64; 3]) -> Result<i64, Refused> {
+    let mut index = 0;
+    told(unsafe { c::pelmetsavory_grid_index_from_address(Triple { numbers: address }, Triple { numbers: d_diag }, &mut index) })?;
+    Ok(index)
+}
+
+/// The table of the shortest main diagonal of a lattice (row by row), and its number.
+pub fn relative_grid_address(rec_lattice: &[f64; 9]) -> Result<([i64; 288], usize), Refused> {
+    let (mut table, mut index) = ([0; 288], 0);
+    told(unsafe { c::pelmetsavory_relative_grid_address(rec_lattice, &mut table, &mut index) })?;
+    Ok((table, index))
+}
+
+/// All four tables.
+pub fn all_relative_grid_address() -> [i64; 1152] {
+    let mut all = [0; 1152];
+    unsafe { c::pelmetsavory_all_relative_grid_address(&mut all) };
+    all
+}
+
+/// One weight over directly given vertices, four a row.
+pub fn tetrahedra_integration_weight(omega: f64, vertices: &[f64], function: Function) -> Result<f64, Refused> {
+    let mut weight = 0.0;
+    told(unsafe { c::pelmetsavory_tetrahedra_integration_weight(omega, vertices.as_ptr(), vertices.len(), function.letter(), &mut weight) })?;
+    Ok(weight)
+}
+
+/// A lattice (row by row) times a whole vector.
+pub fn matvec_di(a: &[f64; 9], b: [i64; 3]) -> Result<[f64; 3], Refused> {
+    let mut product = [0.0; 3];
+    told(unsafe { c::pelmetsavory_matvec_di(a, Triple { numbers: b }, &mut product) })?;
+    Ok(product)
+}
+
+/// How many weights a triplet of a type has at a point of a band pair.
+pub fn num_channels(tp_type: i64) -> Result<usize, Refused> {
+    let mut channels = 0;
+    told(unsafe { c::pelmetsavory_num_channels(tp_type, &mut channels) })?;
+    Ok(channels)
+}
+
+/// Adds runs to a tally.
+pub fn tally_add(tally: &mut u64, runs: u64) -> Result<(), Refused> {
+    told(unsafe { c::pelmetsavory_tally_add(tally, runs) })
+}

@@ -1,0 +1,206 @@
+//! Calls every entry. Writes what it got, as text, to the file that PELMETSAVORY_OUT names: C and Python write the same.
+mod small;
+use pelmetsavory::*;
+use small::{Small, ADDRESSES, GP_MAP};
+use std::fmt::Display;
+
+const IDS1: [i64; 3] = [0, 0, 2];
+const IDS2: [i64; 3] = [0, 1, 1];
+
+fn hex(x: &[f64]) -> Vec<String> {
+    x.iter().map(|w| format!("{:016x}", w.to_bits())).collect()
+}
+
+fn text<T: Display>(x: &[T]) -> Vec<String> {
+    x.iter().map(T::to_string).collect()
+}
+
+fn say(out: &mut String, name: &str, values: Vec<Vec<String>>) {
+    let all: Vec<String> = std::iter::once(name.to_string()).chain(values.concat()).collect();
+    *out += &(all.join("\t") + "\n");
+}
+
+fn listing(s: &Sheet) -> String {
+    let mut out = String::from("triplet\tpoint\tb1\tb2\tflag\tw\n");
+    for k in 0..135 {
+        let w = hex(&[s.weights[k], s.weights[135 + k], s.weights[270 + k]]).join("\t");
+        out += &format!("{}\t{}\t{}\t{}\t{}\t{}\n", k / 45, k / 9 % 5, k / 3 % 3, k % 3, s.flags[k], w);
+    }
+    out
+}
+
+fn piece(triplet: i64, b1: i64, b2: i64) -> Piece {
+    Piece { triplet, b1, b2 }
+}
+
+/// A refusal that leaves the sheet as it was.
+fn kept(number: u64, s: &mut Sheet, call: impl FnOnce(&mut Sheet) -> Result<(), Refused>) {
+    let before = s.to_bytes();
+    let told = call(s);
+    assert_eq!(told, Err(Refused(number)));
+    assert!(told.unwrap_err().to_string().ends_with('?'));
+    assert!(before == s.to_bytes());
+}
+
+#[test]
+fn every_entry_and_every_refusal() {
+    assert!(float_mode_ok());
+    let small = Small::new();
+    let y = small.study();
+    let mut out = String::new();
+    let stored = std::fs::read_to_string(concat!(env!("CARGO_MANIFEST_DIR"), "/../data/listing.txt")).unwrap();
+    let mut s = Sheet { weights: vec![-7.25; 405], flags: vec![5; 135], marks: vec![0; 27], tally: 40 };
+
+    // refusals, each of which leaves the sheet as it was
+    let mut bad = |number, change: &dyn Fn(&mut Study)| {
+        let mut b = y;
+        change(&mut b);
+        kept(number, &mut s, |s| s.carry_on(&b));
+    };
+    bad(3, &|b| b.shape.bz_grid_type = i64::MIN);
+    bad(4, &|b| b.shape.d_diag[1] = 129);
+    bad(5, &|b| b.addresses = &ADDRESSES[1..]);
+    bad(5, &|b| b.addresses = &[]);
+    bad(6, &|b| b.gp_map = &GP_MAP[..8]);
+    bad(7, &|b| b.relative_grid_address = &b.relative_grid_address[..276]);
+    bad(8, &|b| b.shape.tp_type = 5);
+    bad(9, &|b| b.frequency_points = &[]);
+    bad(10, &|b| b.triplets = &[0, 1, 2, 3, 12, 6, 4, 11, 7]);
+    bad(11, &|b| b.frequencies1 = &b.frequencies1[1..]);
+    bad(11, &|b| b.frequency_points = &[f64::NAN]);
+    let last = s.weights.pop().unwrap();
+    kept(12, &mut s, |s| s.carry_on(&y));
+    s.weights.push(last);
+    s.marks[19] = 3;
+    kept(13, &mut s, |s| s.carry_on(&y));
+    s.marks[19] = 0;
+    for (t, b1, b2) in [(3, 0, 0), (0, 3, 0), (0, 0, 3), (-1, 0, 0), (0, i64::MIN, 0)] {
+        kept(14, &mut s, |s| s.run_piece(&y, piece(t, b1, b2)));
+    }
+    kept(18, &mut s, |s| s.average_triplet(&y, 0, &IDS1, &IDS2));
+    kept(17, &mut s, |s| s.average_triplet(&y, 0, &IDS1, &[]));
+    let mut narrow = y;
+    narrow.shape.num_band2 = 2;
+    narrow.frequencies2 = &y.frequencies2[..24];
+    kept(16, &mut Sheet::new(&narrow), |s| s.average_triplet(&narrow, 0, &[0, 0], &[0, 0]));
+    s.tally = i64::MAX as u64;
+    kept(20, &mut s, |s| s.run_piece(&y, piece(0, 0, 0)));
+    kept(20, &mut s, |s| s.carry_on(&y));
+    s.tally = 40;
+
+    // pieces in a mixed order, repeats counted, averages
+    for k in 0..27 {
+        let p = k * 5 % 27;
+        assert_eq!(s.run_piece(&y, piece(p / 9, p / 3 % 3, p % 3)), Ok(()));
+    }
+    assert!(listing(&s) == stored && s.tally == 67);
+    assert_eq!(s.run_piece(&y, piece(1, 1, 1)), Ok(()));
+    assert_eq!(s.tally, 68);
+    let counts = Counts { num_triplets: 3, num_band0: 5, num_band1: 3, num_band2: 3 };
+    let open: Vec<u64> = (0..3).map(|t| open_count(counts, &s.flags, t).unwrap()).collect();
+    say(&mut out, "open", vec![text(&open)]);
+    assert_eq!(open_count(counts, &s.flags, 3), Err(Refused(14)));
+    assert_eq!(open_count(counts, &[], 0), Err(Refused(12)));
+    let mut carried = Sheet::new(&y);
+    assert_eq!(carried.run_piece(&y, piece(0, 2, 1)), Ok(()));
+    assert_eq!(carried.carry_on(&y), Ok(()));
+    assert!(listing(&carried) == stored && carried.tally == 27);
+    let mut nan = carried.clone();
+    nan.weights[135] = f64::NAN;
+    kept(19, &mut nan, |s| s.average_triplet(&y, 0, &IDS1, &IDS2));
+    assert_eq!(s.average_triplet(&y, 1, &IDS1, &IDS2), Ok(()));
+    kept(15, &mut s, |s| s.run_piece(&y, piece(1, 0, 0)));
+    kept(15, &mut s, |s| s.average_triplet(&y, 1, &IDS1, &IDS2));
+    say(&mut out, "averaged", vec![hex(&s.weights), text(&s.flags), text(&s.marks), text(&[s.tally])]);
+
+    // all triplets, one triplet, its averages
+    let (mut w, mut f, mut w1, mut f1) = (vec![-1.0; 405], vec![7i8; 135], vec![-1.0; 135], vec![7i8; 45]);
+    assert_eq!(integration_weight(&y, &mut w[1..], &mut f), Err(Refused(12)));
+    assert!(w.iter().all(|x| *x == -1.0) && f.iter().all(|x| *x == 7));
+    assert_eq!(integration_weight(&y, &mut w, &mut f), Ok(()));
+    assert!(hex(&w) == hex(&carried.weights) && f == carried.flags);
+    assert_eq!(integration_weight_per_triplet(&y, [3, 5, -1], &mut w1, &mut f1), Err(Refused(10)));
+    assert_eq!(integration_weight_per_triplet(&y, [3, 5, 6], &mut w1, &mut f1), Ok(()));
+    let second = |w: &[f64]| hex(&[&w[45..90], &w[180..225], &w[315..360]].concat());
+    assert!(hex(&w1) == second(&w) && f1 == f[45..90]);
+    assert_eq!(average_weights_over_degenerate_sets(&mut w1, &mut f1, &IDS1, &IDS2, 5, 3, 1), Err(Refused(8)));
+    assert_eq!(average_weights_over_degenerate_sets(&mut w1, &mut f1, &IDS1, &IDS2, 5, 3, 3), Ok(()));
+    assert!(hex(&w1) == second(&s.weights) && f1 == s.flags[45..90]);
+
+    // the other entries
+    let g = BzGrid { grid: Grid { bz_grid_type: 2, d_diag: [2, 2, 2] }, addresses: &ADDRESSES, gp_map: &GP_MAP };
+    let map: Vec<i64> = (0..12).map(|k| k % 4).collect();
+    let at = Irreducible { frequencies: &y.frequencies1[..12], num_band: 3, num_ir: 4, gp2irgp_map: &map };
+    let rows: Vec<f64> = (0..96).map(|k| if k % 4 == 0 { 0.0 } else { 4.0 }).collect();
+    let mut iw = [0.0; 18];
+    for (function, want) in [(Function::I, 0.375), (Function::J, 0.3125)] {
+        assert_eq!(integration_weights_at_grid_points(&mut iw, &[0.5, 1.25], &small.table, &[0, 7, 11], at, g, function), Ok(()));
+        say(&mut out, "grid-points", vec![hex(&iw)]);
+        assert_eq!(tetrahedra_integration_weight(2.0, &rows, function), Ok(want));
+        say(&mut out, "weight", vec![hex(&[want])]);
+    }
+    assert_eq!(tetrahedra_integration_weight(2.0, &rows[4..], Function::I), Err(Refused(7)));
+    let outside = Irreducible { gp2irgp_map: &[4; 12], ..at };
+    assert_eq!(integration_weights_at_grid_points(&mut iw, &[0.5, 1.25], &small.table, &[0, 7, 11], outside, g, Function::I), Err(Refused(11)));
+    say(&mut out, "is_n", vec![text(&[is_n([0, 1, 2], &ADDRESSES).unwrap() as u8, is_n([3, 5, 6], &ADDRESSES).unwrap() as u8])]);
+    assert_eq!(is_n([0, 1, 12], &ADDRESSES), Err(Refused(10)));
+    assert_eq!(is_n([0, 1, 2], &[]), Err(Refused(10)));
+    let (mut negated, mut plain) = ([0; 576], [0; 576]);
+    assert_eq!(set_relative_grid_address(&mut negated, &small.table, 2), Ok(()));
+    assert_eq!(set_relative_grid_address(&mut plain, &small.table, 4), Ok(()));
+    assert_eq!(set_relative_grid_address(&mut plain, &small.table, 0), Err(Refused(8)));
+    say(&mut out, "copies", vec![text(&negated), text(&plain)]);
+    let (mut near, mut many, every) = ([0; 3], [0; 1152], (0..12).collect::<Vec<i64>>());
+    assert_eq!(fill_neighboring_grid_points(&mut near, 1, &[-1, 0, 0, 3, 0, 0, -2, 0, 0], g), Ok(()));
+    assert_eq!(neighboring_grid_points_many(&mut many, &every, &small.table, g), Ok(()));
+    assert_eq!(fill_neighboring_grid_points(&mut near, 12, &[-1, 0, 0, 3, 0, 0, -2, 0, 0], g), Err(Refused(10)));
+    assert_eq!(neighboring_grid_points_many(&mut near[..1], &[0], &[4097, 0, 0], g), Err(Refused(7)));
+    say(&mut out, "neighbours", vec![text(&near)]);
+    say(&mut out, "many", vec![text(&many)]);
+    say(&mut out, "index", vec![text(&[grid_index_from_address([-1, 300, 5], [256, 7, 9]).unwrap()])]);
+    assert_eq!(grid_index_from_address([0, 0, 0], [257, 1, 1]), Err(Refused(4)));
+    let mut unit = [1., 0., 0., 0., 1., 0., 0., 0., 1.];
+    let (table, index) = relative_grid_address(&unit).unwrap();
+    say(&mut out, "tables", vec![text(&[index]), text(&table), text(&all_relative_grid_address())]);
+    unit[4] = f64::INFINITY;
+    assert_eq!(relative_grid_address(&unit), Err(Refused(2)));
+    let lattice = [0.1, 0.2, 0.3, 1., 2., 3., -4., 0., 4.];
+    say(&mut out, "matvec", vec![hex(&matvec_di(&lattice, [3, -4, 4096]).unwrap())]);
+    assert_eq!(matvec_di(&lattice, [0, 0, 4097]), Err(Refused(7)));
+    let channels: Vec<usize> = (2..5).map(|t| num_channels(t).unwrap()).collect();
+    say(&mut out, "channels", vec![text(&channels)]);
+    assert_eq!(num_channels(1), Err(Refused(8)));
+    let mut tally = i64::MAX as u64 - 1;
+    assert_eq!(tally_add(&mut tally, 1), Ok(()));
+    assert_eq!(tally_add(&mut tally, 1), Err(Refused(20)));
+    assert_eq!(tally, i64::MAX as u64);
+
+    // empty arrays: no triplets is a sheet, no grid points is an answer
+    let mut no_triplets = y;
+    no_triplets.triplets = &[];
+    let mut empty = Sheet::new(&no_triplets);
+    assert_eq!(empty.carry_on(&no_triplets), Ok(()));
+    kept(14, &mut empty, |s| s.run_piece(&no_triplets, piece(0, 0, 0)));
+    assert_eq!(integration_weight(&no_triplets, &mut [], &mut []), Ok(()));
+    assert_eq!(neighboring_grid_points_many(&mut [], &[], &[0, 0, 0], g), Ok(()));
+    assert_eq!(integration_weights_at_grid_points(&mut [], &[0.5], &small.table, &[], at, g, Function::J), Ok(()));
+    assert_eq!(fill_neighboring_grid_points(&mut [], 0, &[], g), Err(Refused(7)));
+
+    if let Ok(path) = std::env::var("PELMETSAVORY_OUT") {
+        std::fs::write(path, out).unwrap();
+    }
+}
+
+#[test]
+fn a_stored_sheet_comes_back() {
+    let small = Small::new();
+    let y = small.study();
+    let path = std::env::temp_dir().join(format!("pelmetsavory.test.{}", std::process::id()));
+    let mut s = Sheet::new(&y);
+    s.run_piece(&y, piece(2, 1, 0)).unwrap();
+    s.save(&path).unwrap();
+    assert!(Sheet::load(&y, &path).unwrap().to_bytes() == s.to_bytes());
+    std::fs::write(&path, &s.to_bytes()[1..]).unwrap();
+    assert!(Sheet::load(&y, &path).is_err());
+    std::fs::remove_file(path).unwrap();
+}

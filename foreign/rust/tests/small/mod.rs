@@ -1,0 +1,34 @@
+//! The small study of the tests and the example: data/study.txt.
+use pelmetsavory::{relative_grid_address, Shape, Study};
+
+pub const ADDRESSES: [i64; 36] = [0, 0, 0, 1, 0, 0, -1, 0, 0, 0, 1, 0, 0, -1, 0, 1, 1, 0, 0, 0, 1, 0, 0, -1, 1, 0, 1, 0, 1, 1, 1, 1, 1, -1, -1, -1];
+pub const GP_MAP: [i64; 9] = [0, 1, 3, 5, 6, 8, 9, 10, 12];
+
+pub struct Small {
+    pub table: [i64; 288],
+    pub frequencies1: Vec<f64>,
+    pub frequencies2: Vec<f64>,
+}
+
+impl Small {
+    pub fn new() -> Small {
+        let (table, number) = relative_grid_address(&[1., 1., 0., 0., 1., 0., 0., 0., 1.]).unwrap();
+        assert_eq!(number, 1);
+        let n = |k: i32| 7 * (k / 3) * (k / 3) + 5 * (k % 3) + 3 * (k / 3) * (k % 3);
+        let made = |f: fn(i32) -> i32| (0..36).map(|k| f(n(k)) as f64 / 8.0).collect();
+        Small { table, frequencies1: made(|n| n % 17 + 1), frequencies2: made(|n| n % 13 - 1) }
+    }
+
+    pub fn study(&self) -> Study<'_> {
+        Study {
+            shape: Shape { bz_grid_type: 2, d_diag: [2, 2, 2], tp_type: 3, num_band1: 3, num_band2: 3 },
+            addresses: &ADDRESSES,
+            gp_map: &GP_MAP,
+            relative_grid_address: &self.table,
+            frequencies1: &self.frequencies1,
+            frequencies2: &self.frequencies2,
+            frequency_points: &[0.0, 0.5, 1.25, 3.0, 9.0],
+            triplets: &[0, 1, 2, 3, 5, 6, 4, 11, 7],
+        }
+    }
+}
