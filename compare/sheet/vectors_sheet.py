@@ -15,7 +15,9 @@ import sheet_cases
 import sheet_model as m
 
 KINDS = {"run": 1, "carry_on": 2, "average": 3}
-NAMES = {1: "run of a piece", 2: "carry on", 3: "average of a triplet", 4: "open count"}
+NAMES = {1: "run of a piece", 2: "carry on", 3: "average of a triplet", 4: "open count", 5: "replay of a list"}
+# The kinds that the replay reads as an averaging: any number but 0 and 1.
+AVERAGES = (2, -1, 77, 1 << 62)
 # The program's buffers: of a sheet, of whole numbers, of floats; and its flags.
 ROOM = 256
 NUMBERS = 1500
@@ -100,6 +102,41 @@ def list_of_calls(c, seen):
     return [record(4, "".join(out))]
 
 
+def encoded(calls):
+    """Six numbers a call, and the ids that the averagings name by their places."""
+    out, ids = [], []
+    for k, call in enumerate(calls):
+        if call[0] == "run":
+            out += [0, *call[1:], 0, 0]
+        elif call[0] == "carry_on":
+            out += [1, 0, 0, 0, 0, 0]
+        else:
+            first = len(ids)
+            ids += call[2]
+            second = len(ids)
+            ids += call[3]
+            out += [AVERAGES[k % len(AVERAGES)], call[1], first, second, second, len(ids)]
+    return out, ids
+
+
+def replay_of_list(c, seen, extra=0):
+    """The whole list by one call of `replay`; a start with other marks than 0 is refused with 13, a wrong count of answers with 12."""
+    start, steps = c["start"], c["steps"]
+    numbers_of, ids = encoded(c["calls"])
+    places = len(steps) + extra
+    number = 12 if extra else 13 if any(start["marks"]) else 0
+    last = steps[-1] if steps and number == 0 else start
+    answers = [number_of(s["answer"]) for s in steps] if number == 0 else [0] * places
+    tallies = [s["tally"] for s in steps] if number == 0 else [0] * places
+    assert places <= ROOM
+    kept = content(last) == content(start)
+    sizes = [len(start[n]) for n in ("weights", "flags", "marks")]
+    seen[5, number] = seen.get((5, number), 0) + 1
+    return [record(4, line(words(sizes), content(start), ["%x" % start["tally"], "1"])
+                   + line(["5"], numbers(numbers_of), numbers(ids), [str(places)], ["%x" % a for a in answers], ["%x" % t for t in tallies],
+                          [str(number), "%x" % last["tally"]], ["0"] if kept else ["1"] + content(last)))]
+
+
 def open_count(c, seen):
     b1, b2, points, triplets = c["counts"]
     assert set(c["flags"]) <= set(FLAGS) and len(c["flags"]) <= ROOM
@@ -122,6 +159,10 @@ def groups(seed, seen):
                 group += [x for x, y in zip(now, last) if x != y]
                 last = now
                 group += list_of_calls(c, seen)
+                if not any(c["start"]["marks"]) or c["number"] % 8 == 0:
+                    group += replay_of_list(c, seen)
+                if c["number"] % 40 == 0:
+                    group += replay_of_list(c, seen, 1)
             yield group
     for c in sheet_cases.open_count_cases(seed):
         yield open_count(c, seen)
@@ -134,6 +175,7 @@ def main():
     data = records.blocks(groups(seed, seen))
     asked = {KINDS[k]: (0,) + v for k, v in m.ASKED.items()}
     asked[4] = (0, 9, 12, 14)
+    asked[5] = (0, 12, 13)
     assert sorted(seen) == sorted((k, n) for k, v in asked.items() for n in v)
     with open(os.path.join(crate, "stdin"), "wb") as f:
         f.write(data)

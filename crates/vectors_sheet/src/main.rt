@@ -7,8 +7,9 @@
 //   4  list of calls: lengths of weights, flags and marks, their content at the start, tally, how many calls, and the calls
 //   5  open count: triplets, points, both band counts, length of the flags, the flags, named triplet, then refusal and count
 //
-// A call is its kind (1 run of a piece: triplet, b1, b2; 2 carry on; 3 averaging: triplet, both lists of ids), then what it is to give:
-// refusal, tally, and 1 with the content of weights, flags and marks, or 0 where that is the content before the call.
+// A call is its kind (1 run of a piece: triplet, b1, b2; 2 carry on; 3 averaging: triplet, both lists of ids; 5 a whole list through
+// `replay`: list of its numbers, list of ids, how many answers, the answers and the tallies after each), then what it is to give: refusal,
+// tally, and 1 with the content of weights, flags and marks, or 0 where that is the content before the call.
 //
 // Refusal 0 is an accepted call. Tally and count are hexadecimal. Each block has its own grids, tables and studies. A list's sheet goes
 // from call to call, and after each call all of it is compared, weights by bits; of a NaN only that it is one, since a proved program
@@ -16,6 +17,7 @@
 ghost use mathlib.Core.Path.{_≡_};
 ghost use Prim.Native.Nat.{_≤_};
 ghost use lib.ListN.{length, take};
+use book::ReplayAnswer;
 use replay_input::kernel as input;
 use replay_input::kernel::Cursor;
 use replay_input::kernel::compare;
@@ -56,6 +58,13 @@ fn marks_buffer() -> [u8; 256]
     [0; 256]
 }
 
+// Answers and tallies of a list.
+fn answers_buffer() -> [u64; 256]
+    ensures { λ r. ⌜ 256 ≡ length r ⌝ }
+{
+    [0; 256]
+}
+
 // A count that a buffer of length most can hold.
 fn at_most(n: u64, most: usize) -> usize
     ensures { λ r. ⌜ r ≤ most ⌝ }
@@ -79,6 +88,13 @@ fn places_of(n: u64, buf: &[i8]) -> usize
 
 // The same of the marks.
 fn pieces_of(n: u64, buf: &[u8]) -> usize
+    ensures { λ r. ⌜ (r ≤ length (now (buf .entry))) × (r ≡ length (take r (now (buf .entry)))) ⌝ }
+{
+    at_most(n, buf.len())
+}
+
+// The same of answers and tallies.
+fn answers_of(n: u64, buf: &[u64]) -> usize
     ensures { λ r. ⌜ (r ≤ length (now (buf .entry))) × (r ≡ length (take r (now (buf .entry)))) ⌝ }
 {
     at_most(n, buf.len())
@@ -201,6 +217,19 @@ fn same_marks(text: &[u8], c: Cursor, marks: &[u8]) -> Agreed {
     Agreed { agrees, next }
 }
 
+fn same_answers(text: &[u8], c: Cursor, answers: &[u64]) -> Agreed {
+    let mut next = c;
+    let mut agrees = true;
+    let mut i = 0;
+    while i < answers.len() {
+        let v = input::next_bits(text, next);
+        agrees = agrees & (answers[i] == v.value);
+        next = v.next;
+        i += 1;
+    }
+    Agreed { agrees, next }
+}
+
 fn same_sheet(text: &[u8], c: Cursor, weights: &[f64], flags: &[i8], marks: &[u8]) -> Agreed {
     let w = same_weights(text, c, weights);
     let f = same_flags(text, w.next, flags);
@@ -227,7 +256,7 @@ fn count_at(counts: &mut [u64], k: usize) {
 
 // Where the answers of a kind of call are counted: 0 done, else the number of the refusal.
 fn place_of(kind: u64, number: u64) -> usize {
-    if kind < 5 {
+    if kind < 6 {
         if number < 21 {
             return (kind * 21 + number) as usize;
         }
@@ -390,6 +419,123 @@ fn average_made(
     made_of(answer, tally, next)
 }
 
+// Answers that are not the stored ones count as refusal 21.
+fn checked(number: u64, agrees: bool) -> u64 {
+    if agrees { number } else { 21 }
+}
+
+fn made_by_replay(answer: ReplayAnswer, before: u64, agrees: bool, next: Cursor) -> Made {
+    match answer {
+        ReplayAnswer::Done(after) => {
+            let tally = after.runs;
+            Made {
+                number: checked(0, agrees),
+                tally,
+                next,
+            }
+        }
+        ReplayAnswer::Refused(number) => Made {
+            number: checked(refusal_of(number), agrees),
+            tally: before,
+            next,
+        },
+    }
+}
+
+fn replayed(
+    text: &[u8],
+    c: Cursor,
+    shape: Shape,
+    addresses: &[i64],
+    map: &[i64],
+    table: &[i64],
+    frequencies1: &[f64],
+    frequencies2: &[f64],
+    points: &[f64],
+    triplets: &[i64],
+    weights: &mut [f64],
+    flags: &mut [i8],
+    marks: &mut [u8],
+    tally: u64,
+    list: &[i64],
+    ids: &[i64],
+    answers: &mut [u64],
+    tallies: &mut [u64],
+) -> Made {
+    let answer = book::replay(
+        shape,
+        addresses,
+        map,
+        table,
+        frequencies1,
+        frequencies2,
+        points,
+        triplets,
+        weights,
+        flags,
+        marks,
+        Tally { runs: tally },
+        list,
+        ids,
+        answers,
+        tallies,
+    );
+    let a = same_answers(text, c, answers);
+    let t = same_answers(text, a.next, tallies);
+    let next = t.next;
+    made_by_replay(answer, tally, a.agrees & t.agrees, next)
+}
+
+fn replay_made(
+    text: &[u8],
+    c: Cursor,
+    shape: Shape,
+    addresses: &[i64],
+    map: &[i64],
+    table: &[i64],
+    frequencies1: &[f64],
+    frequencies2: &[f64],
+    points: &[f64],
+    triplets: &[i64],
+    weights: &mut [f64],
+    flags: &mut [i8],
+    marks: &mut [u8],
+    tally: u64,
+) -> Made {
+    let mut list = numbers();
+    let l = input::fill_wholes(text, c, &mut list);
+    let mut ids = numbers();
+    let d = input::fill_wholes(text, l.next, &mut ids);
+    let size = input::next_count(text, d.next);
+    let next = size.next;
+    let n = l.count;
+    let m = d.count;
+    let mut answers = answers_buffer();
+    let mut tallies = answers_buffer();
+    let k = answers_of(size.value, &answers);
+    let j = answers_of(size.value, &tallies);
+    replayed(
+        text,
+        next,
+        shape,
+        addresses,
+        map,
+        table,
+        frequencies1,
+        frequencies2,
+        points,
+        triplets,
+        weights,
+        flags,
+        marks,
+        tally,
+        &list[..n],
+        &ids[..m],
+        &mut answers[..k],
+        &mut tallies[..j],
+    )
+}
+
 fn call_made(
     text: &[u8],
     c: Cursor,
@@ -409,6 +555,24 @@ fn call_made(
 ) -> Made {
     if kind == 1 {
         return run_made(
+            text,
+            c,
+            shape,
+            addresses,
+            map,
+            table,
+            frequencies1,
+            frequencies2,
+            points,
+            triplets,
+            weights,
+            flags,
+            marks,
+            tally,
+        );
+    }
+    if kind == 5 {
+        return replay_made(
             text,
             c,
             shape,
@@ -744,6 +908,9 @@ fn print_kind(kind: u64) {
         3 => {
             io::write_all(1, b"average of a triplet");
         }
+        5 => {
+            io::write_all(1, b"replay of a list");
+        }
         _ => {
             io::write_all(1, b"open count");
         }
@@ -766,9 +933,9 @@ fn print_answer(kind: u64, number: u64, n: u64) {
     io::write_all(1, b"\n");
 }
 
-fn print_counts(counts: [u64; 105]) {
+fn print_counts(counts: [u64; 126]) {
     let mut k = 21;
-    while k < 105 {
+    while k < 126 {
         print_answer((k / 21) as u64, (k % 21) as u64, counts[k]);
         k += 1;
     }
@@ -778,7 +945,7 @@ fn print_counts(counts: [u64; 105]) {
 }
 
 fn main() {
-    let mut counts = [0u64; 105];
+    let mut counts = [0u64; 126];
     let mut text = io::large_buffer();
     let mut blocks: u64 = 1000;
     while 0 < blocks {
