@@ -39,6 +39,73 @@ size_t pelmetsavory_answer(
     size_t text_len,
     uint8_t out[118617]);
 
+uint64_t pelmetsavory_fill_neighboring_grid_points(
+    int64_t *out,
+    size_t out_len,
+    int64_t grid_point,
+    const int64_t *relative_grid_address,
+    size_t relative_grid_address_len,
+    pelmetsavory_grid grid,
+    const int64_t *addresses,
+    size_t addresses_len,
+    const int64_t *gp_map,
+    size_t gp_map_len);
+
+uint64_t pelmetsavory_neighboring_grid_points_many(
+    int64_t *out,
+    size_t out_len,
+    const int64_t *grid_points,
+    size_t grid_points_len,
+    const int64_t *relative_grid_address,
+    size_t relative_grid_address_len,
+    pelmetsavory_grid grid,
+    const int64_t *addresses,
+    size_t addresses_len,
+    const int64_t *gp_map,
+    size_t gp_map_len);
+
+uint64_t pelmetsavory_grid_index_from_address(
+    pelmetsavory_triple address,
+    pelmetsavory_triple d_diag,
+    int64_t *index);
+
+uint64_t pelmetsavory_matvec_di(
+    const double a[9],
+    pelmetsavory_triple b,
+    double product[3]);
+
+uint64_t pelmetsavory_replay(
+    pelmetsavory_shape shape,
+    const int64_t *addresses,
+    size_t addresses_len,
+    const int64_t *gp_map,
+    size_t gp_map_len,
+    const int64_t *relative_grid_address,
+    size_t relative_grid_address_len,
+    const double *frequencies1,
+    size_t frequencies1_len,
+    const double *frequencies2,
+    size_t frequencies2_len,
+    const double *frequency_points,
+    size_t frequency_points_len,
+    const int64_t *triplets,
+    size_t triplets_len,
+    double *weights,
+    size_t weights_len,
+    int8_t *flags,
+    size_t flags_len,
+    uint8_t *marks,
+    size_t marks_len,
+    uint64_t *tally,
+    const int64_t *list,
+    size_t list_len,
+    const int64_t *ids,
+    size_t ids_len,
+    uint64_t *answers,
+    size_t answers_len,
+    uint64_t *tallies,
+    size_t tallies_len);
+
 uint64_t pelmetsavory_run_piece(
     pelmetsavory_shape shape,
     const int64_t *addresses,
@@ -124,6 +191,47 @@ uint64_t pelmetsavory_open_count(
     int64_t triplet,
     uint64_t *count);
 
+uint64_t pelmetsavory_tally_add(
+    uint64_t *tally,
+    uint64_t runs);
+
+uint64_t pelmetsavory_integration_weights_at_grid_points(
+    double *iw,
+    size_t iw_len,
+    const double *frequency_points,
+    size_t frequency_points_len,
+    const int64_t *relative_grid_address,
+    size_t relative_grid_address_len,
+    const int64_t *grid_points,
+    size_t grid_points_len,
+    const double *frequencies,
+    size_t frequencies_len,
+    int64_t num_band,
+    int64_t num_ir,
+    pelmetsavory_grid grid,
+    const int64_t *addresses,
+    size_t addresses_len,
+    const int64_t *gp_map,
+    size_t gp_map_len,
+    const int64_t *gp2irgp_map,
+    size_t gp2irgp_map_len,
+    uint8_t letter);
+
+uint64_t pelmetsavory_relative_grid_address(
+    const double rec_lattice[9],
+    int64_t table[288],
+    size_t *index);
+
+void pelmetsavory_all_relative_grid_address(
+    int64_t all[1152]);
+
+uint64_t pelmetsavory_tetrahedra_integration_weight(
+    double omega,
+    const double *tetrahedra_omegas,
+    size_t tetrahedra_omegas_len,
+    uint8_t letter,
+    double *weight);
+
 uint64_t pelmetsavory_integration_weight(
     pelmetsavory_shape shape,
     const int64_t *addresses,
@@ -178,28 +286,6 @@ uint64_t pelmetsavory_average_weights_over_degenerate_sets(
     int64_t num_band,
     int64_t tp_type);
 
-uint64_t pelmetsavory_integration_weights_at_grid_points(
-    double *iw,
-    size_t iw_len,
-    const double *frequency_points,
-    size_t frequency_points_len,
-    const int64_t *relative_grid_address,
-    size_t relative_grid_address_len,
-    const int64_t *grid_points,
-    size_t grid_points_len,
-    const double *frequencies,
-    size_t frequencies_len,
-    int64_t num_band,
-    int64_t num_ir,
-    pelmetsavory_grid grid,
-    const int64_t *addresses,
-    size_t addresses_len,
-    const int64_t *gp_map,
-    size_t gp_map_len,
-    const int64_t *gp2irgp_map,
-    size_t gp2irgp_map_len,
-    uint8_t letter);
-
 uint64_t pelmetsavory_is_n(
     pelmetsavory_triple triplet,
     const int64_t *bz_grid_addresses,
@@ -213,95 +299,9 @@ uint64_t pelmetsavory_set_relative_grid_address(
     size_t relative_grid_address_len,
     int64_t tp_type);
 
-uint64_t pelmetsavory_fill_neighboring_grid_points(
-    int64_t *out,
-    size_t out_len,
-    int64_t grid_point,
-    const int64_t *relative_grid_address,
-    size_t relative_grid_address_len,
-    pelmetsavory_grid grid,
-    const int64_t *addresses,
-    size_t addresses_len,
-    const int64_t *gp_map,
-    size_t gp_map_len);
-
-uint64_t pelmetsavory_neighboring_grid_points_many(
-    int64_t *out,
-    size_t out_len,
-    const int64_t *grid_points,
-    size_t grid_points_len,
-    const int64_t *relative_grid_address,
-    size_t relative_grid_address_len,
-    pelmetsavory_grid grid,
-    const int64_t *addresses,
-    size_t addresses_len,
-    const int64_t *gp_map,
-    size_t gp_map_len);
-
-uint64_t pelmetsavory_grid_index_from_address(
-    pelmetsavory_triple address,
-    pelmetsavory_triple d_diag,
-    int64_t *index);
-
-uint64_t pelmetsavory_relative_grid_address(
-    const double rec_lattice[9],
-    int64_t table[288],
-    size_t *index);
-
-void pelmetsavory_all_relative_grid_address(
-    int64_t all[1152]);
-
-uint64_t pelmetsavory_tetrahedra_integration_weight(
-    double omega,
-    const double *tetrahedra_omegas,
-    size_t tetrahedra_omegas_len,
-    uint8_t letter,
-    double *weight);
-
-uint64_t pelmetsavory_matvec_di(
-    const double a[9],
-    pelmetsavory_triple b,
-    double product[3]);
-
 uint64_t pelmetsavory_num_channels(
     int64_t tp_type,
     size_t *channels);
-
-uint64_t pelmetsavory_tally_add(
-    uint64_t *tally,
-    uint64_t runs);
-
-uint64_t pelmetsavory_replay(
-    pelmetsavory_shape shape,
-    const int64_t *addresses,
-    size_t addresses_len,
-    const int64_t *gp_map,
-    size_t gp_map_len,
-    const int64_t *relative_grid_address,
-    size_t relative_grid_address_len,
-    const double *frequencies1,
-    size_t frequencies1_len,
-    const double *frequencies2,
-    size_t frequencies2_len,
-    const double *frequency_points,
-    size_t frequency_points_len,
-    const int64_t *triplets,
-    size_t triplets_len,
-    double *weights,
-    size_t weights_len,
-    int8_t *flags,
-    size_t flags_len,
-    uint8_t *marks,
-    size_t marks_len,
-    uint64_t *tally,
-    const int64_t *list,
-    size_t list_len,
-    const int64_t *ids,
-    size_t ids_len,
-    uint64_t *answers,
-    size_t answers_len,
-    uint64_t *tallies,
-    size_t tallies_len);
 
 /* The question that a status carries, in words; NULL for any other number. */
 static inline const char *pelmetsavory_question(uint64_t status)

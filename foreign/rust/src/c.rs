@@ -70,6 +70,73 @@ extern "C" {
         text_len: usize,
         out: *mut [u8; 118617],
     ) -> usize;
+    pub fn pelmetsavory_fill_neighboring_grid_points(
+        out: *mut i64,
+        out_len: usize,
+        grid_point: i64,
+        relative_grid_address: *const i64,
+        relative_grid_address_len: usize,
+        grid: Grid,
+        addresses: *const i64,
+        addresses_len: usize,
+        gp_map: *const i64,
+        gp_map_len: usize,
+    ) -> u64;
+    pub fn pelmetsavory_neighboring_grid_points_many(
+        out: *mut i64,
+        out_len: usize,
+        grid_points: *const i64,
+        grid_points_len: usize,
+        relative_grid_address: *const i64,
+        relative_grid_address_len: usize,
+        grid: Grid,
+        addresses: *const i64,
+        addresses_len: usize,
+        gp_map: *const i64,
+        gp_map_len: usize,
+    ) -> u64;
+    pub fn pelmetsavory_grid_index_from_address(
+        address: Triple,
+        d_diag: Triple,
+        index: *mut i64,
+    ) -> u64;
+    pub fn pelmetsavory_matvec_di(
+        a: *const [f64; 9],
+        b: Triple,
+        product: *mut [f64; 3],
+    ) -> u64;
+    pub fn pelmetsavory_replay(
+        shape: Shape,
+        addresses: *const i64,
+        addresses_len: usize,
+        gp_map: *const i64,
+        gp_map_len: usize,
+        relative_grid_address: *const i64,
+        relative_grid_address_len: usize,
+        frequencies1: *const f64,
+        frequencies1_len: usize,
+        frequencies2: *const f64,
+        frequencies2_len: usize,
+        frequency_points: *const f64,
+        frequency_points_len: usize,
+        triplets: *const i64,
+        triplets_len: usize,
+        weights: *mut f64,
+        weights_len: usize,
+        flags: *mut i8,
+        flags_len: usize,
+        marks: *mut u8,
+        marks_len: usize,
+        tally: *mut u64,
+        list: *const i64,
+        list_len: usize,
+        ids: *const i64,
+        ids_len: usize,
+        answers: *mut u64,
+        answers_len: usize,
+        tallies: *mut u64,
+        tallies_len: usize,
+    ) -> u64;
     pub fn pelmetsavory_run_piece(
         shape: Shape,
         addresses: *const i64,
@@ -155,6 +222,47 @@ extern "C" {
         triplet: i64,
         count: *mut u64,
     ) -> u64;
+    pub fn pelmetsavory_tally_add(
+        tally: *mut u64,
+        runs: u64,
+    ) -> u64;
+    pub fn pelmetsavory_integration_weights_at_grid_points(
+        iw: *mut f64,
+        iw_len: usize,
+        frequency_points: *const f64,
+        frequency_points_len: usize,
+        relative_grid_address: *const i64,
+        relative_grid_address_len: usize,
+        grid_points: *const i64,
+        grid_points_len: usize,
+        frequencies: *const f64,
+        frequencies_len: usize,
+        num_band: i64,
+        num_ir: i64,
+        grid: Grid,
+        addresses: *const i64,
+        addresses_len: usize,
+        gp_map: *const i64,
+        gp_map_len: usize,
+        gp2irgp_map: *const i64,
+        gp2irgp_map_len: usize,
+        letter: u8,
+    ) -> u64;
+    pub fn pelmetsavory_relative_grid_address(
+        rec_lattice: *const [f64; 9],
+        table: *mut [i64; 288],
+        index: *mut usize,
+    ) -> u64;
+    pub fn pelmetsavory_all_relative_grid_address(
+        all: *mut [i64; 1152],
+    );
+    pub fn pelmetsavory_tetrahedra_integration_weight(
+        omega: f64,
+        tetrahedra_omegas: *const f64,
+        tetrahedra_omegas_len: usize,
+        letter: u8,
+        weight: *mut f64,
+    ) -> u64;
     pub fn pelmetsavory_integration_weight(
         shape: Shape,
         addresses: *const i64,
@@ -209,28 +317,6 @@ extern "C" {
         num_band: i64,
         tp_type: i64,
     ) -> u64;
-    pub fn pelmetsavory_integration_weights_at_grid_points(
-        iw: *mut f64,
-        iw_len: usize,
-        frequency_points: *const f64,
-        frequency_points_len: usize,
-        relative_grid_address: *const i64,
-        relative_grid_address_len: usize,
-        grid_points: *const i64,
-        grid_points_len: usize,
-        frequencies: *const f64,
-        frequencies_len: usize,
-        num_band: i64,
-        num_ir: i64,
-        grid: Grid,
-        addresses: *const i64,
-        addresses_len: usize,
-        gp_map: *const i64,
-        gp_map_len: usize,
-        gp2irgp_map: *const i64,
-        gp2irgp_map_len: usize,
-        letter: u8,
-    ) -> u64;
     pub fn pelmetsavory_is_n(
         triplet: Triple,
         bz_grid_addresses: *const i64,
@@ -244,94 +330,8 @@ extern "C" {
         relative_grid_address_len: usize,
         tp_type: i64,
     ) -> u64;
-    pub fn pelmetsavory_fill_neighboring_grid_points(
-        out: *mut i64,
-        out_len: usize,
-        grid_point: i64,
-        relative_grid_address: *const i64,
-        relative_grid_address_len: usize,
-        grid: Grid,
-        addresses: *const i64,
-        addresses_len: usize,
-        gp_map: *const i64,
-        gp_map_len: usize,
-    ) -> u64;
-    pub fn pelmetsavory_neighboring_grid_points_many(
-        out: *mut i64,
-        out_len: usize,
-        grid_points: *const i64,
-        grid_points_len: usize,
-        relative_grid_address: *const i64,
-        relative_grid_address_len: usize,
-        grid: Grid,
-        addresses: *const i64,
-        addresses_len: usize,
-        gp_map: *const i64,
-        gp_map_len: usize,
-    ) -> u64;
-    pub fn pelmetsavory_grid_index_from_address(
-        address: Triple,
-        d_diag: Triple,
-        index: *mut i64,
-    ) -> u64;
-    pub fn pelmetsavory_relative_grid_address(
-        rec_lattice: *const [f64; 9],
-        table: *mut [i64; 288],
-        index: *mut usize,
-    ) -> u64;
-    pub fn pelmetsavory_all_relative_grid_address(
-        all: *mut [i64; 1152],
-    );
-    pub fn pelmetsavory_tetrahedra_integration_weight(
-        omega: f64,
-        tetrahedra_omegas: *const f64,
-        tetrahedra_omegas_len: usize,
-        letter: u8,
-        weight: *mut f64,
-    ) -> u64;
-    pub fn pelmetsavory_matvec_di(
-        a: *const [f64; 9],
-        b: Triple,
-        product: *mut [f64; 3],
-    ) -> u64;
     pub fn pelmetsavory_num_channels(
         tp_type: i64,
         channels: *mut usize,
-    ) -> u64;
-    pub fn pelmetsavory_tally_add(
-        tally: *mut u64,
-        runs: u64,
-    ) -> u64;
-    pub fn pelmetsavory_replay(
-        shape: Shape,
-        addresses: *const i64,
-        addresses_len: usize,
-        gp_map: *const i64,
-        gp_map_len: usize,
-        relative_grid_address: *const i64,
-        relative_grid_address_len: usize,
-        frequencies1: *const f64,
-        frequencies1_len: usize,
-        frequencies2: *const f64,
-        frequencies2_len: usize,
-        frequency_points: *const f64,
-        frequency_points_len: usize,
-        triplets: *const i64,
-        triplets_len: usize,
-        weights: *mut f64,
-        weights_len: usize,
-        flags: *mut i8,
-        flags_len: usize,
-        marks: *mut u8,
-        marks_len: usize,
-        tally: *mut u64,
-        list: *const i64,
-        list_len: usize,
-        ids: *const i64,
-        ids_len: usize,
-        answers: *mut u64,
-        answers_len: usize,
-        tallies: *mut u64,
-        tallies_len: usize,
     ) -> u64;
 }

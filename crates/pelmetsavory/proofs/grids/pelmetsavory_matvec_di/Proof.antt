@@ -1,0 +1,19 @@
+-- `pelmetsavory::grids::pelmetsavory_matvec_di` meets its contract: the answer as a status and a vector. Assumes nothing.
+use borrow.Author.Needs.{needs}
+use Rattle.pelmetsavory.proofs.ChoiceLaws.{matvec-done, matvec-refused}
+use Rattle.pelmetsavory.proofs.grids.pelmetsavory_matvec_di.Statement.{statement}
+use Rattle.pelmetsavory.proofs.grids.pelmetsavory_matvec_di.Tie as tie
+
+matvec-di-requires : tie.Need-matvec-di-requires
+matvec-di-requires c κs = search needs
+
+returns : tie.Need-returns
+returns c =
+    matvec-refused _ _ _ (c .before .matvec-di .ensures) _ (c .if1 .taken)
+
+returns-2 : tie.Need-returns-2
+returns-2 c =
+    matvec-done _ _ _ (c .before .before .matvec-di .ensures) _ (c .before .if1 .left)
+
+pub pelmetsavory-matvec-di-spec : {M : Type 1} → statement M
+pelmetsavory-matvec-di-spec = tie.close (tie.spec matvec-di-requires returns returns-2)

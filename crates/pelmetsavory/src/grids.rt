@@ -1,0 +1,122 @@
+// What the Rust has in bzgrid.rs, grgrid.rs and common.rs.
+ghost use mathlib.Core.Path.{_≡_};
+ghost use lib.ListN.{length};
+ghost use lib.IntN.{pos};
+ghost use lib.Signed.{mag};
+ghost use Rattle.common.specs.Matrix.{matvecOf};
+ghost use Rattle.common.specs.Mesh.{meshOf};
+ghost use Rattle.grgrid.specs.Index.{addressOf, gridIndex};
+ghost use Rattle.questions.specs.Ask.{firstNo, afterCall};
+ghost use Rattle.bzgrid.specs.Neighbours.{gridOf, neighboursOf, neighboursOfAll};
+ghost use Rattle.bzgrid.specs.Calls.{pointQuestions, manyQuestions};
+ghost use Rattle.pelmetsavory.specs.Calls.{indexQuestions, matvecQuestions};
+use crate::Grid;
+use crate::Triple;
+use bzgrid::NeighbourAnswer;
+use grgrid::IndexAnswer;
+
+// The neighbours of one grid point. Questions 3 to 7, 10, 12.
+#[no_mangle]
+pub extern "C" fn pelmetsavory_fill_neighboring_grid_points(
+    out: &mut [i64],
+    grid_point: i64,
+    relative_grid_address: &[i64],
+    grid: Grid,
+    addresses: &[i64],
+    gp_map: &[i64],
+) -> u64
+    ensures { λ r. ⌜ r ≡ firstNo (pointQuestions (grid .«bz_grid_type») (grid .«d_diag») (now (addresses .entry)) (now («gp_map» .entry)) (now («relative_grid_address» .entry)) «grid_point» (length (now (out .entry)))) ⌝ }
+    ensures { λ r. ⌜ now (out .exit) ≡ afterCall (firstNo (pointQuestions (grid .«bz_grid_type») (grid .«d_diag») (now (addresses .entry)) (now («gp_map» .entry)) (now («relative_grid_address» .entry)) «grid_point» (length (now (out .entry)))))
+        (neighboursOf (gridOf (grid .«bz_grid_type») (grid .«d_diag»)) (now (addresses .entry)) (now («gp_map» .entry)) (now («relative_grid_address» .entry)) (mag «grid_point»))
+        (now (out .entry)) ⌝ }
+{
+    let bz_grid_type = grid.bz_grid_type;
+    let d_diag = grid.d_diag;
+    match bzgrid::fill_neighboring_grid_points(
+        out,
+        grid_point,
+        relative_grid_address,
+        bz_grid_type,
+        d_diag,
+        addresses,
+        gp_map,
+    ) {
+        NeighbourAnswer::Filled => 0,
+        NeighbourAnswer::Refused(number) => number,
+    }
+}
+
+// The neighbours of many grid points, those of each in turn. Questions 3 to 7, 9, 10, 12.
+#[no_mangle]
+pub extern "C" fn pelmetsavory_neighboring_grid_points_many(
+    out: &mut [i64],
+    grid_points: &[i64],
+    relative_grid_address: &[i64],
+    grid: Grid,
+    addresses: &[i64],
+    gp_map: &[i64],
+) -> u64
+    ensures { λ r. ⌜ r ≡ firstNo (manyQuestions (grid .«bz_grid_type») (grid .«d_diag») (now (addresses .entry)) (now («gp_map» .entry)) (now («relative_grid_address» .entry)) (now («grid_points» .entry)) (length (now (out .entry)))) ⌝ }
+    ensures { λ r. ⌜ now (out .exit) ≡ afterCall (firstNo (manyQuestions (grid .«bz_grid_type») (grid .«d_diag») (now (addresses .entry)) (now («gp_map» .entry)) (now («relative_grid_address» .entry)) (now («grid_points» .entry)) (length (now (out .entry)))))
+        (neighboursOfAll (gridOf (grid .«bz_grid_type») (grid .«d_diag»)) (now (addresses .entry)) (now («gp_map» .entry)) (now («relative_grid_address» .entry)) (now («grid_points» .entry)))
+        (now (out .entry)) ⌝ }
+{
+    let bz_grid_type = grid.bz_grid_type;
+    let d_diag = grid.d_diag;
+    match bzgrid::neighboring_grid_points_many(
+        out,
+        grid_points,
+        relative_grid_address,
+        bz_grid_type,
+        d_diag,
+        addresses,
+        gp_map,
+    ) {
+        NeighbourAnswer::Filled => 0,
+        NeighbourAnswer::Refused(number) => number,
+    }
+}
+
+// The grid index of an address, behind `index`. Question 4, with mesh numbers from 1 to 256.
+#[no_mangle]
+pub extern "C" fn pelmetsavory_grid_index_from_address(
+    address: Triple,
+    d_diag: Triple,
+    index: &mut i64,
+) -> u64
+    ensures { λ r. ⌜ r ≡ firstNo (indexQuestions («d_diag» .numbers)) ⌝ }
+    ensures { λ r. ⌜ now (index .exit) ≡ afterCall (firstNo (indexQuestions («d_diag» .numbers)))
+        (pos (gridIndex (addressOf (address .numbers)) (meshOf («d_diag» .numbers)))) (now (index .entry)) ⌝ }
+{
+    let address = address.numbers;
+    let d_diag = d_diag.numbers;
+    match grgrid::grid_index_from_address(address, d_diag) {
+        IndexAnswer::Index(g) => {
+            *index = g;
+            0
+        }
+        IndexAnswer::Refused(number) => number,
+    }
+}
+
+// A lattice times a whole vector, behind `product`. Questions 2, 7.
+#[no_mangle]
+pub extern "C" fn pelmetsavory_matvec_di(
+    a: &[[f64; 3]; 3],
+    b: Triple,
+    product: &mut [f64; 3],
+) -> u64
+    ensures { λ r. ⌜ r ≡ firstNo (matvecQuestions (now (a .entry)) (b .numbers)) ⌝ }
+    ensures { λ r. ⌜ now (product .exit) ≡ afterCall (firstNo (matvecQuestions (now (a .entry)) (b .numbers))) (matvecOf (now (a .entry)) (b .numbers)) (now (product .entry)) ⌝ }
+{
+    let matrix = *a;
+    let vector = b.numbers;
+    let answer = common::matvec_di(matrix, vector);
+    let no = answer.refused;
+    if no != 0 {
+        return no;
+    }
+    let times = answer.vector;
+    *product = times;
+    0
+}

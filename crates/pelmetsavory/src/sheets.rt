@@ -1,0 +1,220 @@
+// The run sheet: its calls, the open count, the tally.
+ghost use mathlib.Core.Path.{_≡_};
+ghost use Prim.Native.Nat.{_*_, _+_};
+ghost use lib.ListN.{length};
+ghost use lib.Signed.{mag};
+ghost use Rattle.questions.specs.Ask.{firstNo, afterCall};
+ghost use Rattle.triplet_study.specs.Given.{given};
+ghost use Rattle.sheet_step.specs.Steps.{sheet, run, carry, average, step, verdict, tallyQuestions};
+ghost use Rattle.sheet_marks.specs.OpenCount.{openQuestions, zerosFrom, cellsPerTriplet};
+use crate::Piece;
+use sheet::Added;
+use sheet::Counts;
+use sheet::OpenAnswer;
+use sheet::Shape;
+use sheet::SheetAnswer;
+use sheet::Tally;
+
+// Runs one piece, and counts it behind `tally`. Questions 3 to 15, 20.
+#[no_mangle]
+pub extern "C" fn pelmetsavory_run_piece(
+    shape: Shape,
+    addresses: &[i64],
+    gp_map: &[i64],
+    relative_grid_address: &[i64],
+    frequencies1: &[f64],
+    frequencies2: &[f64],
+    frequency_points: &[f64],
+    triplets: &[i64],
+    weights: &mut [f64],
+    flags: &mut [i8],
+    marks: &mut [u8],
+    tally: &mut u64,
+    piece: Piece,
+) -> u64
+    ensures { λ r. ⌜ r ≡ verdict (given shape (now (addresses .entry)) (now («gp_map» .entry)) (now («relative_grid_address» .entry)) (now (frequencies1 .entry)) (now (frequencies2 .entry)) (now («frequency_points» .entry)) (now (triplets .entry)))
+        (sheet (now (weights .entry)) (now (flags .entry)) (now (marks .entry)) (now (tally .entry))) (run (piece .triplet) (piece .b1) (piece .b2)) ⌝ }
+    ensures { λ r. ⌜ now (weights .exit) ≡ step (given shape (now (addresses .entry)) (now («gp_map» .entry)) (now («relative_grid_address» .entry)) (now (frequencies1 .entry)) (now (frequencies2 .entry)) (now («frequency_points» .entry)) (now (triplets .entry)))
+        (sheet (now (weights .entry)) (now (flags .entry)) (now (marks .entry)) (now (tally .entry))) (run (piece .triplet) (piece .b1) (piece .b2)) .weights ⌝ }
+    ensures { λ r. ⌜ now (flags .exit) ≡ step (given shape (now (addresses .entry)) (now («gp_map» .entry)) (now («relative_grid_address» .entry)) (now (frequencies1 .entry)) (now (frequencies2 .entry)) (now («frequency_points» .entry)) (now (triplets .entry)))
+        (sheet (now (weights .entry)) (now (flags .entry)) (now (marks .entry)) (now (tally .entry))) (run (piece .triplet) (piece .b1) (piece .b2)) .flags ⌝ }
+    ensures { λ r. ⌜ now (marks .exit) ≡ step (given shape (now (addresses .entry)) (now («gp_map» .entry)) (now («relative_grid_address» .entry)) (now (frequencies1 .entry)) (now (frequencies2 .entry)) (now («frequency_points» .entry)) (now (triplets .entry)))
+        (sheet (now (weights .entry)) (now (flags .entry)) (now (marks .entry)) (now (tally .entry))) (run (piece .triplet) (piece .b1) (piece .b2)) .marks ⌝ }
+    ensures { λ r. ⌜ now (tally .exit) ≡ step (given shape (now (addresses .entry)) (now («gp_map» .entry)) (now («relative_grid_address» .entry)) (now (frequencies1 .entry)) (now (frequencies2 .entry)) (now («frequency_points» .entry)) (now (triplets .entry)))
+        (sheet (now (weights .entry)) (now (flags .entry)) (now (marks .entry)) (now (tally .entry))) (run (piece .triplet) (piece .b1) (piece .b2)) .tally ⌝ }
+{
+    let runs = *tally;
+    let before = Tally { runs };
+    let triplet = piece.triplet;
+    let b1 = piece.b1;
+    let b2 = piece.b2;
+    match sheet::run_piece(
+        shape,
+        addresses,
+        gp_map,
+        relative_grid_address,
+        frequencies1,
+        frequencies2,
+        frequency_points,
+        triplets,
+        weights,
+        flags,
+        marks,
+        before,
+        triplet,
+        b1,
+        b2,
+    ) {
+        SheetAnswer::Done(after) => {
+            *tally = after.runs;
+            0
+        }
+        SheetAnswer::Refused(number) => number,
+    }
+}
+
+// Runs all pieces marked 0, in ascending order, and counts them behind `tally`. Questions 3 to 13, 20.
+#[no_mangle]
+pub extern "C" fn pelmetsavory_carry_on(
+    shape: Shape,
+    addresses: &[i64],
+    gp_map: &[i64],
+    relative_grid_address: &[i64],
+    frequencies1: &[f64],
+    frequencies2: &[f64],
+    frequency_points: &[f64],
+    triplets: &[i64],
+    weights: &mut [f64],
+    flags: &mut [i8],
+    marks: &mut [u8],
+    tally: &mut u64,
+) -> u64
+    ensures { λ r. ⌜ r ≡ verdict (given shape (now (addresses .entry)) (now («gp_map» .entry)) (now («relative_grid_address» .entry)) (now (frequencies1 .entry)) (now (frequencies2 .entry)) (now («frequency_points» .entry)) (now (triplets .entry)))
+        (sheet (now (weights .entry)) (now (flags .entry)) (now (marks .entry)) (now (tally .entry))) carry ⌝ }
+    ensures { λ r. ⌜ now (weights .exit) ≡ step (given shape (now (addresses .entry)) (now («gp_map» .entry)) (now («relative_grid_address» .entry)) (now (frequencies1 .entry)) (now (frequencies2 .entry)) (now («frequency_points» .entry)) (now (triplets .entry)))
+        (sheet (now (weights .entry)) (now (flags .entry)) (now (marks .entry)) (now (tally .entry))) carry .weights ⌝ }
+    ensures { λ r. ⌜ now (flags .exit) ≡ step (given shape (now (addresses .entry)) (now («gp_map» .entry)) (now («relative_grid_address» .entry)) (now (frequencies1 .entry)) (now (frequencies2 .entry)) (now («frequency_points» .entry)) (now (triplets .entry)))
+        (sheet (now (weights .entry)) (now (flags .entry)) (now (marks .entry)) (now (tally .entry))) carry .flags ⌝ }
+    ensures { λ r. ⌜ now (marks .exit) ≡ step (given shape (now (addresses .entry)) (now («gp_map» .entry)) (now («relative_grid_address» .entry)) (now (frequencies1 .entry)) (now (frequencies2 .entry)) (now («frequency_points» .entry)) (now (triplets .entry)))
+        (sheet (now (weights .entry)) (now (flags .entry)) (now (marks .entry)) (now (tally .entry))) carry .marks ⌝ }
+    ensures { λ r. ⌜ now (tally .exit) ≡ step (given shape (now (addresses .entry)) (now («gp_map» .entry)) (now («relative_grid_address» .entry)) (now (frequencies1 .entry)) (now (frequencies2 .entry)) (now («frequency_points» .entry)) (now (triplets .entry)))
+        (sheet (now (weights .entry)) (now (flags .entry)) (now (marks .entry)) (now (tally .entry))) carry .tally ⌝ }
+{
+    let runs = *tally;
+    let before = Tally { runs };
+    match sheet::carry_on(
+        shape,
+        addresses,
+        gp_map,
+        relative_grid_address,
+        frequencies1,
+        frequencies2,
+        frequency_points,
+        triplets,
+        weights,
+        flags,
+        marks,
+        before,
+    ) {
+        SheetAnswer::Done(after_all) => {
+            *tally = after_all.runs;
+            0
+        }
+        SheetAnswer::Refused(number) => number,
+    }
+}
+
+// Averages a triplet over the degenerate sets of two id lists; the tally stays. Questions 3 to 19.
+#[no_mangle]
+pub extern "C" fn pelmetsavory_average_triplet(
+    shape: Shape,
+    addresses: &[i64],
+    gp_map: &[i64],
+    relative_grid_address: &[i64],
+    frequencies1: &[f64],
+    frequencies2: &[f64],
+    frequency_points: &[f64],
+    triplets: &[i64],
+    weights: &mut [f64],
+    flags: &mut [i8],
+    marks: &mut [u8],
+    tally: &mut u64,
+    triplet: i64,
+    degenerate_ids1: &[i64],
+    degenerate_ids2: &[i64],
+) -> u64
+    ensures { λ r. ⌜ r ≡ verdict (given shape (now (addresses .entry)) (now («gp_map» .entry)) (now («relative_grid_address» .entry)) (now (frequencies1 .entry)) (now (frequencies2 .entry)) (now («frequency_points» .entry)) (now (triplets .entry)))
+        (sheet (now (weights .entry)) (now (flags .entry)) (now (marks .entry)) (now (tally .entry))) (average triplet (now («degenerate_ids1» .entry)) (now («degenerate_ids2» .entry))) ⌝ }
+    ensures { λ r. ⌜ now (weights .exit) ≡ step (given shape (now (addresses .entry)) (now («gp_map» .entry)) (now («relative_grid_address» .entry)) (now (frequencies1 .entry)) (now (frequencies2 .entry)) (now («frequency_points» .entry)) (now (triplets .entry)))
+        (sheet (now (weights .entry)) (now (flags .entry)) (now (marks .entry)) (now (tally .entry))) (average triplet (now («degenerate_ids1» .entry)) (now («degenerate_ids2» .entry))) .weights ⌝ }
+    ensures { λ r. ⌜ now (flags .exit) ≡ step (given shape (now (addresses .entry)) (now («gp_map» .entry)) (now («relative_grid_address» .entry)) (now (frequencies1 .entry)) (now (frequencies2 .entry)) (now («frequency_points» .entry)) (now (triplets .entry)))
+        (sheet (now (weights .entry)) (now (flags .entry)) (now (marks .entry)) (now (tally .entry))) (average triplet (now («degenerate_ids1» .entry)) (now («degenerate_ids2» .entry))) .flags ⌝ }
+    ensures { λ r. ⌜ now (marks .exit) ≡ step (given shape (now (addresses .entry)) (now («gp_map» .entry)) (now («relative_grid_address» .entry)) (now (frequencies1 .entry)) (now (frequencies2 .entry)) (now («frequency_points» .entry)) (now (triplets .entry)))
+        (sheet (now (weights .entry)) (now (flags .entry)) (now (marks .entry)) (now (tally .entry))) (average triplet (now («degenerate_ids1» .entry)) (now («degenerate_ids2» .entry))) .marks ⌝ }
+    ensures { λ r. ⌜ now (tally .exit) ≡ step (given shape (now (addresses .entry)) (now («gp_map» .entry)) (now («relative_grid_address» .entry)) (now (frequencies1 .entry)) (now (frequencies2 .entry)) (now («frequency_points» .entry)) (now (triplets .entry)))
+        (sheet (now (weights .entry)) (now (flags .entry)) (now (marks .entry)) (now (tally .entry))) (average triplet (now («degenerate_ids1» .entry)) (now («degenerate_ids2» .entry))) .tally ⌝ }
+{
+    let runs = *tally;
+    let before = Tally { runs };
+    match sheet::average_triplet(
+        shape,
+        addresses,
+        gp_map,
+        relative_grid_address,
+        frequencies1,
+        frequencies2,
+        frequency_points,
+        triplets,
+        weights,
+        flags,
+        marks,
+        before,
+        triplet,
+        degenerate_ids1,
+        degenerate_ids2,
+    ) {
+        SheetAnswer::Done(same) => {
+            *tally = same.runs;
+            0
+        }
+        SheetAnswer::Refused(number) => number,
+    }
+}
+
+// The open count of a triplet, behind `count`. Questions 9, 12, 14.
+#[no_mangle]
+pub extern "C" fn pelmetsavory_open_count(
+    counts: Counts,
+    flags: &[i8],
+    triplet: i64,
+    count: &mut u64,
+) -> u64
+    ensures { λ r. ⌜ r ≡ firstNo (openQuestions counts (length (now (flags .entry))) triplet) ⌝ }
+    ensures { λ r. ⌜ now (count .exit) ≡ afterCall (firstNo (openQuestions counts (length (now (flags .entry))) triplet))
+        (zerosFrom (now (flags .entry)) (mag triplet * cellsPerTriplet counts) (cellsPerTriplet counts)) (now (count .entry)) ⌝ }
+{
+    match sheet::open_count(counts, flags, triplet) {
+        OpenAnswer::Open(zeros) => {
+            *count = zeros;
+            0
+        }
+        OpenAnswer::Refused(number) => number,
+    }
+}
+
+// Adds runs behind `tally`. Question 20.
+#[no_mangle]
+pub extern "C" fn pelmetsavory_tally_add(tally: &mut u64, runs: u64) -> u64
+    ensures { λ r. ⌜ r ≡ firstNo (tallyQuestions (now (tally .entry)) runs) ⌝ }
+    ensures { λ r. ⌜ now (tally .exit) ≡ afterCall (firstNo (tallyQuestions (now (tally .entry)) runs)) (now (tally .entry) + runs) (now (tally .entry)) ⌝ }
+{
+    let before = *tally;
+    let counted = Tally { runs: before };
+    match counted.add(runs) {
+        Added::To(sum) => {
+            *tally = sum.runs;
+            0
+        }
+        Added::Refused(number) => number,
+    }
+}

@@ -1,0 +1,117 @@
+// What the Rust has in tetrahedron_method.rs.
+ghost use mathlib.Core.Path.{_≡_};
+ghost use Prim.Native.Nat.{_/_};
+ghost use lib.ListN.{length};
+ghost use lib.Signed.{mag};
+ghost use Rattle.tetrahedron_tables.specs.Tables.{tableOf, flat};
+ghost use Rattle.relative_grid_address.specs.Diagonal.{mainDiagonalOf};
+ghost use Rattle.relative_grid_address.specs.Answer.{allTables};
+ghost use Rattle.tetrahedron_method.specs.Answer.{weightQuestions};
+ghost use Rattle.tetrahedron_method.specs.Weight.{weightOf};
+ghost use Rattle.questions.specs.Ask.{firstNo, afterCall};
+ghost use Rattle.bzgrid.specs.Neighbours.{gridOf};
+ghost use Rattle.grid_point_weights.specs.Weights.{study, weightsOfAll};
+ghost use Rattle.grid_point_weights.specs.Calls.{gridPointQuestions};
+ghost use Rattle.pelmetsavory.specs.Calls.{functionOf, latticeQuestions};
+use crate::Grid;
+use crate::choice;
+use grid_point_weights::GridPointAnswer;
+use tetrahedron_method::WeightAnswer;
+
+// The weights of each band at each frequency point, for each grid point; `letter` is I (73) or J. Questions 3 to 7, 9 to 12.
+#[no_mangle]
+pub extern "C" fn pelmetsavory_integration_weights_at_grid_points(
+    iw: &mut [f64],
+    frequency_points: &[f64],
+    relative_grid_address: &[i64],
+    grid_points: &[i64],
+    frequencies: &[f64],
+    num_band: i64,
+    num_ir: i64,
+    grid: Grid,
+    addresses: &[i64],
+    gp_map: &[i64],
+    gp2irgp_map: &[i64],
+    letter: u8,
+) -> u64
+    ensures { λ r. ⌜ r ≡ firstNo (gridPointQuestions (grid .«bz_grid_type») (grid .«d_diag») (now (addresses .entry)) (now («gp_map» .entry)) (now («relative_grid_address» .entry)) «num_band» (now («frequency_points» .entry)) (now («grid_points» .entry)) «num_ir» (now (frequencies .entry)) (now («gp2irgp_map» .entry)) (length (now (iw .entry)))) ⌝ }
+    ensures { λ r. ⌜ now (iw .exit) ≡ afterCall (firstNo (gridPointQuestions (grid .«bz_grid_type») (grid .«d_diag») (now (addresses .entry)) (now («gp_map» .entry)) (now («relative_grid_address» .entry)) «num_band» (now («frequency_points» .entry)) (now («grid_points» .entry)) «num_ir» (now (frequencies .entry)) (now («gp2irgp_map» .entry)) (length (now (iw .entry)))))
+        (weightsOfAll (study (gridOf (grid .«bz_grid_type») (grid .«d_diag»)) (now (addresses .entry)) (now («gp_map» .entry)) (now («relative_grid_address» .entry)) (now («gp2irgp_map» .entry)) (now (frequencies .entry)) (mag «num_band») (now («frequency_points» .entry)) (functionOf letter)) (now («grid_points» .entry)))
+        (now (iw .entry)) ⌝ }
+{
+    let bz_grid_type = grid.bz_grid_type;
+    let d_diag = grid.d_diag;
+    let function = choice::function_of(letter);
+    match grid_point_weights::integration_weights_at_grid_points(
+        iw,
+        frequency_points,
+        relative_grid_address,
+        grid_points,
+        frequencies,
+        num_band,
+        num_ir,
+        bz_grid_type,
+        d_diag,
+        addresses,
+        gp_map,
+        gp2irgp_map,
+        function,
+    ) {
+        GridPointAnswer::Filled => 0,
+        GridPointAnswer::Refused(number) => number,
+    }
+}
+
+// The table whose main diagonal is shortest, and its number behind `index`. Question 2.
+#[no_mangle]
+pub extern "C" fn pelmetsavory_relative_grid_address(
+    rec_lattice: &[[f64; 3]; 3],
+    table: &mut [i64; 288],
+    index: &mut usize,
+) -> u64
+    ensures { λ r. ⌜ r ≡ firstNo (latticeQuestions (now («rec_lattice» .entry))) ⌝ }
+    ensures { λ r. ⌜ now (table .exit) ≡ afterCall (firstNo (latticeQuestions (now («rec_lattice» .entry))))
+        (flat (tableOf (mainDiagonalOf (now («rec_lattice» .entry))))) (now (table .entry)) ⌝ }
+    ensures { λ r. ⌜ now (index .exit) ≡ afterCall (firstNo (latticeQuestions (now («rec_lattice» .entry)))) (mainDiagonalOf (now («rec_lattice» .entry))) (now (index .entry)) ⌝ }
+{
+    let lattice = *rec_lattice;
+    let answer = relative_grid_address::relative_grid_address(lattice);
+    let no = answer.refused;
+    if no != 0 {
+        return no;
+    }
+    let chosen = answer.table;
+    *table = chosen;
+    *index = answer.index;
+    0
+}
+
+// All four tables, one after the other.
+#[no_mangle]
+pub extern "C" fn pelmetsavory_all_relative_grid_address(all: &mut [i64; 1152])
+    ensures { λ r. ⌜ now (all .exit) ≡ allTables ⌝ }
+{
+    *all = relative_grid_address::all_relative_grid_address();
+}
+
+// One weight over directly given vertices, behind `weight`; `letter` is I (73) or J. Questions 7, 11.
+#[no_mangle]
+pub extern "C" fn pelmetsavory_tetrahedra_integration_weight(
+    omega: f64,
+    tetrahedra_omegas: &[f64],
+    letter: u8,
+    weight: &mut f64,
+) -> u64
+    ensures { λ r. ⌜ r ≡ firstNo (weightQuestions omega (now («tetrahedra_omegas» .entry))) ⌝ }
+    ensures { λ r. ⌜ now (weight .exit) ≡ afterCall (firstNo (weightQuestions omega (now («tetrahedra_omegas» .entry))))
+        (weightOf (functionOf letter) omega (now («tetrahedra_omegas» .entry)) (length (now («tetrahedra_omegas» .entry)) / 4)) (now (weight .entry)) ⌝ }
+{
+    let function = choice::function_of(letter);
+    match tetrahedron_method::integration_weight(omega, tetrahedra_omegas, function) {
+        WeightAnswer::Weight(w) => {
+            *weight = w;
+            0
+        }
+        WeightAnswer::Refused(number) => number,
+    }
+}
