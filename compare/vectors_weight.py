@@ -1,11 +1,12 @@
 #!/usr/bin/env python3
-"""Makes the stored cases of the crate `vectors_weight`: sort, weights, choice of the table, tables, exact integrals.
+"""Makes the stored cases of the crate `vectors_weight`: sort, weights, choice of the table, tables, exact integrals, products.
 
     vectors_weight.py ORACLE CRATE_FOLDER [SEED]
 
 Writes CRATE_FOLDER/stdin and CRATE_FOLDER/stdout. The answer of an accepted call is the Rust's (ORACLE batch). Whether a call is
 accepted, and its number where it is not, comes from the questions of document 01 as written below. The exact integrals come from
-neither: they are divided differences in fractions, and the Rust's own answers are held against them too.
+neither: they are divided differences in fractions, and the Rust's own answers are held against them too. Nor do the products, which
+the oracle does not tell: they are the Rust's three products and two sums in Python's floats, which are f64.
 """
 import itertools
 import math
@@ -34,6 +35,12 @@ def weight_refusal(omega, vertices):
 
 def lattice_refusal(entries):
     return 0 if all(abs(x) <= 2.0**30 for x in entries) else 2
+
+
+def product_refusal(entries, vector):
+    if lattice_refusal(entries):
+        return 2
+    return 0 if all(-4096 <= x <= 4096 for x in vector) else 7
 
 
 # ---- exact integrals
@@ -85,7 +92,7 @@ class Cases:
         self.groups = []
         self.asked = []
         self.requests = []
-        self.counts = {k: [] for k in ("sort", "weight", "lattice", "tables", "exact", "whole")}
+        self.counts = {k: [] for k in ("sort", "weight", "lattice", "tables", "exact", "whole", "product")}
         self.worst = 0.0
 
     def group(self):
@@ -165,6 +172,16 @@ class Cases:
             parts = sum(4 * exact_weight(function, omega, (row[k],) + row[:k] + row[k + 1:]) for k in range(4))
             assert parts == whole, (function, omega, row)
             self.groups[-1].append(line(8, "IJ".index(function), omega, *row, *around(whole, 4 * Fraction(10)**-12)))
+
+
+    def product(self, entries, vector):
+        self.group()
+        no = product_refusal(entries, vector)
+        self.counts["product"].append(no)
+        x, y, z = (float(b) for b in vector)
+        rows = [entries[i:i + 3] for i in (0, 3, 6)]
+        made = [0.0] * 3 if no else [a[0] * x + a[1] * y + a[2] * z for a in rows]
+        self.groups[-1].append(line(9, *entries, *vector, no, *made))
 
 
 def request(tag, *fields):
@@ -309,6 +326,31 @@ def exact_cases(r, c):
                 c.exact(f, o, p)
 
 
+def product_cases(r, c):
+    ends = [4096, -4096, 4095, -4095, 1, -1, 0]
+    beyond = [4097, -4097, 2**63 - 1, -2**63]
+    for k in range(60):
+        if k % 3 == 0:                                                   # sums that round by their order
+            l = [r.unit() * 2.0**r.between(-30, 30) * r.pick([1, -1]) for _ in range(9)]
+        elif k % 3 == 1:
+            l = [r.unit() - 0.5 for _ in range(9)]
+        else:
+            l = [r.pick([2.0**30, -2.0**30, 0.0, -0.0, 1.0, 5e-324, 0.1]) for _ in range(9)]
+        c.product(l, [r.pick(ends) if k % 2 else r.between(-4096, 4096) for _ in range(3)])
+    unit = [1.0, 0.0, 0.0, 0.0, 1.0, 0.0, 0.0, 0.0, 1.0]
+    for i in range(3):
+        for x in beyond:
+            b = [1, 2, 3]
+            b[i] = x
+            c.product(unit, b)
+    for i in range(9):
+        for x in (math.inf, -math.inf, NAN, up(2.0**30), -up(2.0**30), 2.0**30, -2.0**30):
+            l = list(unit)
+            l[i] = x
+            c.product(l, [1, -2, 3])
+            c.product(l, [1, -2, r.pick(beyond)])                        # 2 is asked before 7
+
+
 def main():
     oracle, crate = sys.argv[1], sys.argv[2]
     seed = int(sys.argv[3]) if len(sys.argv) > 3 else 20261115
@@ -326,11 +368,12 @@ def main():
     refused_weights(r, c)
     lattice_cases(r, c)
     exact_cases(r, c)
+    product_cases(r, c)
     c.finish()
     data = records.blocks(c.groups)
     expected = "".join(records.summary(name, c.counts[k]) for k, name in (
         ("sort", "sort"), ("weight", "weight"), ("lattice", "choice of the table"), ("tables", "tables"),
-        ("exact", "exact integral"), ("whole", "exact sum of the four vertices")))
+        ("exact", "exact integral"), ("whole", "exact sum of the four vertices"), ("product", "lattice times vector")))
     with open(crate + "/stdin", "wb") as f:
         f.write(data)
     with open(crate + "/stdout", "w") as f:

@@ -1,5 +1,5 @@
 -- From "every answer is yes" to a sound grid, and the answer by its number. Assumes nothing.
-use mathlib.Core.Path.{_≡_, refl, sym, _∙_, ap}
+use mathlib.Core.Path.{_≡_, refl, sym, _∙_}
 use mathlib.Core.Bool.{Bool, true, false, cond}
 use mathlib.Core.List.{List}
 use Prim.Native.Nat.{ℕ, zero, suc}
@@ -8,7 +8,7 @@ use lib.IntN.{ℤ}
 use Rattle.list_laws.specs.Patch.{pick}
 use Rattle.list_laws.specs.Signed.{isNat}
 use Rattle.common.specs.Mesh.{countOf, meshOf}
-use Rattle.questions.specs.Ask.{asks, firstNo, afterCall, AllYes, Numbered}
+use Rattle.questions.specs.Ask.{firstNo, afterCall, AllYes, Numbered}
 use Rattle.questions.specs.Grids.{gridQuestions, triplesIn, isMap, isSparseMap, isDenseMap}
 use Rattle.questions.proofs.AskLaws.{all-yes, after-refused}
 use Rattle.questions.proofs.GridLaws.{mesh-within}

@@ -1,17 +1,15 @@
 -- Every neighbour of a sound grid is the number of one of its addresses. Assumes nothing.
-use mathlib.Core.Path.{_≡_, refl, sym, _∙_, ap}
-use mathlib.Core.Bool.{Bool, true, false, cond}
+use mathlib.Core.Path.{_≡_}
+use mathlib.Core.Bool.{true}
 use mathlib.Core.List.{List}
 use Prim.Native.Nat.{ℕ, _+_, _-_, _*_, _<_, _≤_}
 use native.Mathlib.Omega.{arith}
 use lib.Dec.{ltb, eqb}
-use lib.IntN.{ℤ, pos}
-use lib.ListN.{length}
+use lib.IntN.{ℤ}
 use lib.Signed.{mag}
-use Rattle.list_laws.specs.Lists.{at, firstAt, tabulate}
+use Rattle.list_laws.specs.Lists.{at, firstAt}
 use Rattle.list_laws.proofs.BoolLaws.{cond-lt}
 use Rattle.list_laws.proofs.FirstLaws.{first-lt}
-use Rattle.list_laws.proofs.FillLaws.{length-tabulate}
 use Rattle.list_laws.proofs.SignedLaws.{below-or-nat}
 use Rattle.common.specs.declared.Address.{Address}
 use Rattle.common.specs.declared.Mesh.{Mesh}
@@ -24,7 +22,7 @@ use Rattle.questions.proofs.GridLaws.{addresses-low, addresses-high, sparse-at,
 use Rattle.bzgrid.specs.declared.GridKind.{GridKind}
 use Rattle.bzgrid.specs.declared.GridKind.the-variants.{Sparse, Dense}
 use Rattle.bzgrid.specs.declared.BzGrid.{BzGrid}
-use Rattle.bzgrid.specs.Neighbours.{isAddress, mapOnDoubled, sparseNeighbour, inGroup, denseNeighbour, byKind, neighbourOf, neighboursOf, mapFits, SoundGrid}
+use Rattle.bzgrid.specs.Neighbours.{isAddress, mapOnDoubled, sparseNeighbour, inGroup, denseNeighbour, byKind, neighbourOf, mapFits, SoundGrid}
 
 -- an index on the doubled mesh is below 8N
 pub doubled-below : {m : Mesh} → MeshWithin 128 m → (w : Address) → gridIndex w (doubledMesh m) < 8 * countOf m
@@ -68,7 +66,3 @@ module _ (grid : BzGrid) (addresses map : List ℤ) (s : SoundGrid grid addresse
   -- P is at most 8 * 128 * 128 * 128
   pub addresses-small : triplesIn addresses ≤ 16777216
   addresses-small = omega (arith, addresses-high (countOf (grid .mesh)) addresses (s .addressed), count-le (s .mesh))
-
-  pub length-neighbours : (steps : List ℤ) (g : ℕ) → length (neighboursOf grid addresses map steps g) ≡ triplesIn steps
-  unfolding neighboursOf
-  length-neighbours steps g = length-tabulate (triplesIn steps) _

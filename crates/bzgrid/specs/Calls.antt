@@ -1,11 +1,9 @@
 -- The questions of the two neighbour calls, and their answer.
-use mathlib.Core.Bool.{Bool}
 use mathlib.Core.List.{List, [], _∷_, _++_}
 use Prim.Native.Nat.{ℕ, zero, suc}
 use lib.Dec.{eqb}
 use lib.IntN.{ℤ}
 use lib.ListN.{length}
-use lib.Signed.{mag}
 use Rattle.list_laws.specs.Signed.{isBelow}
 use Rattle.questions.specs.Ask.{Question, asks}
 use Rattle.questions.specs.Grids.{gridQuestions, triplesIn}
@@ -13,10 +11,6 @@ use Rattle.questions.specs.Steps.{areSteps, areGridPoints}
 use Rattle.questions.specs.Counts.{isTripletCount, isProduct}
 use Rattle.bzgrid.specs.declared.NeighbourAnswer.{NeighbourAnswer}
 use Rattle.bzgrid.specs.declared.NeighbourAnswer.the-variants.{Filled, Refused}
-
--- the natural number that a tested number is
-abbrev pub numberOf : ℤ → ℕ
-numberOf z = mag z
 
 -- for one point, after the grid: 7 the steps, 10 the point, 12 the buffer
 abbrev pub stepQuestions : List ℤ → ℤ → ℕ → ℕ → List Question

@@ -1,9 +1,10 @@
 // Neighbouring grid points of a BZ grid, of both kinds.
 ghost use mathlib.Core.Path.{_≡_};
 ghost use lib.ListN.{length};
+ghost use lib.Signed.{mag};
 ghost use Rattle.questions.specs.Ask.{firstNo, afterCall};
 ghost use Rattle.bzgrid.specs.Neighbours.{gridOf, neighboursOf, neighboursOfAll};
-ghost use Rattle.bzgrid.specs.Calls.{pointQuestions, manyQuestions, neighbourAnswer, numberOf};
+ghost use Rattle.bzgrid.specs.Calls.{pointQuestions, manyQuestions, neighbourAnswer};
 
 pub mod kernel;
 
@@ -19,6 +20,7 @@ pub struct BzGrid {
     pub mesh: common::Mesh,
 }
 
+// The buffer is filled, or the number of the first question that is answered no.
 pub enum NeighbourAnswer {
     Filled,
     Refused(u64),
@@ -36,7 +38,7 @@ pub fn fill_neighboring_grid_points(
 ) -> NeighbourAnswer
     ensures { λ r. ⌜ r ≡ neighbourAnswer (firstNo (pointQuestions «bz_grid_type» «d_diag» (now (addresses .entry)) (now («gp_map» .entry)) (now («relative_grid_address» .entry)) «grid_point» (length (now (out .entry))))) ⌝ }
     ensures { λ r. ⌜ now (out .exit) ≡ afterCall (firstNo (pointQuestions «bz_grid_type» «d_diag» (now (addresses .entry)) (now («gp_map» .entry)) (now («relative_grid_address» .entry)) «grid_point» (length (now (out .entry)))))
-        (neighboursOf (gridOf «bz_grid_type» «d_diag») (now (addresses .entry)) (now («gp_map» .entry)) (now («relative_grid_address» .entry)) (numberOf «grid_point»))
+        (neighboursOf (gridOf «bz_grid_type» «d_diag») (now (addresses .entry)) (now («gp_map» .entry)) (now («relative_grid_address» .entry)) (mag «grid_point»))
         (now (out .entry)) ⌝ }
 {
     let grid_no = questions::kernel::grid::grid_no(bz_grid_type, d_diag, addresses, gp_map);

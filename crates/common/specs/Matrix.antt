@@ -2,7 +2,7 @@
 use mathlib.Core.Bool.{Bool, _&&_}
 use mathlib.Core.List.{List, [], _∷_}
 use Prim.Native.Nat.{ℕ}
-use lib.IntN.{ℤ, pos}
+use lib.IntN.{ℤ}
 use lib.ListN.{getD}
 use lib.Ieee.{Float, nan, binary64, ofBits, ofInt, le, add, mul}
 use Rattle.list_laws.specs.Lists.{at}
@@ -11,10 +11,11 @@ use Rattle.list_laws.specs.Signed.{within}
 use Rattle.ieee_laws.specs.Magnitude.{absolute}
 use Rattle.common.specs.declared.MatvecAnswer.{MatvecAnswer}
 
--- 2^30 and 0
+-- 2^30
 abbrev pub latticeLimit : Float
 latticeLimit = ofBits binary64 0x41D0_0000_0000_0000
 
+-- 0.0, in the vector of a refusal
 abbrev pub zeroF : Float
 zeroF = ofBits binary64 0
 
@@ -22,9 +23,11 @@ zeroF = ofBits binary64 0
 unfoldable pub isLatticeEntry : Float → Bool
 isLatticeEntry x = le (absolute x) latticeLimit
 
+-- row i of the lattice
 abbrev pub rowAt : List (List Float) → ℕ → List Float
 rowAt a i = getD a i []
 
+-- the three entries of one row
 unfoldable pub isLatticeRow : List Float → Bool
 isLatticeRow r = (isLatticeEntry (getD r 0 nan) && isLatticeEntry (getD r 1 nan)) && isLatticeEntry (getD r 2 nan)
 

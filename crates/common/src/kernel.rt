@@ -4,7 +4,7 @@ ghost use mathlib.Core.Bool.{true};
 ghost use Prim.Native.Nat.{_+_, _<_};
 ghost use lib.Ieee.{ofInt, binary64};
 ghost use lib.ListN.{length};
-ghost use lib.Signed.{nonNeg, mag, leZ, ltZ};
+ghost use lib.Signed.{nonNeg, mag, ltZ};
 ghost use Rattle.list_laws.specs.Lists.{at};
 ghost use Rattle.list_laws.specs.Signed.{eqZ, isNat, isBelow, isBetween, within, remEuclid};
 ghost use Rattle.ieee_laws.specs.Magnitude.{absolute};

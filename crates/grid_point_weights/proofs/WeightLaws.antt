@@ -1,14 +1,11 @@
 -- The corners around a grid point have their frequencies, and the weights by numbers of corners are those of the study. Assumes nothing.
-use mathlib.Core.Path.{_≡_, refl, sym, _∙_, ap}
-use mathlib.Core.Bool.{true}
+use mathlib.Core.Path.{_≡_, sym, _∙_, ap}
 use mathlib.Core.List.{List}
-use Prim.Native.Nat.{ℕ, _+_, _*_, _<_, _≤_}
+use Prim.Native.Nat.{ℕ, _+_, _*_, _<_}
 use native.Mathlib.Omega.{arith}
-use lib.IntN.{ℤ}
 use lib.Ieee.{Float, nan, binary64, ofBits}
 use lib.ListN.{getD, length}
-use lib.Signed.{mag}
-use Rattle.list_laws.specs.Lists.{area, tabulate, rows}
+use Rattle.list_laws.specs.Lists.{area, tabulate}
 use Rattle.list_laws.specs.Columns.{BeforeColumn}
 use Rattle.list_laws.specs.Matrix.{Replaced}
 use Rattle.list_laws.proofs.FillLaws.{area-at, tabulate-at}
@@ -17,7 +14,7 @@ use Rattle.list_laws.proofs.ColumnLaws.{columns-all}
 use Rattle.list_laws.proofs.MatrixLaws.{replaced-as}
 use Rattle.questions.specs.Grids.{triplesIn}
 use Rattle.questions.specs.Tables.{rowsIn}
-use Rattle.questions.proofs.TableLaws.{rows-most, corners-whole}
+use Rattle.questions.proofs.TableLaws.{corners-whole}
 use Rattle.bzgrid.specs.Neighbours.{wantedAddress}
 use Rattle.bzgrid.proofs.NeighbourLaws.{neighbour-lt}
 use Rattle.tetrahedron_method.proofs.SortedLaws.{weight-same}
@@ -25,11 +22,11 @@ use Rattle.grid_point_weights.specs.Weights.{GridStudy, Sound, cornerOf,
 
 -- the irreducible points of all corners around grid point g, in a work area
 abbrev pub cornersOf : GridStudy → ℕ → List ℕ
-cornersOf s g = area 384 (triplesIn (s .table)) (cornerOf (s .grid) (s .addresses) (s .map) (s .table) (s .irreducible) g) 0
+cornersOf s g = area 384 (triplesIn (s .table)) (cornerOf (s .grid) (s .addresses) (s .gp-map) (s .table) (s .irreducible) g) 0
 
 module _ (s : GridStudy) (h : Sound s) (g : ℕ) where
   corner : ℕ → ℕ
-  corner j = cornerOf (s .grid) (s .addresses) (s .map) (s .table) (s .irreducible) g j
+  corner j = cornerOf (s .grid) (s .addresses) (s .gp-map) (s .table) (s .irreducible) g j
 
   corner-at : (j : ℕ) → j < rowsIn (s .table) * 4 → getD (cornersOf s g) j 0 ≡ corner j
   unfolding corner
@@ -38,7 +35,7 @@ module _ (s : GridStudy) (h : Sound s) (g : ℕ) where
   corner-lt : (j : ℕ) → corner j < h .count
   unfolding corner
   corner-lt j =
-      h .below _ (omega (arith, h .mapped, neighbour-lt (s .grid) (s .addresses) (s .map) (h .sound-grid) (wantedAddress (s .addresses) (s .table) g j)))
+      h .below _ (omega (arith, h .mapped, neighbour-lt (s .grid) (s .addresses) (s .gp-map) (h .sound-grid) (wantedAddress (s .addresses) (s .table) g j)))
 
   -- each corner has its frequency
   pub corners-held : (band : ℕ) → band < s .bands → Held (cornersOf s g) (rowsIn (s .table) * 4) (length (s .frequencies)) (s .bands) band

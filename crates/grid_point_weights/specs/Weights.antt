@@ -15,11 +15,11 @@ use Rattle.bzgrid.specs.Neighbours.{neighbourOf, wantedAddress, SoundGrid}
 use Rattle.tetrahedron_method.specs.declared.WeightFunction.{WeightFunction}
 use Rattle.tetrahedron_method.specs.Weight.{weightOf}
 
--- what the weights are made from: the grid, the table, the map to irreducible points, their frequencies, the points, I or J
+-- what the weights are made from: the grid, its addresses and map, the table, the map to irreducible points, their frequencies, the points, I or J
 pub record GridStudy : Type 0 where
   pub grid : BzGrid
   pub addresses : List ℤ
-  pub map : List ℤ
+  pub gp-map : List ℤ
   pub table : List ℤ
   pub irreducible : List ℤ
   pub frequencies : List Float
@@ -27,12 +27,13 @@ pub record GridStudy : Type 0 where
   pub points : List Float
   pub function : WeightFunction
 
+-- the study of these parts
 abbrev pub study : BzGrid → List ℤ → List ℤ → List ℤ → List ℤ → List Float → ℕ → List Float → WeightFunction → GridStudy
 study grid addresses map table irreducible frequencies bands points function =
     record {
       grid = grid;
       addresses = addresses;
-      map = map;
+      gp-map = map;
       table = table;
       irreducible = irreducible;
       frequencies = frequencies;
@@ -48,7 +49,7 @@ cornerOf grid addresses map table irreducible g j = mag (at irreducible (neighbo
 -- the frequency of a band at corner j around grid point g
 abbrev pub vertexFrequency : GridStudy → ℕ → ℕ → ℕ → Float
 vertexFrequency s g band j =
-    getD (s .frequencies) (cornerOf (s .grid) (s .addresses) (s .map) (s .table) (s .irreducible) g j * s .bands + band) nan
+    getD (s .frequencies) (cornerOf (s .grid) (s .addresses) (s .gp-map) (s .table) (s .irreducible) g j * s .bands + band) nan
 
 -- the frequencies of a band at all corners, four to a row of the table
 unfoldable pub vertexFrequencies : GridStudy → ℕ → ℕ → List Float
@@ -83,7 +84,7 @@ Held corners n count bands band = (j : ℕ) → j < n → getD corners j 0 * ban
 
 -- questions 4 to 7, 9 and 11 are answered yes: `count` is R, the count of irreducible points
 pub record Sound (s : GridStudy) : Type 0 where
-  pub sound-grid : SoundGrid (s .grid) (s .addresses) (s .map)
+  pub sound-grid : SoundGrid (s .grid) (s .addresses) (s .gp-map)
   pub tabled : isTable (s .table) ≡ true
   pub mapped : length (s .irreducible) ≡ triplesIn (s .addresses)
   pub few : length (s .points) * s .bands ≤ 65536

@@ -1,7 +1,7 @@
 // The weights of one grid point, and of each in turn.
 ghost use mathlib.Core.Path.{_≡_};
 ghost use mathlib.Core.Bool.{true};
-ghost use Prim.Native.Nat.{_*_, _≤_, _<_};
+ghost use Prim.Native.Nat.{_*_, _<_};
 ghost use lib.ListN.{length};
 ghost use Rattle.questions.specs.Grids.{triplesIn};
 ghost use Rattle.questions.specs.Steps.{areGridPoints};

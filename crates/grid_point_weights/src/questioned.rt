@@ -1,6 +1,5 @@
 // The questions after those on the grid.
 ghost use mathlib.Core.Path.{_≡_};
-ghost use lib.ListN.{length};
 ghost use Rattle.questions.specs.Ask.{firstNo};
 ghost use Rattle.grid_point_weights.specs.Calls.{areCounts, weightsQuestions};
 

@@ -55,10 +55,6 @@ unfolding tabulate
 tabulate-ext zero f g h = refl
 tabulate-ext (suc n) f g h = rw (tabulate-ext n f g (λ i l. h i (omega arith)), h n (omega arith))
 
-pub area-ext : {A : Type 0} (size n : ℕ) (f g : ℕ → A) (z : A) → ((i : ℕ) → i < n → f i ≡ g i) → area size n f z ≡ area size n g z
-unfolding area
-area-ext size n f g z h = rw (tabulate-ext n f g h)
-
 -- ---- a lent list that a loop fills from the front
 
 module _ {A : Type 0} (f : ℕ → A) (l : List A) where
@@ -71,10 +67,6 @@ module _ {A : Type 0} (f : ℕ → A) (l : List A) where
   front-next i v h e =
       rw (add-one, ← e, drop-cons l i v h)
       (set-at (tabulate i f) (getD l i v) (drop (suc i) l) v i (length-tabulate i f) ∙ sym (append-assoc (tabulate i f) (v ∷ []) (drop (suc i) l)))
-
-  pub front-length : (n : ℕ) → n ≤ length l → length (fronted n f l) ≡ length l
-  unfolding fronted
-  front-length n h = length-append (tabulate n f) (drop n l) ∙ omega (arith, length-tabulate n f, length-drop n l)
 
   pub front-all : (n : ℕ) → length l ≡ n → fronted n f l ≡ tabulate n f
   unfolding fronted

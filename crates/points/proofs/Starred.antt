@@ -29,4 +29,4 @@ use Rattle.points.specs.Points.{Every, points}
 
 pub starred : Every points
 unfolding firstNo areInRange inRange allBelow absolute weightOf sumOf rowWeight shareOf orZero branchOf iOf gOf jOf nOf isSmall fraction sortedOf placeOf ofBits ofInt lt eq le ne add sub mul div tableAnswer isLattice isLatticeRow isLatticeEntry mainDiagonalOf rowTimes isGridKind isMesh areTriples areAddresses isMap isDenseMap isSparseMap areSteps areGridPoints isProduct isNat isBelow isBetween within meshOf countOf gridOf kindOf neighboursOfAll neighboursOf neighbourOf wantedAddress sparseNeighbour mapOnDoubled denseNeighbour inGroup isAddress gridIndex tabulate rows firstAt isTpType channelsOf isBandCount isDegenerateId areDegenerateIds isNegativeZero isWeight areWeights averagedPoints averagedFlagPoints eachPart
-starred = (refl, (refl, (refl, (refl, (refl, (refl, (refl, (refl, (refl, (refl, (refl, (refl, (refl, ((refl, refl), ((refl, refl), ((refl, refl), ((refl, refl), ((refl, (refl, refl)), tt))))))))))))))))))
+starred = (refl, (refl, (refl, (refl, (refl, (refl, (refl, (refl, (refl, (refl, (refl, (refl, (refl, (refl, (refl, ((refl, refl), ((refl, refl), ((refl, (refl, refl)), tt))))))))))))))))))

@@ -10,54 +10,48 @@ use Rattle.bzgrid.specs.Calls.{manyQuestions, neighbourAnswer}
 use Rattle.bzgrid.specs.Neighbours.{gridOf, neighboursOfAll}
 use Rattle.bzgrid.specs.declared.NeighbourAnswer.the-variants.{Filled}
 use Rattle.relative_grid_address.specs.Answer.{tableAnswer}
+use Rattle.tetrahedron_tables.specs.Tables.{tableOf, flat}
 use Rattle.averaging.specs.Answers.{averagingAnswer, weightsAfter, flagsAfter}
 use Rattle.averaging.specs.declared.AveragingAnswer.the-variants.{Averaged}
+use Rattle.tetrahedron_formulas.specs.Binary64.{zeroF, one, three, four}
+use Rattle.tetrahedron_formulas.specs.Choice.{values}
 use Rattle.tetrahedron_method.specs.Answer.{integrationWeightAnswer}
 use Rattle.tetrahedron_method.specs.declared.WeightAnswer.the-variants.{Weight}
 use Rattle.tetrahedron_method.specs.declared.WeightFunction.{WeightFunction}
 use Rattle.tetrahedron_method.specs.declared.WeightFunction.the-variants.{I, J}
 use Rattle.tetrahedron_sort.specs.Sort.{sortOf}
 
--- the floats -1, 0, 1, 2, 3, 3.5, 4, 5, 0.0625, 0.3125, 0.375 and 5e-11
+-- -1.0
 abbrev pub minus-one : Float
 minus-one = ofBits binary64 0xbff0_0000_0000_0000
 
-abbrev pub none : Float
-none = ofBits binary64 0
-
-abbrev pub one : Float
-one = ofBits binary64 0x3ff0_0000_0000_0000
-
+-- 2.0
 abbrev pub two : Float
 two = ofBits binary64 0x4000_0000_0000_0000
 
-abbrev pub three : Float
-three = ofBits binary64 0x4008_0000_0000_0000
-
+-- 3.5
 abbrev pub seven-halves : Float
 seven-halves = ofBits binary64 0x400c_0000_0000_0000
 
-abbrev pub four : Float
-four = ofBits binary64 0x4010_0000_0000_0000
-
+-- 5.0
 abbrev pub five : Float
 five = ofBits binary64 0x4014_0000_0000_0000
 
+-- 0.0625
 abbrev pub sixteenth : Float
 sixteenth = ofBits binary64 0x3fb0_0000_0000_0000
 
+-- 0.3125
 abbrev pub five-sixteenths : Float
 five-sixteenths = ofBits binary64 0x3fd4_0000_0000_0000
 
+-- 0.375
 abbrev pub three-eighths : Float
 three-eighths = ofBits binary64 0x3fd8_0000_0000_0000
 
+-- 5e-11
 abbrev pub tiny : Float
 tiny = ofBits binary64 0x3dcb_7cdf_d9d7_bdbb
-
--- a row of four vertex values
-abbrev pub values : Float → Float → Float → Float → List Float
-values a b c d = a ∷ b ∷ c ∷ d ∷ []
 
 -- k equal rows
 abbrev pub equalRows : List Float → ℕ → List Float
@@ -81,7 +75,7 @@ pub data Point : Type 0 where
 abbrev pub Claim : Point → Type 0
 Claim (weighs u r w x) = integrationWeightAnswer w (equalRows r 24) u ≡ Weight x
 Claim (stands r p) = sortOf r .place ≡ p
-Claim (picks l n) = (tableAnswer l .refused ≡ 0) × (tableAnswer l .index ≡ n)
+Claim (picks l n) = tableAnswer l ≡ record { refused = 0; index = n; table = flat (tableOf n) }
 Claim (leads kind mesh addresses map steps from to) =
     (neighbourAnswer (firstNo (manyQuestions kind mesh addresses map steps from (length to))) ≡ Filled)
     × (neighboursOfAll (gridOf kind mesh) addresses map steps from ≡ to)
@@ -108,21 +102,21 @@ fromOrigin step to =
 -- the starred points of document 01
 abbrev pub points : List Point
 points =
-    weighs I (values none four four four) two three-eighths
-    ∷ weighs J (values none four four four) two five-sixteenths
-    ∷ weighs I (values none four four four) minus-one none
-    ∷ weighs J (values none four four four) minus-one none
-    ∷ weighs I (values none four four four) none none
-    ∷ weighs I (values none four four four) four none
-    ∷ weighs J (values none four four four) four one
-    ∷ weighs J (values four none four four) two sixteenth
-    ∷ stands (values four none four four) 2
-    ∷ weighs I (values four none none none) two three-eighths
-    ∷ stands (values four none none none) 3
-    ∷ weighs I (values none none none tiny) none none
-    ∷ weighs J (values none none none tiny) none one
-    ∷ picks (triple (triple one none none) (triple none one none) (triple none none one)) 0
-    ∷ picks (triple (triple one one none) (triple none one none) (triple none none one)) 1
+    weighs I (values zeroF four four four) two three-eighths
+    ∷ weighs J (values zeroF four four four) two five-sixteenths
+    ∷ weighs I (values zeroF four four four) minus-one zeroF
+    ∷ weighs J (values zeroF four four four) minus-one zeroF
+    ∷ weighs I (values zeroF four four four) zeroF zeroF
+    ∷ weighs I (values zeroF four four four) four zeroF
+    ∷ weighs J (values zeroF four four four) four one
+    ∷ weighs J (values four zeroF four four) two sixteenth
+    ∷ stands (values four zeroF four four) 2
+    ∷ weighs I (values four zeroF zeroF zeroF) two three-eighths
+    ∷ stands (values four zeroF zeroF zeroF) 3
+    ∷ weighs I (values zeroF zeroF zeroF tiny) zeroF zeroF
+    ∷ weighs J (values zeroF zeroF zeroF tiny) zeroF one
+    ∷ picks (triple (triple one zeroF zeroF) (triple zeroF one zeroF) (triple zeroF zeroF one)) 0
+    ∷ picks (triple (triple one one zeroF) (triple zeroF one zeroF) (triple zeroF zeroF one)) 1
     ∷ fromOrigin (negsuc 0) (pos 2)
     ∷ fromOrigin (pos 3) (pos 1)
     ∷ averages (pos 2) (pos 0 ∷ pos 0 ∷ []) (pos 0 ∷ pos 1 ∷ []) (values one two three five) (values two seven-halves two seven-halves)

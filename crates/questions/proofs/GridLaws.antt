@@ -1,6 +1,6 @@
 -- What the answers yes to questions 3 to 6 say of the mesh numbers, of P and at each index. Assumes nothing.
 use mathlib.Core.Path.{_≡_, refl, sym, ap, _∙_}
-use mathlib.Core.Bool.{Bool, true, false, _&&_, _||_, cond}
+use mathlib.Core.Bool.{Bool, true, _&&_, _||_, cond}
 use mathlib.Core.List.{List}
 use Prim.Native.Nat.{ℕ, zero, suc, _+_, _-_, _*_, _/_, _%_, _<_, _≤_}
 use native.Mathlib.Numerals.{add-one}
@@ -17,7 +17,7 @@ use Rattle.list_laws.proofs.BoolLaws.{and-left, and-right}
 use Rattle.list_laws.proofs.BelowLaws.{below-at}
 use Rattle.list_laws.proofs.SignedLaws.{between-low, between-high, nat-is, nat-nonneg, rises}
 use Rattle.common.specs.Mesh.{meshOf, MeshWithin}
-use Rattle.questions.specs.Grids.{isMesh, areTriples, triplesIn, areAddresses, isPlace, isSparseMap, isDenseMap, isMap}
+use Rattle.questions.specs.Grids.{isMesh, areTriples, triplesIn, areAddresses, isPlace, isSparseMap, isDenseMap}
 
 pub mesh-within : (top : ℕ) (diag : List ℤ) → isMesh top diag ≡ true → MeshWithin top (meshOf diag)
 unfolding isMesh meshOf
@@ -62,14 +62,6 @@ module _ (n : ℕ) (xs : List ℤ) (e : areAddresses n xs ≡ true) where
   addresses-high = leb-true (triplesIn xs) (8 * n) (and-right (areTriples xs && leb n (triplesIn xs)) (leb (triplesIn xs) (8 * n)) e)
 
 -- ---- the map
-
-pub map-sparse : (kind : ℤ) (n p : ℕ) (map : List ℤ) → isNat kind 1 ≡ true → isMap kind n p map ≡ true → isSparseMap n p map ≡ true
-unfolding isMap
-map-sparse kind n p map k e = rw k at e
-
-pub map-dense : (kind : ℤ) (n p : ℕ) (map : List ℤ) → isNat kind 1 ≡ false → isMap kind n p map ≡ true → isDenseMap n p map ≡ true
-unfolding isMap
-map-dense kind n p map k e = rw k at e
 
 module _ (n p : ℕ) (map : List ℤ) (e : isSparseMap n p map ≡ true) where
   pub sparse-length : 8 * n ≤ length map

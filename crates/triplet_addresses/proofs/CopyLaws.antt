@@ -1,13 +1,13 @@
 -- Copies of a list: the plain one is the list itself, and two of them fill a lent list. Assumes nothing.
 use mathlib.Core.Path.{_≡_, refl, sym, ap, _∙_}
 use mathlib.Core.Bool.{Bool, true, false}
-use mathlib.Core.List.{List, [], _∷_, _++_, append-nil, append-assoc}
-use Prim.Native.Nat.{ℕ, zero, suc, _+_, _-_, _*_, _<_, _≤_}
+use mathlib.Core.List.{List, append-nil}
+use Prim.Native.Nat.{ℕ, zero, suc, _-_, _*_, _≤_}
 use native.Mathlib.Omega.{arith}
 use borrow.Author.Tests.{leb-true, lt-ltb}
 use borrow.Rule.Slice.PartMut.{putMid}
-use lib.IntN.{ℤ, pos, negsuc, negℤ, natAbs, _-ℤ_}
-use lib.ListN.{getD, length, take, drop, length-drop, drop-of-length-le}
+use lib.IntN.{ℤ, pos, negsuc, negℤ, _-ℤ_}
+use lib.ListN.{length, drop, length-drop, drop-of-length-le}
 use lib.Seq.{ext-getD, take-at, drop-at}
 use mir.Syntax.{w64}
 use mir.Val.{SFits}
@@ -29,10 +29,6 @@ unfolding within
 neg-fits (pos zero) e = record { sfits = omega arith }
 neg-fits (pos (suc n)) e = record { sfits = omega (arith, leb-true (suc n) 4096 e) }
 neg-fits (negsuc n) e = record { sfits = omega (arith, leb-true (suc n) 4096 e) }
-
-pub length-copy : (negated : Bool) (table : List ℤ) → length (copyOf negated table) ≡ length table
-unfolding copyOf
-length-copy negated table = length-tabulate (length table) _
 
 -- a copy that is not negated is the table
 pub copy-plain : (table : List ℤ) → copyOf false table ≡ table

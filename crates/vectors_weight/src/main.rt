@@ -1,5 +1,5 @@
 // Replays stored answers of the original Rust on the sort, the weights I and J, the choice of the neighbour table and the tables, the
-// numbers that a refused call is to give, and exact integrals. A record starts with its kind:
+// numbers that a refused call is to give, exact integrals, and products of a lattice and a vector. A record starts with its kind:
 //
 //   1  sort: four values, place, the four in order
 //   2  vertices, for the weights after it: list of values
@@ -9,11 +9,13 @@
 //   6  the four tables: list of numbers
 //   7  exact integral: function, omega, the row's four values, least, greatest
 //   8  exact integral of the whole row: the same
+//   9  product: the lattice's nine values, row by row, the vector, refusal, the product's three values
 //
 // Function 0 is I, 1 is J. Refusal 0 is an accepted call. Each block has its own vertices. Floats are compared by their bits, but for
 // 7 and 8, where the weight over 24 equal rows, or the sum of those of the four vertices in turn, lies from the least to the greatest.
 ghost use mathlib.Core.Path.{_≡_};
 ghost use lib.ListN.{length};
+use common::MatvecAnswer;
 use relative_grid_address::TableAnswer;
 use replay_input::kernel as input;
 use replay_input::kernel::Cursor;
@@ -206,20 +208,36 @@ fn table_agrees(answer: TableAnswer, refusal: u64, number: u64) -> bool {
     compare::all_are(&table, 0)
 }
 
-fn lattice_case(text: &[u8], c: Cursor) -> Judged {
+// A lattice of a record.
+struct Lattice {
+    rows: [[f64; 3]; 3],
+    next: Cursor,
+}
+
+fn next_lattice(text: &[u8], c: Cursor) -> Lattice {
     let a = next_row(text, c);
     let b = next_row(text, a.next);
     let last = input::next_real(text, b.next);
-    let refusal = input::next_count(text, last.next);
-    let number = input::next_count(text, refusal.next);
-    let next = number.next;
+    let next = last.next;
     let u = a.values;
     let v = b.values;
-    let answer = relative_grid_address::relative_grid_address([
-        [u[0], u[1], u[2]],
-        [u[3], v[0], v[1]],
-        [v[2], v[3], last.value],
-    ]);
+    Lattice {
+        rows: [
+            [u[0], u[1], u[2]],
+            [u[3], v[0], v[1]],
+            [v[2], v[3], last.value],
+        ],
+        next,
+    }
+}
+
+fn lattice_case(text: &[u8], c: Cursor) -> Judged {
+    let lattice = next_lattice(text, c);
+    let refusal = input::next_count(text, lattice.next);
+    let number = input::next_count(text, refusal.next);
+    let next = number.next;
+    let rows = lattice.rows;
+    let answer = relative_grid_address::relative_grid_address(rows);
     Judged {
         refusal: refusal.value,
         agrees: table_agrees(answer, refusal.value, number.value),
@@ -239,6 +257,33 @@ fn tables_case(text: &[u8], c: Cursor) -> Judged {
     }
 }
 
+// A refused product is three zeros.
+fn product_agrees(answer: MatvecAnswer, refusal: u64, x: f64, y: f64, z: f64) -> bool {
+    let v = answer.vector;
+    (answer.refused == refusal)
+        & compare::same_bits(v[0], x)
+        & compare::same_bits(v[1], y)
+        & compare::same_bits(v[2], z)
+}
+
+fn product_case(text: &[u8], c: Cursor) -> Judged {
+    let lattice = next_lattice(text, c);
+    let vector = input::next_three(text, lattice.next);
+    let refusal = input::next_count(text, vector.next);
+    let x = input::next_real(text, refusal.next);
+    let y = input::next_real(text, x.next);
+    let z = input::next_real(text, y.next);
+    let next = z.next;
+    let rows = lattice.rows;
+    let b = vector.value;
+    let answer = common::matvec_di(rows, b);
+    Judged {
+        refusal: refusal.value,
+        agrees: product_agrees(answer, refusal.value, x.value, y.value, z.value),
+        next,
+    }
+}
+
 // Where the record after vertices starts.
 fn after_vertices(text: &[u8], c: Cursor) -> Cursor {
     let mut vertices = values();
@@ -254,7 +299,8 @@ fn case_of(text: &[u8], vertices: Cursor, c: Cursor, record: u64) -> Judged {
         5 => lattice_case(text, c),
         6 => tables_case(text, c),
         7 => exact_case(text, c, false),
-        _ => exact_case(text, c, true),
+        8 => exact_case(text, c, true),
+        _ => product_case(text, c),
     }
 }
 
@@ -265,6 +311,7 @@ struct Counts {
     tables: Count,
     exact: Count,
     whole: Count,
+    product: Count,
 }
 
 // The counts with one case more.
@@ -275,6 +322,7 @@ fn with_case(before: Counts, record: u64, refusal: u64, agrees: bool) -> Counts 
     let mut tables = before.tables;
     let mut exact = before.exact;
     let mut whole = before.whole;
+    let mut product = before.product;
     match record {
         1 => {
             sort = report::counted(b"sort", sort, refusal, agrees);
@@ -291,8 +339,11 @@ fn with_case(before: Counts, record: u64, refusal: u64, agrees: bool) -> Counts 
         7 => {
             exact = report::counted(b"exact integral", exact, refusal, agrees);
         }
-        _ => {
+        8 => {
             whole = report::counted(b"exact sum", whole, refusal, agrees);
+        }
+        _ => {
+            product = report::counted(b"product", product, refusal, agrees);
         }
     }
     Counts {
@@ -302,6 +353,7 @@ fn with_case(before: Counts, record: u64, refusal: u64, agrees: bool) -> Counts 
         tables,
         exact,
         whole,
+        product,
     }
 }
 
@@ -337,12 +389,14 @@ fn print_counts(counts: Counts) {
     let tables = counts.tables;
     let exact = counts.exact;
     let whole = counts.whole;
+    let product = counts.product;
     report::print_count(b"sort", sort);
     report::print_count(b"weight", weight);
     report::print_count(b"choice of the table", lattice);
     report::print_count(b"tables", tables);
     report::print_count(b"exact integral", exact);
     report::print_count(b"exact sum of the four vertices", whole);
+    report::print_count(b"lattice times vector", product);
 }
 
 fn main() {
@@ -353,6 +407,7 @@ fn main() {
         tables: report::no_cases(),
         exact: report::no_cases(),
         whole: report::no_cases(),
+        product: report::no_cases(),
     };
     let mut text = io::large_buffer();
     let mut blocks: u64 = 1000;

@@ -29,6 +29,9 @@ no-cases-requires-5 c κs = search needs
 no-cases-requires-6 : tie.Need-no-cases-requires-6 Inv-loop μ-loop
 no-cases-requires-6 c κs = search needs
 
+no-cases-requires-7 : tie.Need-no-cases-requires-7 Inv-loop μ-loop
+no-cases-requires-7 c κs = search needs
+
 large-buffer-requires : tie.Need-large-buffer-requires Inv-loop μ-loop
 large-buffer-requires c κs = search needs
 
@@ -77,6 +80,7 @@ main-spec =
     no-cases-requires-4
     no-cases-requires-5
     no-cases-requires-6
+    no-cases-requires-7
     large-buffer-requires
     loop-holds
     sub-blocks
