@@ -23,6 +23,8 @@ import sheet_selftest as r
 from vectors_sheet import encoded, number_of
 
 NUMBERS = {"weights": ctypes.c_uint64, "flags": ctypes.c_int8, "marks": ctypes.c_uint8}
+# So many differences of a kind are told.
+TOLD = 20
 
 
 def array(kind, values):
@@ -95,7 +97,8 @@ class Kind:
         self.seen[call, number] = self.seen.get((call, number), 0) + 1
         if not agree:
             self.differ += 1
-            print("differs:", self.name, self.cases, call, number)
+            if self.differ <= TOLD:
+                print("differs: %s, list %d: %s, wanted %d" % (self.name, self.cases, call, number))
 
     def show(self):
         by = {}
@@ -156,7 +159,7 @@ class Comparison:
         rng, kind, begun = random.Random(seed), self.kinds["call lists"], time.time()
         while time.time() - begun < float(limit[:-1]) if limit.endswith("s") else kind.cases < int(limit):
             s = r.random_study(rng)
-            start = r.random_start(rng, s, r.random_marks(rng, s) if rng.random() < 0.3 else None)
+            start = r.begun(rng, s) if rng.random() < 0.3 else r.random_start(rng, s)
             made = [r.random_call(rng, s) for _ in range(rng.randint(1, 14))] + [("carry_on",)]
             if rng.random() < 0.2:
                 s = r.spoil_study(rng, s)
