@@ -25,6 +25,8 @@ from vectors_sheet import encoded, number_of
 NUMBERS = {"weights": ctypes.c_uint64, "flags": ctypes.c_int8, "marks": ctypes.c_uint8}
 # So many differences of a kind are told.
 TOLD = 20
+# What a place for an answer holds before a replay.
+UNTOUCHED = 99
 
 
 def array(kind, values):
@@ -75,10 +77,10 @@ class Calls:
             return self.library.carry_on(*self.given)
         return self.library.average_triplet(*self.given, call[1], *lent(wholes(call[2]), wholes(call[3])))
 
-    def replay(self, calls):
-        """The status, and of each call its answer and the tally after it."""
+    def replay(self, calls, places):
+        """The status, and for each call a place with its answer and one with the tally after it."""
         numbers, ids = encoded(calls)
-        told, tallies = patterns([0] * len(calls)), patterns([0] * len(calls))
+        told, tallies = patterns([UNTOUCHED] * places), patterns([UNTOUCHED] * places)
         status = self.library.replay(*self.given, *lent(wholes(numbers), wholes(ids), told, tallies))
         return status, list(told), list(tallies)
 
@@ -122,21 +124,18 @@ class Comparison:
             number = calls.make(call)
             kind.nans += sum(map(is_nan, sheet.weights))
             kind.count(call[0], number_of(answer), number == number_of(answer) and calls.content() == list(sheet.content()))
-        if hasattr(self.library, "replay"):
-            self.replay(s, start, made)
+        self.replay(s, start, made)
 
     def replay(self, s, start, made):
-        """The whole list by one call: refused with 13 where a mark is not 0."""
+        """The whole list by one call: refused with 12 where it has a place too many, with 13 where a mark is not 0."""
         kind, calls = self.kinds["replayed lists"], Calls(self.library, s, start)
         kind.cases += 1
-        if any(start.marks):
-            want, steps = 13, []
-        else:
-            want, steps = 0, m.book(s, start, made)
-        status, told, tallies = calls.replay(made)
+        places = len(made) + (kind.cases % 16 == 0)
+        want = 12 if places > len(made) else 13 if any(start.marks) else 0
+        steps = [] if want else m.book(s, start, made)
         last = steps[-1][1] if steps else start
-        agree = (status == want and calls.content() == list(last.content())
-                 and (want or (told == [number_of(a) for a, _ in steps] and tallies == [x.tally for _, x in steps])))
+        expected = [[number_of(a) for a, _ in steps], [x.tally for _, x in steps]] if not want else [[UNTOUCHED] * places] * 2
+        agree = calls.replay(made, places) == (want, *expected) and calls.content() == list(last.content())
         kind.count("replay", want, agree)
 
     def stored(self):
@@ -176,9 +175,7 @@ class Comparison:
                 seen[key] = seen.get(key, 0) + times
         print(m.answer_table({(call, n or "done"): times for (call, n), times in seen.items()}))
         print("sheets: %d NaNs compared by their bits" % sum(k.nans for k in self.kinds.values()))
-        asked = {**m.ASKED, "open count": (9, 12, 14)}
-        if hasattr(self.library, "replay"):
-            asked["replay"] = (13,)
+        asked = {**m.ASKED, "open count": (9, 12, 14), "replay": (12, 13)}
         missing = [(call, n) for call, numbers in asked.items() for n in (0, *numbers) if (call, n) not in seen]
         if missing:
             print("never seen:", missing)
