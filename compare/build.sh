@@ -1,10 +1,10 @@
 #!/bin/sh
-# usage: compare/build.sh SOURCES OUT [driver]
+# usage: compare/build.sh SOURCES OUT [PROGRAMS]
 # Makes both sides of the comparison in the folder OUT. SOURCES is the folder of the original's Rust sources; they are taken byte for byte.
-# Programs: judge, bench, driver, weights (proved). Libraries of the proved entries: libpelmetsavory.a, libpelmetsavory.so, and
-# libexport.a of export.rt.txt. With `driver` only that program is made, without the proved side. README.md here says what is needed.
+# PROGRAMS are those that are made of judge, bench and driver, all where none is told. The proved side is the program weights, the
+# libraries libpelmetsavory.a and .so, and libexport.a of export.rt.txt; `driver` alone does not need it. README.md has what it needs.
 set -eu
-[ $# -eq 2 ] || [ "${3-}" = driver ] || { sed -n 2,5p "$0"; exit 2; }
+[ $# -eq 2 ] || [ $# -eq 3 ] || { sed -n 2,5p "$0"; exit 2; }
 sources=$(cd "$1" && pwd)
 mkdir -p "$2"
 out=$(cd "$2" && pwd)
@@ -12,7 +12,7 @@ here=$(cd "$(dirname "$0")" && pwd)
 repo=$(cd "$here/.." && pwd)
 registry=${REGISTRY:-$(dpkg -L librust-rayon-dev | sed -n 's,/rayon-[^/]*$,,p' | head -n 1)}
 modules='bzgrid common funcs grgrid tetrahedron_method triplet triplet_iw'
-programs=${3-judge bench driver}
+programs=${3:-judge bench driver}
 
 # The proved side: the crates as they stand and one more that exports. What is proved already, here or in OUT, is not proved again.
 proved=$out/repo
@@ -31,7 +31,7 @@ make_proved() {
   gcc -shared -o "$out/libpelmetsavory.so" -Wl,--whole-archive "$proved/target/staticlib/libpelmetsavory.a" -Wl,--no-whole-archive
   cp "$proved/target/bin/weights" "$proved/target/staticlib/libpelmetsavory.a" "$proved/target/staticlib/libexport.a" "$out/"
 }
-if [ $# -eq 2 ] && [ ! -f "$out/libexport.a" ]; then make_proved; fi
+if [ "$programs" != driver ] && [ ! -f "$out/libexport.a" ]; then make_proved; fi
 
 # The Rust: whole files, and one of them again with ways to its private functions behind it.
 rust=$out/rust

@@ -1,15 +1,16 @@
 //! Averages over degenerate sets.
-use crate::lent::{any, Lent};
+use crate::lent::{any, same, Lent};
 use crate::report::{Kind, Seen};
 use crate::rng::{Rng, FAR};
 use crate::studies::{other_length, spoiled_count, spoiled_type};
 use crate::{asks, calls};
 use phonors::triplet_iw::average_weights_over_degenerate_sets;
 
-pub const KINDS: [Kind; 1] = [Kind {
-    name: "averages",
-    numbers: &[8, 9, 12, 17, 19],
-}];
+pub const KINDS: [Kind; 1] = [Kind::telling(
+    "averages",
+    &[8, 9, 12, 17, 19],
+    "change a weight",
+)];
 
 /// A list of ids of so many bands: each goes on with the set before it or starts one.
 pub fn ids(r: &mut Rng, bands: usize) -> Vec<i64> {
@@ -139,6 +140,7 @@ fn one(r: &mut Rng, c: &Call, mut weights: Vec<f64>, mut flags: Vec<i8>, seen: &
         bands: c.bands,
         tp: c.tp,
     });
+    let before = weights.clone();
     let mut out = (Lent::new(r, &weights), Lent::new(r, &flags));
     let answer = calls::averages(out.0.lend(), out.1.lend(), ids, c.points, c.bands, c.tp);
     if no == 0 {
@@ -153,6 +155,7 @@ fn one(r: &mut Rng, c: &Call, mut weights: Vec<f64>, mut flags: Vec<i8>, seen: &
         );
     }
     let right = answer == no && out.0.holds(&weights) && out.1.holds(&flags);
+    seen.tell(no == 0 && !same(&weights, &before));
     seen.note(no, right, || {
         format!("{answer}, {c:?}, {weights:?}, {flags:?}")
     });

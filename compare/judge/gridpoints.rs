@@ -12,15 +12,12 @@ use crate::values::{self, frequencies, FREQUENCY, POINT};
 use crate::{asks, calls};
 use phonors::tetrahedron_method::{integration_weights_at_grid_points, WeightFunction};
 
+const NUMBERS: &[u64] = &[3, 4, 5, 6, 7, 9, 10, 11, 12];
+pub const NOT_ZERO: &str = "have a weight other than 0";
+
 pub const KINDS: [Kind; 2] = [
-    Kind {
-        name: "grid-point weights I",
-        numbers: &[3, 4, 5, 6, 7, 9, 10, 11, 12],
-    },
-    Kind {
-        name: "grid-point weights J",
-        numbers: &[3, 4, 5, 6, 7, 9, 10, 11, 12],
-    },
+    Kind::telling("grid-point weights I", NUMBERS, NOT_ZERO),
+    Kind::telling("grid-point weights J", NUMBERS, NOT_ZERO),
 ];
 
 fn sound(r: &mut Rng, g: &Grid) -> GridPoints {
@@ -32,7 +29,7 @@ fn sound(r: &mut Rng, g: &Grid) -> GridPoints {
     let (points, gps) = match r.below(20000) {
         0 if bands == 1 => (1, 65536),
         1..=40 => (r.pick(&[1023, 1024]), 1),
-        _ => (r.between(1, 5) as usize, r.below(4)),
+        _ => (r.between(1, 5) as usize, r.pick(&[0, 1, 1, 1, 2, 2, 3, 3])),
     };
     GridPoints {
         points: values::points(r, &frequencies, points),
@@ -137,6 +134,7 @@ fn one(r: &mut Rng, g: &Grid, c: &GridPoints, room: usize, i: bool, seen: &mut S
         );
     }
     let right = answer == no && out.holds(&want);
+    seen.tell(no == 0 && want.iter().any(|w| *w != 0.0));
     seen.note(no, right, || format!("{answer}, room {room}, {c:?}, {g:?}"));
 }
 

@@ -9,22 +9,10 @@ use phonors::probe::probe_diagonal_length;
 use phonors::tetrahedron_method::{all_relative_grid_address, relative_grid_address};
 
 pub const KINDS: [Kind; 4] = [
-    Kind {
-        name: "grid index",
-        numbers: &[4],
-    },
-    Kind {
-        name: "choice of the table",
-        numbers: &[2],
-    },
-    Kind {
-        name: "lattice times vector",
-        numbers: &[2, 7],
-    },
-    Kind {
-        name: "the four tables",
-        numbers: &[],
-    },
+    Kind::new("grid index", &[4]),
+    Kind::new("choice of the table", &[2]),
+    Kind::new("lattice times vector", &[2, 7]),
+    Kind::new("the four tables", &[]),
 ];
 
 pub fn cases(r: &mut Rng, seen: &mut [Seen]) {

@@ -5,14 +5,8 @@ use crate::values::{fits, POINT};
 use phonors::probe::{probe_row, WeightFunction};
 
 pub const KINDS: [Kind; 2] = [
-    Kind {
-        name: "rows searched for a NaN, I",
-        numbers: &[],
-    },
-    Kind {
-        name: "rows searched for a NaN, J",
-        numbers: &[],
-    },
+    Kind::new("rows searched for a NaN, I", &[]),
+    Kind::new("rows searched for a NaN, J", &[]),
 ];
 
 /// Values at which something changes: zeros, ends of the limits, 1e-10 and the floats beside it, near 1, far from it.

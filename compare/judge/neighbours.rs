@@ -10,14 +10,8 @@ use phonors::bzgrid::neighboring_grid_points_many;
 use phonors::reach::neighbours_of_one;
 
 pub const KINDS: [Kind; 2] = [
-    Kind {
-        name: "neighbours of one point",
-        numbers: &[3, 4, 5, 6, 7, 10, 12],
-    },
-    Kind {
-        name: "neighbours of many points",
-        numbers: &[3, 4, 5, 6, 7, 9, 10, 12],
-    },
+    Kind::new("neighbours of one point", &[3, 4, 5, 6, 7, 10, 12]),
+    Kind::new("neighbours of many points", &[3, 4, 5, 6, 7, 9, 10, 12]),
 ];
 
 /// Calls on one grid.

@@ -1,9 +1,28 @@
 //! What was seen of each kind of call: cases, acceptances, refusals by number, differences.
 
-/// A kind of call and the numbers it can answer, beside acceptance.
+/// A kind of call: the numbers it can answer beside acceptance, and what some accepted calls must show, if anything.
 pub struct Kind {
     pub name: &'static str,
     pub numbers: &'static [u64],
+    pub telling: Option<&'static str>,
+}
+
+impl Kind {
+    pub const fn new(name: &'static str, numbers: &'static [u64]) -> Kind {
+        Kind {
+            name,
+            numbers,
+            telling: None,
+        }
+    }
+
+    pub const fn telling(name: &'static str, numbers: &'static [u64], what: &'static str) -> Kind {
+        Kind {
+            name,
+            numbers,
+            telling: Some(what),
+        }
+    }
 }
 
 pub struct Seen {
@@ -11,6 +30,7 @@ pub struct Seen {
     cases: u64,
     answers: [u64; 21],
     differ: u64,
+    told: u64,
 }
 
 /// How many differences of a kind are shown.
@@ -23,6 +43,7 @@ impl Seen {
             cases: 0,
             answers: [0; 21],
             differ: 0,
+            told: 0,
         }
     }
 
@@ -42,6 +63,11 @@ impl Seen {
                 println!("differs: {}, expected {number}: {text}", self.kind.name);
             }
         }
+    }
+
+    /// Whether an accepted call was a telling one.
+    pub fn tell(&mut self, telling: bool) {
+        self.told += telling as u64;
     }
 
     /// Numbers that the kind can answer, 0 for acceptance, and that never came.
@@ -82,6 +108,17 @@ impl Seen {
         if !foreign.is_empty() {
             println!("{name}: no question of the call has {foreign:?}");
         }
-        self.differ == 0 && missing.is_empty() && foreign.is_empty()
+        self.differ == 0 && missing.is_empty() && foreign.is_empty() && self.print_told()
+    }
+
+    fn print_told(&self) -> bool {
+        let Some(what) = self.kind.telling else {
+            return true;
+        };
+        println!(
+            "{}: {} of {} accepted {what}",
+            self.kind.name, self.told, self.answers[0]
+        );
+        self.told > 0
     }
 }

@@ -1,7 +1,7 @@
 //! Single calls on run sheets, the Rust's weights as the content that is right; the tally; the open count.
 use crate::averages::{flag, ids, spoil_ids, spoiled_weight, weight};
 use crate::calls::Parts;
-use crate::lent::{any, Lent, Word};
+use crate::lent::{any, same, Lent, Word};
 use crate::report::{Kind, Seen};
 use crate::rng::{Rng, FAR};
 use crate::studies::{self, other_length, spoiled_count, study};
@@ -14,26 +14,11 @@ const CARRY: &[u64] = &[3, 4, 5, 6, 7, 8, 9, 10, 11, 12, 13, 20];
 const AVERAGE: &[u64] = &[3, 4, 5, 6, 7, 8, 9, 10, 11, 12, 13, 14, 15, 16, 17, 18, 19];
 
 pub const KINDS: [Kind; 5] = [
-    Kind {
-        name: "run a piece",
-        numbers: RUN,
-    },
-    Kind {
-        name: "carry on",
-        numbers: CARRY,
-    },
-    Kind {
-        name: "average a triplet",
-        numbers: AVERAGE,
-    },
-    Kind {
-        name: "tally",
-        numbers: &[20],
-    },
-    Kind {
-        name: "open count",
-        numbers: &[9, 12, 14],
-    },
+    Kind::telling("run a piece", RUN, "change a weight"),
+    Kind::telling("carry on", CARRY, "change a weight"),
+    Kind::telling("average a triplet", AVERAGE, "change a weight"),
+    Kind::new("tally", &[20]),
+    Kind::new("open count", &[9, 12, 14]),
 ];
 
 pub fn cases(r: &mut Rng, seen: &mut [Seen]) {
@@ -205,6 +190,7 @@ fn run(r: &mut Rng, seen: &mut Seen) {
     } else {
         sheet.clone()
     };
+    seen.tell(no == 0 && !same(&sheet.weights, &want.weights));
     let right = agrees(r, &sheet, &want, no, |parts| {
         calls::run_piece(&s, parts, piece)
     });
@@ -226,6 +212,7 @@ fn carry(r: &mut Rng, seen: &mut Seen) {
     } else {
         sheet.clone()
     };
+    seen.tell(no == 0 && !same(&sheet.weights, &want.weights));
     let right = agrees(r, &sheet, &want, no, |parts| calls::carry_on(&s, parts));
     seen.note(no, right, || format!("{sheet:?}, {s:?}"));
 }
@@ -274,6 +261,7 @@ fn average(r: &mut Rng, seen: &mut Seen) {
         want.marks[t as usize * s.pairs()..][..s.pairs()].fill(2);
     }
     let call = |parts: Parts| calls::average_triplet(&s, parts, t, lists);
+    seen.tell(no == 0 && !same(&sheet.weights, &want.weights));
     let right = agrees(r, &sheet, &want, no, call);
     seen.note(no, right, || {
         format!("triplet {t}, ids {lists:?}, {sheet:?}, {s:?}")

@@ -1,4 +1,5 @@
 //! Weights and flags of one triplet and of all; normal triplets; copies of a table; channels of a type.
+use crate::gridpoints::NOT_ZERO;
 use crate::lent::{any, Lent, Word};
 use crate::report::{Kind, Seen};
 use crate::rng::Rng;
@@ -11,26 +12,11 @@ use phonors::triplet_iw::{integration_weight_per_triplet, TpType};
 const STUDY: &[u64] = &[3, 4, 5, 6, 7, 8, 9, 10, 11, 12];
 
 pub const KINDS: [Kind; 5] = [
-    Kind {
-        name: "weights of all triplets",
-        numbers: STUDY,
-    },
-    Kind {
-        name: "weights of one triplet",
-        numbers: STUDY,
-    },
-    Kind {
-        name: "normal triplets",
-        numbers: &[5, 10],
-    },
-    Kind {
-        name: "copies of a table",
-        numbers: &[7, 8, 12],
-    },
-    Kind {
-        name: "channels of a type",
-        numbers: &[8],
-    },
+    Kind::telling("weights of all triplets", STUDY, NOT_ZERO),
+    Kind::telling("weights of one triplet", STUDY, NOT_ZERO),
+    Kind::telling("normal triplets", &[5, 10], "are normal"),
+    Kind::new("copies of a table", &[7, 8, 12]),
+    Kind::new("channels of a type", &[8]),
 ];
 
 pub fn cases(r: &mut Rng, seen: &mut [Seen]) {
@@ -79,6 +65,7 @@ fn all(r: &mut Rng, seen: &mut Seen) {
         s.rust(&mut weights, &mut flags);
     }
     let right = answer == no && out.0.holds(&weights) && out.1.holds(&flags);
+    seen.tell(no == 0 && weights.iter().any(|w| *w != 0.0));
     seen.note(no, right, || format!("{answer}, rooms {w} {f}, {s:?}"));
 }
 
@@ -96,6 +83,7 @@ fn one(r: &mut Rng, seen: &mut Seen) {
         rust_one(&s, triplet, &mut weights, &mut flags);
     }
     let right = answer == no && out.0.holds(&weights) && out.1.holds(&flags);
+    seen.tell(no == 0 && weights.iter().any(|w| *w != 0.0));
     seen.note(no, right, || format!("{answer}, rooms {w} {f}, {s:?}"));
 }
 
@@ -171,6 +159,7 @@ fn normal(r: &mut Rng, seen: &mut Seen) {
     let mut got = before;
     let answer = calls::normal(triplet, &a, &mut got);
     let right = answer == no && got == want;
+    seen.tell(no == 0 && want == 1);
     seen.note(no, right, || {
         format!("{answer}, {got} for {want}: {triplet:?} of {a:?}")
     });

@@ -9,26 +9,11 @@ use phonors::probe::probe_sort_omegas;
 use phonors::tetrahedron_method::{integration_weight, WeightFunction};
 
 pub const KINDS: [Kind; 5] = [
-    Kind {
-        name: "weight I",
-        numbers: &[7, 11],
-    },
-    Kind {
-        name: "weight J",
-        numbers: &[7, 11],
-    },
-    Kind {
-        name: "kernel: rows as given",
-        numbers: &[],
-    },
-    Kind {
-        name: "kernel: rows in order",
-        numbers: &[],
-    },
-    Kind {
-        name: "rows sorted",
-        numbers: &[],
-    },
+    Kind::telling("weight I", &[7, 11], "are other than 0"),
+    Kind::telling("weight J", &[7, 11], "are other than 0"),
+    Kind::new("kernel: rows as given", &[]),
+    Kind::new("kernel: rows in order", &[]),
+    Kind::new("rows sorted", &[]),
 ];
 
 /// How the values of a row lie: random, ties, around 1e-10 apart, neighbouring floats, wide exponents, both zeros.
@@ -178,6 +163,7 @@ fn entry(r: &mut Rng, a: &Area, at: f64, i: bool, want: f64, seen: &mut Seen) {
     let mut got = f64::any(r);
     let answer = calls::weight(at, vertices, letter(r, i), &mut got);
     let right = answer == no && got.to_bits() == want.to_bits();
+    seen.tell(no == 0 && want != 0.0);
     seen.note(no, right, || {
         format!("{answer}, {got:e} for {want:e} at {at:e} in {:?}", a.rows)
     });
