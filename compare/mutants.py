@@ -24,7 +24,7 @@ CHANGES = [
     ("tetrahedron_method", "if min_length > length", "if min_length >= length"),
     ("tetrahedron_method", "if v[1] > v[2]", "if v[1] >= v[2]"),
     ("tetrahedron_method", "} else if omega < v[1] {", "} else if omega <= v[1] {"),
-    ("tetrahedron_method", "sum / (tetrahedra_omegas.len() as f64 / 4.0)", "sum * 4.0 / tetrahedra_omegas.len() as f64"),
+    ("tetrahedron_method", "sum / (tetrahedra_omegas.len() as f64 / 4.0)", "sum * (4.0 / tetrahedra_omegas.len() as f64)"),
     ("tetrahedron_method", "1.0 - _f(0, 3, omega, v) * _f(1, 3, omega, v) * _f(2, 3, omega, v)",
      "1.0 - _f(0, 3, omega, v) * (_f(1, 3, omega, v) * _f(2, 3, omega, v))"),
     ("tetrahedron_method", "[-1, -1, -1], [-1, -1, 0], [-1, 0, 0]]", "[-1, -1, -1], [-1, -1, 0], [0, -1, 0]]"),
