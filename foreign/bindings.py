@@ -76,7 +76,7 @@ def header(kept, fns, questions):
     for name, fields in kept:
         out += ["typedef struct {"] + [f"    {t(k)} {f}{f'[{n}]' if n else ''};" for f, k, n in fields] + [f"}} {t(name)};", ""]
     for name, params, result in fns:
-        args = [f"    {star[how] % t(k)}{p}{f' /* [{n}] */' if n else ''}" for p, how, k, n in crossing(params)]
+        args = [f"    {(star[how] % t(k)).replace('*', '' if n else '*')}{p}{f'[{n}]' if n else ''}" for p, how, k, n in crossing(params)]
         out += [f"{t(result) if result else 'void'} {name}(", ",\n".join(args) + ");", ""]
     out += ["/* The question that a status carries, in words; NULL for any other number. */", f"static inline const char *{LIBRARY}_question(uint64_t status)", "{", "    switch (status) {"]
     out += [f'    case {n}: return "{words}";' for n, words in questions] + ["    default: return NULL;", "    }", "}", ""]

@@ -23,6 +23,10 @@ import sheet_selftest as r
 from vectors_sheet import encoded, number_of
 
 NUMBERS = {"weights": ctypes.c_uint64, "flags": ctypes.c_int8, "marks": ctypes.c_uint8}
+# So many differences of a kind are told.
+TOLD = 20
+# What a place for an answer holds before a replay.
+UNTOUCHED = 99
 
 
 def array(kind, values):
@@ -73,10 +77,10 @@ class Calls:
             return self.library.carry_on(*self.given)
         return self.library.average_triplet(*self.given, call[1], *lent(wholes(call[2]), wholes(call[3])))
 
-    def replay(self, calls):
-        """The status, and of each call its answer and the tally after it."""
+    def replay(self, calls, places):
+        """The status, and for each call a place with its answer and one with the tally after it."""
         numbers, ids = encoded(calls)
-        told, tallies = patterns([0] * len(calls)), patterns([0] * len(calls))
+        told, tallies = patterns([UNTOUCHED] * places), patterns([UNTOUCHED] * places)
         status = self.library.replay(*self.given, *lent(wholes(numbers), wholes(ids), told, tallies))
         return status, list(told), list(tallies)
 
@@ -95,7 +99,8 @@ class Kind:
         self.seen[call, number] = self.seen.get((call, number), 0) + 1
         if not agree:
             self.differ += 1
-            print("differs:", self.name, self.cases, call, number)
+            if self.differ <= TOLD:
+                print("differs: %s, list %d: %s, wanted %d" % (self.name, self.cases, call, number))
 
     def show(self):
         by = {}
@@ -119,21 +124,18 @@ class Comparison:
             number = calls.make(call)
             kind.nans += sum(map(is_nan, sheet.weights))
             kind.count(call[0], number_of(answer), number == number_of(answer) and calls.content() == list(sheet.content()))
-        if hasattr(self.library, "replay"):
-            self.replay(s, start, made)
+        self.replay(s, start, made)
 
     def replay(self, s, start, made):
-        """The whole list by one call: refused with 13 where a mark is not 0."""
+        """The whole list by one call: refused with 12 where it has a place too many, with 13 where a mark is not 0."""
         kind, calls = self.kinds["replayed lists"], Calls(self.library, s, start)
         kind.cases += 1
-        if any(start.marks):
-            want, steps = 13, []
-        else:
-            want, steps = 0, m.book(s, start, made)
-        status, told, tallies = calls.replay(made)
+        places = len(made) + (kind.cases % 16 == 0)
+        want = 12 if places > len(made) else 13 if any(start.marks) else 0
+        steps = [] if want else m.book(s, start, made)
         last = steps[-1][1] if steps else start
-        agree = (status == want and calls.content() == list(last.content())
-                 and (want or (told == [number_of(a) for a, _ in steps] and tallies == [x.tally for _, x in steps])))
+        expected = [[number_of(a) for a, _ in steps], [x.tally for _, x in steps]] if not want else [[UNTOUCHED] * places] * 2
+        agree = calls.replay(made, places) == (want, *expected) and calls.content() == list(last.content())
         kind.count("replay", want, agree)
 
     def stored(self):
@@ -156,7 +158,7 @@ class Comparison:
         rng, kind, begun = random.Random(seed), self.kinds["call lists"], time.time()
         while time.time() - begun < float(limit[:-1]) if limit.endswith("s") else kind.cases < int(limit):
             s = r.random_study(rng)
-            start = r.random_start(rng, s, r.random_marks(rng, s) if rng.random() < 0.3 else None)
+            start = r.begun(rng, s) if rng.random() < 0.3 else r.random_start(rng, s)
             made = [r.random_call(rng, s) for _ in range(rng.randint(1, 14))] + [("carry_on",)]
             if rng.random() < 0.2:
                 s = r.spoil_study(rng, s)
@@ -173,9 +175,7 @@ class Comparison:
                 seen[key] = seen.get(key, 0) + times
         print(m.answer_table({(call, n or "done"): times for (call, n), times in seen.items()}))
         print("sheets: %d NaNs compared by their bits" % sum(k.nans for k in self.kinds.values()))
-        asked = {**m.ASKED, "open count": (9, 12, 14)}
-        if hasattr(self.library, "replay"):
-            asked["replay"] = (13,)
+        asked = {**m.ASKED, "open count": (9, 12, 14), "replay": (12, 13)}
         missing = [(call, n) for call, numbers in asked.items() for n in (0, *numbers) if (call, n) not in seen]
         if missing:
             print("never seen:", missing)

@@ -22,6 +22,8 @@ import texts
 here = os.path.dirname(os.path.abspath(__file__))
 # All that the program can answer: acceptance, and its refusals.
 NUMBERS = (0, 1, 3, 4, 5, 6, 8, 9, 10, 11)
+# So many texts with each of them among them, and so many texts kept whose answers differ.
+LONG, KEPT = 5000, 20
 
 
 def judged(driver, given):
@@ -54,6 +56,13 @@ class Program:
         return os.pread(out, os.fstat(out).st_size, 0), status
 
 
+def keep(path, text, why):
+    """Leaves a text in the folder where the script was started."""
+    with open(path, "wb") as f:
+        f.write(text)
+    print("%s: %s" % (path, why))
+
+
 class Kind:
     """The counts of one kind of text."""
 
@@ -66,17 +75,16 @@ class Kind:
             got, status = program(text)
             if got != want or status:
                 self.differ += 1
-                path = "differs-%s-%d" % (label, k)
-                with open(path, "wb") as f:
-                    f.write(text)
-                print("%s (%s): status %d, want %r, got %r" % (path, self.name, status, want[:60], got[:60]))
+                if self.differ <= KEPT:
+                    keep("differs-%s-%d" % (label, k), text, "status %d, want %r, got %r" % (status, want[:60], got[:60]))
 
     def show(self):
         refused = " ".join("%d:%d" % (n, c) for n, c in sorted(self.counts.items()) if n)
         print("kind\t%s\t%d\t%d\t%s\t%d" % (self.name, sum(self.counts.values()), self.counts[0], refused or "-", self.differ))
 
     def right(self):
-        missing = [n for n in NUMBERS if not self.counts[n]]
+        """Nothing differs, and in a long run every number was met."""
+        missing = [n for n in NUMBERS if not self.counts[n]] if self.counts.total() >= LONG else []
         if missing:
             print("%s: never seen: %s" % (self.name, missing))
         return not self.differ and not missing

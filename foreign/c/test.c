@@ -8,20 +8,35 @@ static FILE *out;
 
 #define WANT(want, call) do { uint64_t got_ = (call); if (got_ != (want)) { printf("line %d: status %llu, not %llu\n", __LINE__, (unsigned long long)got_, (unsigned long long)(want)); exit(1); } } while (0)
 #define YES(x) do { if (!(x)) { printf("line %d: not so: %s\n", __LINE__, #x); exit(1); } } while (0)
-/* a refusal that leaves the sheet as it was */
+/* a call that leaves the sheet as it was, and whose number has words where it is a refusal */
 #define KEPT(want, sheet, call) do { unsigned char a_[SHEET_BYTES], b_[SHEET_BYTES]; to_bytes(sheet, a_); WANT(want, call); to_bytes(sheet, b_); \
-    YES(!memcmp(a_, b_, SHEET_BYTES) && pelmetsavory_question(want)); } while (0)
+    YES(!memcmp(a_, b_, SHEET_BYTES) && (pelmetsavory_question(want) != NULL) == ((want) != 0)); } while (0)
 
 static void name(const char *s) { if (out) fputs(s, out); }
 static void floats(const double *x, int n) { for (int k = 0; k < n; k++) { uint64_t b; memcpy(&b, x + k, 8); if (out) fprintf(out, "\t%016llx", (unsigned long long)b); } }
 static void number(long long x) { if (out) fprintf(out, "\t%lld", x); }
 static void wholes(const int64_t *x, int n) { for (int k = 0; k < n; k++) number(x[k]); }
 static void end(void) { if (out) fputc('\n', out); }
+static void whole_sheet(const pelmetsavory_sheet *s)
+{
+    floats(s->weights, ENTRIES);
+    for (int k = 0; k < CELLS; k++) number(s->flags[k]);
+    for (int k = 0; k < PIECES; k++) number(s->marks[k]);
+    number((long long)s->tally);
+}
+
+/* a file of data/ */
+static FILE *data(const char *file)
+{
+    char path[4096];
+    snprintf(path, sizeof path, "%s/%s", getenv("PELMETSAVORY_DATA"), file);
+    return fopen(path, "r");
+}
 
 /* whether a sheet's entries are the stored listing */
 static int listed(const pelmetsavory_sheet *s)
 {
-    FILE *f = fopen(getenv("PELMETSAVORY_LISTING"), "r");
+    FILE *f = data("listing.txt");
     char line[256], want[256];
     YES(f && fgets(line, sizeof line, f) && !strcmp(line, "triplet\tpoint\tb1\tb2\tflag\tw\n"));
     int same = 1;
@@ -90,10 +105,7 @@ static void calls(void)
     WANT(0, pelmetsavory_sheet_average_triplet(&y, &s, 1, ids1, 3, ids2, 3));
     KEPT(15, &s, pelmetsavory_sheet_run_piece(&y, &s, piece_at(9)));
     KEPT(15, &s, pelmetsavory_sheet_average_triplet(&y, &s, 1, ids1, 3, ids2, 3));
-    name("averaged"); floats(s.weights, ENTRIES);
-    for (int k = 0; k < CELLS; k++) number(s.flags[k]);
-    for (int k = 0; k < PIECES; k++) number(s.marks[k]);
-    number((long long)s.tally); end();
+    name("averaged"); whole_sheet(&s); end();
 
     /* all triplets, one triplet, its averages */
     double w[ENTRIES], w1[135]; int8_t f[CELLS], f1[45];
@@ -191,6 +203,96 @@ static void calls(void)
     free_sheet(&s); free_sheet(&t);
 }
 
+enum { CALLS = 14 };
+static const int64_t ids[6] = {0, 0, 2, 0, 1, 1};
+static const int64_t list[CALLS][6] = { /* numbers that a call does not read are 9 */
+    {PELMETSAVORY_RUN, 1, 1, 1, 9, 9}, {PELMETSAVORY_RUN, 3, 0, 0, 9, 9}, {PELMETSAVORY_AVERAGE, 1, 0, 3, 3, 6}, {PELMETSAVORY_RUN, 1, 1, 1, 9, 9},
+    {PELMETSAVORY_CARRY_ON, 9, 9, 9, 9, 9}, {PELMETSAVORY_AVERAGE, 1, 0, 3, 3, 6}, {PELMETSAVORY_RUN, 1, 0, 0, 9, 9}, {PELMETSAVORY_AVERAGE, 1, 3, 6, 0, 3},
+    {PELMETSAVORY_AVERAGE, 0, 0, 2, 3, 6}, {PELMETSAVORY_AVERAGE, 0, -1, 3, 3, 6}, {PELMETSAVORY_AVERAGE, 2, 0, 3, 4, 7}, {INT64_MIN, 2, 3, 6, 0, 3},
+    {PELMETSAVORY_CARRY_ON, 9, 9, 9, 9, 9}, {PELMETSAVORY_AVERAGE, INT64_MIN, 0, 3, 3, 6},
+};
+static const uint64_t statuses[CALLS] = {0, 14, 18, 0, 0, 0, 15, 15, 17, 17, 17, 0, 0, 14};
+
+/* the ids from start to end; none where the list has no such part */
+static size_t part(int64_t start, int64_t end, const int64_t **from)
+{
+    int there = 0 <= start && start <= end && end <= 6;
+    *from = there ? ids + start : NULL;
+    return there ? (size_t)(end - start) : 0;
+}
+
+static uint64_t call(pelmetsavory_sheet *s, const int64_t *c)
+{
+    const int64_t *a, *b;
+    const pelmetsavory_piece piece = {c[1], c[2], c[3]};
+    if (c[0] == PELMETSAVORY_RUN) return pelmetsavory_sheet_run_piece(&y, s, piece);
+    if (c[0] == PELMETSAVORY_CARRY_ON) return pelmetsavory_sheet_carry_on(&y, s);
+    size_t m = part(c[2], c[3], &a), n = part(c[4], c[5], &b);
+    return pelmetsavory_sheet_average_triplet(&y, s, c[1], a, m, b, n);
+}
+
+/* a list of calls in one call: in every bit what the same calls make one by one */
+static void replays(void)
+{
+    pelmetsavory_sheet s = new_sheet(-7.25, 5, 40), t = new_sheet(-7.25, 5, 40);
+    uint64_t answers[CALLS], tallies[CALLS], untouched[CALLS];
+    memset(answers, 0x55, sizeof answers); memset(tallies, 0x55, sizeof tallies); memset(untouched, 0x55, sizeof untouched);
+#define REPLAY(numbers, n, m) pelmetsavory_replay(PELMETSAVORY_STUDY(&y), triplets, 9, PELMETSAVORY_SHEET(&s), *list, numbers, ids, 6, answers, n, tallies, m)
+    KEPT(12, &s, REPLAY(CALLS * 6 - 1, CALLS, CALLS));
+    KEPT(12, &s, REPLAY(CALLS * 6 - 6, CALLS, CALLS));
+    KEPT(12, &s, REPLAY(CALLS * 6, CALLS - 1, CALLS - 1));
+    KEPT(12, &s, REPLAY(CALLS * 6, CALLS, CALLS - 1));
+    s.marks[26] = 1;
+    KEPT(12, &s, REPLAY(0, CALLS, CALLS));
+    KEPT(13, &s, REPLAY(CALLS * 6, CALLS, CALLS));
+    KEPT(13, &s, pelmetsavory_sheet_replay(&y, &s, 0, NULL, NULL, 0, NULL, NULL));
+    s.marks[26] = 0;
+    KEPT(0, &s, pelmetsavory_sheet_replay(&y, &s, 0, NULL, NULL, 0, NULL, NULL)); /* no call: nothing is written */
+    YES(!memcmp(answers, untouched, sizeof answers) && !memcmp(tallies, untouched, sizeof tallies));
+    WANT(0, pelmetsavory_sheet_replay(&y, &s, CALLS, list, ids, 6, answers, tallies));
+    for (int k = 0; k < CALLS; k++) { WANT(statuses[k], call(&t, list[k])); YES(answers[k] == statuses[k] && tallies[k] == t.tally); }
+    unsigned char a[SHEET_BYTES], b[SHEET_BYTES];
+    to_bytes(&s, a); to_bytes(&t, b);
+    YES(!memcmp(a, b, SHEET_BYTES) && s.tally == 68);
+    name("replay"); wholes((const int64_t *)answers, CALLS); wholes((const int64_t *)tallies, CALLS); whole_sheet(&s); end();
+    free_sheet(&s); free_sheet(&t);
+}
+
+/* the answer to a text: the stored listing of the stored study; what lies behind it in the buffer stays */
+static uint8_t text[16385], answer[PELMETSAVORY_ANSWER];
+
+static size_t stored(const char *file, uint8_t *to, size_t room)
+{
+    FILE *f = data(file);
+    YES(f);
+    size_t n = fread(to, 1, room, f);
+    YES(n > 0 && n < room && !fclose(f));
+    return n;
+}
+
+static void answered(const uint8_t *from, size_t n, const char *want, size_t length)
+{
+    memset(answer, 0x5a, sizeof answer);
+    YES(pelmetsavory_answer(from, n, answer) == length && !memcmp(answer, want, length));
+    for (size_t k = length; k < sizeof answer; k++) YES(answer[k] == 0x5a);
+    number((long long)length);
+}
+
+static void texts(void)
+{
+    static uint8_t listing[16384];
+    size_t n = stored("study.txt", text, sizeof text), length = stored("listing.txt", listing, sizeof listing);
+    name("answer");
+    answered(text, n, (const char *)listing, length);
+    answered(text, n - 1, "refused\t1\n", 10);
+    answered(NULL, 0, "refused\t1\n", 10);
+    answered(text, sizeof text, "refused\t1\n", 10);
+    text[5] = '7'; answered(text, n, "refused\t3\n", 10); text[5] = '2';
+    text[n - 4] = '2'; answered(text, n, "refused\t10\n", 11); text[n - 4] = '1';
+    end();
+    YES(pelmetsavory_question(1) && !pelmetsavory_question(21));
+}
+
 /* the entries with work areas, on a stack that was filled with 0xa5 before */
 static void *deep(void *sheet)
 {
@@ -213,22 +315,43 @@ static void *deep(void *sheet)
     return NULL;
 }
 
-static void stack_need(void)
+static void *deep_replay(void *sheet)
 {
-    enum { SIZE = 128 * 1024 };
+    static uint64_t answers[CALLS], tallies[CALLS];
+    WANT(0, pelmetsavory_sheet_replay(&y, sheet, CALLS, list, ids, 6, answers, tallies));
+    return NULL;
+}
+
+static void *deep_answer(void *length)
+{
+    YES(pelmetsavory_answer(text, *(size_t *)length, answer) > 1000);
+    return NULL;
+}
+
+/* how much of its stack a thread used */
+static size_t stack_used(void *(*calls)(void *), void *given)
+{
+    enum { SIZE = 4 << 20 };
     unsigned char *stack = aligned_alloc(4096, SIZE);
-    pelmetsavory_sheet s = new_sheet(0, 0, 0);
     pthread_t thread;
     pthread_attr_t own;
     YES(stack);
     memset(stack, 0xa5, SIZE);
-    YES(!pthread_attr_init(&own) && !pthread_attr_setstack(&own, stack, SIZE) && !pthread_create(&thread, &own, deep, &s) && !pthread_join(thread, NULL));
-    int untouched = 0;
+    YES(!pthread_attr_init(&own) && !pthread_attr_setstack(&own, stack, SIZE) && !pthread_create(&thread, &own, calls, given) && !pthread_join(thread, NULL));
+    size_t untouched = 0;
     while (stack[untouched] == 0xa5) untouched++;
-    printf("c: a thread that calls used %d bytes of its stack\n", SIZE - untouched);
-    YES(SIZE - untouched < 48 * 1024);
-    free_sheet(&s);
     free(stack);
+    return SIZE - untouched;
+}
+
+static void stack_need(void)
+{
+    pelmetsavory_sheet s = new_sheet(0, 0, 0), t = new_sheet(0, 0, 0);
+    size_t length = stored("study.txt", text, sizeof text);
+    size_t plain = stack_used(deep, &s), replay = stack_used(deep_replay, &t), whole = stack_used(deep_answer, &length);
+    printf("c: threads used %zu bytes of stack, %zu for a replay, %zu for an answer to a text\n", plain, replay, whole);
+    YES(plain < 48 * 1024 && replay < 48 * 1024 && whole < 1280 * 1024);
+    free_sheet(&s); free_sheet(&t);
 }
 
 int main(int argc, char **argv)
@@ -241,6 +364,8 @@ int main(int argc, char **argv)
     (void)argv;
     if (getenv("PELMETSAVORY_OUT")) out = fopen(getenv("PELMETSAVORY_OUT"), "w");
     calls();
+    replays();
+    texts();
     if (out) YES(!fclose(out));
     if (argc < 2) stack_need();
     puts("c: ok");

@@ -5,10 +5,12 @@
  * What is written (buffers, tally) must not overlap anything else that the call is given; inputs may overlap one another.
  * Nothing else may write these arrays while a call runs.
  * Any values in arrays and structs are taken: what is wrong is told by the status, 0 or the number of the first question that is
- * answered no (pelmetsavory_question gives its words). After a refusal every buffer and the tally are as they were.
+ * answered no (pelmetsavory_question gives its words). After a refusal every buffer and the tally are as they were. pelmetsavory_answer
+ * has no status but the length of its answer, and writes a refusal as a line of text.
  * A function letter is 'I'; any other byte is J.
  * Floats: the thread must round to nearest, without flush-to-zero (FTZ) and denormals-are-zero (DAZ): pelmetsavory_float_mode_ok.
- * A call needs less than 48 KiB of stack, allocates nothing, and keeps nothing: threads may call on different sheets at once. */
+ * A call needs less than 48 KiB of stack, pelmetsavory_answer less than 1.25 MiB; it allocates nothing, and keeps nothing: threads may call
+ * on different sheets at once. */
 #ifndef PELMETSAVORY_H
 #define PELMETSAVORY_H
 #include <stddef.h>
@@ -66,6 +68,21 @@ static inline uint64_t pelmetsavory_sheet_average_triplet(const pelmetsavory_stu
     return pelmetsavory_average_triplet(PELMETSAVORY_STUDY(y), y->triplets, y->triplets_len, PELMETSAVORY_SHEET(s), triplet,
         ids1, ids1_len, ids2, ids2_len);
 }
+
+/* The kinds of a call in a list, the first of its six numbers. Behind it stand triplet, b1, b2 (run), nothing (carry on), or the triplet and
+ * the start and end in `ids` of the first id list and of the second (average, and any other kind). What is left of the six is not read. */
+enum { PELMETSAVORY_RUN = 0, PELMETSAVORY_CARRY_ON = 1, PELMETSAVORY_AVERAGE = 2 };
+
+/* Replays `calls` calls on a sheet with every piece open: the status of each, and the tally after it. */
+static inline uint64_t pelmetsavory_sheet_replay(const pelmetsavory_study *y, pelmetsavory_sheet *s, size_t calls, const int64_t (*list)[6],
+    const int64_t *ids, size_t ids_len, uint64_t *answers, uint64_t *tallies)
+{
+    return pelmetsavory_replay(PELMETSAVORY_STUDY(y), y->triplets, y->triplets_len, PELMETSAVORY_SHEET(s), calls ? *list : NULL, calls * 6,
+        ids, ids_len, answers, calls, tallies, calls);
+}
+
+/* The greatest answer to a text, in bytes: the length of `out` of pelmetsavory_answer. */
+enum { PELMETSAVORY_ANSWER = 118617 };
 
 #ifdef __cplusplus
 }

@@ -34,6 +34,11 @@ typedef struct {
     int64_t num_band2;
 } pelmetsavory_shape;
 
+size_t pelmetsavory_answer(
+    const uint8_t *text,
+    size_t text_len,
+    uint8_t out[118617]);
+
 uint64_t pelmetsavory_run_piece(
     pelmetsavory_shape shape,
     const int64_t *addresses,
@@ -239,12 +244,12 @@ uint64_t pelmetsavory_grid_index_from_address(
     int64_t *index);
 
 uint64_t pelmetsavory_relative_grid_address(
-    const double *rec_lattice /* [9] */,
-    int64_t *table /* [288] */,
+    const double rec_lattice[9],
+    int64_t table[288],
     size_t *index);
 
 void pelmetsavory_all_relative_grid_address(
-    int64_t *all /* [1152] */);
+    int64_t all[1152]);
 
 uint64_t pelmetsavory_tetrahedra_integration_weight(
     double omega,
@@ -254,9 +259,9 @@ uint64_t pelmetsavory_tetrahedra_integration_weight(
     double *weight);
 
 uint64_t pelmetsavory_matvec_di(
-    const double *a /* [9] */,
+    const double a[9],
     pelmetsavory_triple b,
-    double *product /* [3] */);
+    double product[3]);
 
 uint64_t pelmetsavory_num_channels(
     int64_t tp_type,
@@ -266,10 +271,43 @@ uint64_t pelmetsavory_tally_add(
     uint64_t *tally,
     uint64_t runs);
 
+uint64_t pelmetsavory_replay(
+    pelmetsavory_shape shape,
+    const int64_t *addresses,
+    size_t addresses_len,
+    const int64_t *gp_map,
+    size_t gp_map_len,
+    const int64_t *relative_grid_address,
+    size_t relative_grid_address_len,
+    const double *frequencies1,
+    size_t frequencies1_len,
+    const double *frequencies2,
+    size_t frequencies2_len,
+    const double *frequency_points,
+    size_t frequency_points_len,
+    const int64_t *triplets,
+    size_t triplets_len,
+    double *weights,
+    size_t weights_len,
+    int8_t *flags,
+    size_t flags_len,
+    uint8_t *marks,
+    size_t marks_len,
+    uint64_t *tally,
+    const int64_t *list,
+    size_t list_len,
+    const int64_t *ids,
+    size_t ids_len,
+    uint64_t *answers,
+    size_t answers_len,
+    uint64_t *tallies,
+    size_t tallies_len);
+
 /* The question that a status carries, in words; NULL for any other number. */
 static inline const char *pelmetsavory_question(uint64_t status)
 {
     switch (status) {
+    case 1: return "Is the study text at most 16,384 bytes, well formed, with at most 4,096 weights, channels counted?";
     case 2: return "Are lattice entries finite, magnitude at most 2^30?";
     case 3: return "Is the grid kind 1 or 2?";
     case 4: return "Is each mesh number 1 to 128 (the grid index alone: 1 to 256)?";

@@ -1,7 +1,7 @@
 """Proved tetrahedron weights over numpy arrays.
 
 Grid (kind, mesh, addresses, map), Study (a grid, a table, frequencies, points, triplets), Sheet (weights, flags, marks and tally of a
-study: run pieces, carry on, average), and a function for each other entry. Inputs are copied where numpy must convert them without
+study: run pieces, carry on, average, replay), and a function for each other entry. Inputs are copied where numpy must convert them without
 loss, and refused where it cannot; shapes are those of numpy's reshape. A refused call raises Refused and changes nothing.
 """
 import ctypes
@@ -110,6 +110,20 @@ class Study:
         return (channels, t, n, *self.bands), (t, n, *self.bands), (t, *self.bands)
 
 
+def _average_row(ids, triplet, ids1, ids2):
+    a, b, start = _input("ids1", np.int64, ids1), _input("ids2", np.int64, ids2), len(ids)
+    ids += [*a, *b]
+    return 2, _whole("triplet", triplet), start, start + a.size, start + a.size, len(ids)
+
+
+# of each call the six numbers by which a list names it; its id lists go behind `ids`
+_ROWS = {
+    "run_piece": lambda ids, triplet, b1, b2: (0, _whole("triplet", triplet), _whole("b1", b1), _whole("b2", b2), 0, 0),
+    "carry_on": lambda ids: (1, 0, 0, 0, 0, 0),
+    "average_triplet": _average_row,
+}
+
+
 class Sheet:
     """Weights (channel, triplet, point, b1, b2), flags, marks and tally of a study: new ones, or the caller's arrays, written in place."""
 
@@ -141,6 +155,20 @@ class Sheet:
         a, b = _input("ids1", np.int64, ids1), _input("ids2", np.int64, ids2)
         _checked(_lib.pelmetsavory_average_triplet(*self._args, _whole("triplet", triplet), *_slices(a, b)))
 
+    def replay(self, calls):
+        """Replays calls on a sheet with every piece open: the status of each (0 or a question's number), and the tally after it.
+        A call is ("run_piece", triplet, b1, b2), ("carry_on",) or ("average_triplet", triplet, ids1, ids2)."""
+        ids = []
+        return self.replay_list([_ROWS[name](ids, *given) for name, *given in calls], ids)
+
+    def replay_list(self, rows, ids):
+        """The same by numbers (any, 6): 0, triplet, b1, b2 runs a piece; 1 carries on; any other kind averages a triplet, with the start
+        and the end in `ids` of either id list."""
+        r, i = _input("rows", np.int64, rows, -1, 6), _input("ids", np.int64, ids)
+        answers, tallies = np.zeros((2, len(r)), np.uint64)
+        _checked(_lib.pelmetsavory_replay(*self._args, *_slices(r, i, answers, tallies)))
+        return answers, tallies
+
     def open_count(self, triplet):
         return open_count(self.flags, triplet)
 
@@ -152,10 +180,14 @@ class Sheet:
         np.copyto(self.flags, other.flags, where=new[:, None])
         self.marks[new] = 1
 
+    def to_bytes(self):
+        """Weights, flags, marks and tally as bytes."""
+        return self.weights.tobytes() + self.flags.tobytes() + self.marks.tobytes() + bytes(self._tally)
+
     def save(self, path):
-        """Stores the sheet so that a reader finds the old one or the new one whole: weights, flags, marks, tally, as bytes."""
+        """Stores the sheet so that a reader finds the old one or the new one whole."""
         with open(f"{path}.{os.getpid()}", "wb") as f:
-            f.write(self.weights.tobytes() + self.flags.tobytes() + self.marks.tobytes() + bytes(self._tally))
+            f.write(self.to_bytes())
         os.replace(f.name, path)
 
     @classmethod
@@ -287,3 +319,10 @@ def num_channels(tp_type):
     channels = ctypes.c_size_t()
     _checked(_lib.pelmetsavory_num_channels(_whole("tp_type", tp_type), ctypes.addressof(channels)))
     return channels.value
+
+
+def answer(text):
+    """What the program `weights` prints for the text of a study, as bytes: its listing, or `refused`, a tab, the question's number and a
+    newline. Needs less than 1.25 MiB of stack."""
+    text, out = bytes(memoryview(text)), (ctypes.c_char * ENTRIES["pelmetsavory_answer"][1][-1][3])()
+    return out[: _lib.pelmetsavory_answer(text, len(text), ctypes.addressof(out))]

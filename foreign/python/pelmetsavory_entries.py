@@ -43,6 +43,7 @@ class Shape(ctypes.Structure):
 
 
 QUESTIONS = {
+    1: "Is the study text at most 16,384 bytes, well formed, with at most 4,096 weights, channels counted?",
     2: "Are lattice entries finite, magnitude at most 2^30?",
     3: "Is the grid kind 1 or 2?",
     4: "Is each mesh number 1 to 128 (the grid index alone: 1 to 256)?",
@@ -66,6 +67,11 @@ QUESTIONS = {
 
 # of each entry: its result, and its arguments as (name, how it crosses, type, count of an array)
 ENTRIES = {
+    "pelmetsavory_answer": (ctypes.c_size_t, [
+        ("text", "const", ctypes.c_uint8, None),
+        ("text_len", "value", ctypes.c_size_t, None),
+        ("out", "mut", ctypes.c_uint8, 118617),
+    ]),
     "pelmetsavory_run_piece": (ctypes.c_uint64, [
         ("shape", "value", Shape, None),
         ("addresses", "const", ctypes.c_int64, None),
@@ -297,5 +303,37 @@ ENTRIES = {
     "pelmetsavory_tally_add": (ctypes.c_uint64, [
         ("tally", "mut", ctypes.c_uint64, None),
         ("runs", "value", ctypes.c_uint64, None),
+    ]),
+    "pelmetsavory_replay": (ctypes.c_uint64, [
+        ("shape", "value", Shape, None),
+        ("addresses", "const", ctypes.c_int64, None),
+        ("addresses_len", "value", ctypes.c_size_t, None),
+        ("gp_map", "const", ctypes.c_int64, None),
+        ("gp_map_len", "value", ctypes.c_size_t, None),
+        ("relative_grid_address", "const", ctypes.c_int64, None),
+        ("relative_grid_address_len", "value", ctypes.c_size_t, None),
+        ("frequencies1", "const", ctypes.c_double, None),
+        ("frequencies1_len", "value", ctypes.c_size_t, None),
+        ("frequencies2", "const", ctypes.c_double, None),
+        ("frequencies2_len", "value", ctypes.c_size_t, None),
+        ("frequency_points", "const", ctypes.c_double, None),
+        ("frequency_points_len", "value", ctypes.c_size_t, None),
+        ("triplets", "const", ctypes.c_int64, None),
+        ("triplets_len", "value", ctypes.c_size_t, None),
+        ("weights", "mut", ctypes.c_double, None),
+        ("weights_len", "value", ctypes.c_size_t, None),
+        ("flags", "mut", ctypes.c_int8, None),
+        ("flags_len", "value", ctypes.c_size_t, None),
+        ("marks", "mut", ctypes.c_uint8, None),
+        ("marks_len", "value", ctypes.c_size_t, None),
+        ("tally", "mut", ctypes.c_uint64, None),
+        ("list", "const", ctypes.c_int64, None),
+        ("list_len", "value", ctypes.c_size_t, None),
+        ("ids", "const", ctypes.c_int64, None),
+        ("ids_len", "value", ctypes.c_size_t, None),
+        ("answers", "mut", ctypes.c_uint64, None),
+        ("answers_len", "value", ctypes.c_size_t, None),
+        ("tallies", "mut", ctypes.c_uint64, None),
+        ("tallies_len", "value", ctypes.c_size_t, None),
     ]),
 }

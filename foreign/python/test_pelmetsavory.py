@@ -11,7 +11,8 @@ DATA = os.path.join(os.path.dirname(os.path.abspath(__file__)), "../data/")
 lines = []
 hexed = lambda a: ["%016x" % x for x in np.asarray(a, np.float64).ravel().view(np.uint64)]
 say = lambda name, *values: lines.append("\t".join([name] + [str(int(v)) if not isinstance(v, str) else v for v in values]))
-say_sheet = lambda name, s: say(name, *hexed(s.weights), *s.flags.ravel(), *s.marks.ravel(), s.tally)
+sheet_values = lambda s: [*hexed(s.weights), *s.flags.ravel(), *s.marks.ravel(), s.tally]
+held = pm.Sheet.to_bytes
 
 
 def listing(s):
@@ -22,14 +23,14 @@ def listing(s):
 
 
 def refused(number, call, *sheets):
-    before = [(s.weights.tobytes(), s.flags.tobytes(), s.marks.tobytes(), s.tally) for s in sheets]
+    before = [held(s) for s in sheets]
     try:
         call()
     except pm.Refused as e:
         assert e.number == number and str(e).endswith("?"), (e, number)
     else:
         raise AssertionError(f"not refused with {number}")
-    assert before == [(s.weights.tobytes(), s.flags.tobytes(), s.marks.tobytes(), s.tally) for s in sheets]
+    assert before == [held(s) for s in sheets]
 
 
 def raises(error, call):
@@ -97,7 +98,7 @@ refused(19, lambda: nan.average_triplet(0, [0, 0, 2], [0, 1, 1]), nan)
 sheet.average_triplet(1, [0, 0, 2], [0, 1, 1])
 refused(15, lambda: sheet.run_piece(1, 0, 0), sheet)
 refused(15, lambda: sheet.average_triplet(1, [0, 0, 2], [0, 1, 1]), sheet)
-say_sheet("averaged", sheet)
+say("averaged", *sheet_values(sheet))
 carried = pm.Sheet(study)
 carried.run_piece(0, 2, 1)
 carried.carry_on()
@@ -137,6 +138,43 @@ refused(7, lambda: pm.matvec_di(np.eye(3), (0, 0, 4097)))
 say("channels", *(pm.num_channels(t) for t in (2, 3, 4)))
 refused(8, lambda: pm.num_channels(1))
 
+# a list of calls in one call: in every bit what the same calls make one by one
+rows = [(0, 1, 1, 1, 9, 9), (0, 3, 0, 0, 9, 9), (2, 1, 0, 3, 3, 6), (0, 1, 1, 1, 9, 9), (1, 9, 9, 9, 9, 9), (2, 1, 0, 3, 3, 6), (0, 1, 0, 0, 9, 9), (2, 1, 3, 6, 0, 3)]
+rows += [(2, 0, 0, 2, 3, 6), (2, 0, -1, 3, 3, 6), (2, 2, 0, 3, 4, 7), (-(2**63), 2, 3, 6, 0, 3), (1, 9, 9, 9, 9, 9), (2, -(2**63), 0, 3, 3, 6)]
+statuses, ids = [0, 14, 18, 0, 0, 0, 15, 15, 17, 17, 17, 0, 0, 14], [0, 0, 2, 0, 1, 1]
+part = lambda start, end: ids[start:end] if 0 <= start <= end <= 6 else []
+named = lambda kind, a, b, c, d, e: {0: ("run_piece", a, b, c), 1: ("carry_on",)}.get(kind, ("average_triplet", a, part(b, c), part(d, e)))
+calls = [named(*row) for row in rows]
+by_rows, by_calls, one_by_one, marked = fresh(), fresh(), fresh(), fresh()
+marked.marks[2, 2, 2] = 1
+short, kept = np.array(rows[1:]), [np.full(14, 7, np.uint64), np.full(14, 7, np.uint64)]
+for numbers, answers, tallies in (short, *kept), (short.ravel()[1:], kept[0][1:], kept[1][1:]), (short, kept[0][1:], kept[1]):
+    for s in by_rows, marked:
+        refused(12, lambda: pm._checked(pm._lib.pelmetsavory_replay(*s._args, *pm._slices(numbers, np.array(ids), answers, tallies))), s)
+refused(13, lambda: pm._checked(pm._lib.pelmetsavory_replay(*marked._args, *pm._slices(np.array(rows), np.array(ids), *kept))), marked)
+refused(13, lambda: marked.replay([]), marked)
+assert all((a == 7).all() for a in kept)
+assert [a.size for a in by_rows.replay([])] == [0, 0]
+assert held(by_rows) == held(fresh())
+answers, tallies = by_rows.replay_list(rows, ids)
+for k, (name, *given) in enumerate(calls):
+    try:
+        getattr(one_by_one, name)(*given)
+        status = 0
+    except pm.Refused as e:
+        status = e.number
+    assert (status, status, one_by_one.tally) == (statuses[k], answers[k], tallies[k])
+assert held(by_rows) == held(one_by_one) and by_rows.tally == 68
+assert [a.tolist() for a in by_calls.replay(calls)] == [statuses, tallies.tolist()] and held(by_calls) == held(by_rows)
+say("replay", *answers, *tallies, *sheet_values(by_rows))
+
+# the answer to the text of the stored study is the stored listing
+stored = open(DATA + "study.txt", "rb").read()
+texts = [stored, stored[:-1], b"", stored * 10, stored[:5] + b"7" + stored[6:], stored[:-4] + b"2" + stored[-3:]]
+wanted = [open(DATA + "listing.txt", "rb").read()] + [b"refused\t%d\n" % n for n in (1, 1, 1, 3, 10)]
+assert [pm.answer(x) for x in texts] == wanted and pm.answer(bytearray(stored)) == wanted[0]
+say("answer", *map(len, wanted))
+
 # empty arrays: no triplets is a sheet, no grid points is an answer, an empty table or grid is refused
 empty = pm.Sheet(other(triplets=[]))
 empty.carry_on()
@@ -156,6 +194,11 @@ raises(TypeError, lambda: pm.Grid(2, [2, 2, 2], np.array(addresses) * 1.0, grid.
 raises(TypeError, lambda: other(points=[1, 2**53 + 1]))
 raises(TypeError, lambda: other(points=[1 + 0j]))
 raises(OverflowError, lambda: sheet.run_piece(2**63, 0, 0))
+raises(OverflowError, lambda: fresh().replay([("run_piece", 2**63, 0, 0)]))
+raises(TypeError, lambda: fresh().replay([("run_piece", 0, 0)]))
+raises(KeyError, lambda: fresh().replay([("run",)]))
+raises(ValueError, lambda: fresh().replay_list([1, 0, 0, 0, 0], []))
+raises(TypeError, lambda: pm.answer("text"))
 raises(ValueError, lambda: pm.Grid(2, [2, 2, 2], [0, 0, 0, 1], grid.gp_map))
 raises(ValueError, lambda: pm.Grid(2, [2, 2], addresses, grid.gp_map))
 raises(ValueError, lambda: other(f1=study.frequencies1[:11]))

@@ -45,7 +45,9 @@ use triplet_channels::TpType;
 use triplet_channels::TpTypeAnswer;
 use triplet_iw::WeightsAnswer;
 
+pub mod answering;
 mod choice;
+pub mod replaying;
 
 // A piece as a caller names it: any numbers.
 #[repr(C)]

@@ -42,6 +42,7 @@ pub struct Shape {
 
 /// The questions in words, by their numbers.
 pub const QUESTIONS: &[(u64, &str)] = &[
+    (1, "Is the study text at most 16,384 bytes, well formed, with at most 4,096 weights, channels counted?"),
     (2, "Are lattice entries finite, magnitude at most 2^30?"),
     (3, "Is the grid kind 1 or 2?"),
     (4, "Is each mesh number 1 to 128 (the grid index alone: 1 to 256)?"),
@@ -64,6 +65,11 @@ pub const QUESTIONS: &[(u64, &str)] = &[
 ];
 
 extern "C" {
+    pub fn pelmetsavory_answer(
+        text: *const u8,
+        text_len: usize,
+        out: *mut [u8; 118617],
+    ) -> usize;
     pub fn pelmetsavory_run_piece(
         shape: Shape,
         addresses: *const i64,
@@ -295,5 +301,37 @@ extern "C" {
     pub fn pelmetsavory_tally_add(
         tally: *mut u64,
         runs: u64,
+    ) -> u64;
+    pub fn pelmetsavory_replay(
+        shape: Shape,
+        addresses: *const i64,
+        addresses_len: usize,
+        gp_map: *const i64,
+        gp_map_len: usize,
+        relative_grid_address: *const i64,
+        relative_grid_address_len: usize,
+        frequencies1: *const f64,
+        frequencies1_len: usize,
+        frequencies2: *const f64,
+        frequencies2_len: usize,
+        frequency_points: *const f64,
+        frequency_points_len: usize,
+        triplets: *const i64,
+        triplets_len: usize,
+        weights: *mut f64,
+        weights_len: usize,
+        flags: *mut i8,
+        flags_len: usize,
+        marks: *mut u8,
+        marks_len: usize,
+        tally: *mut u64,
+        list: *const i64,
+        list_len: usize,
+        ids: *const i64,
+        ids_len: usize,
+        answers: *mut u64,
+        answers_len: usize,
+        tallies: *mut u64,
+        tallies_len: usize,
     ) -> u64;
 }

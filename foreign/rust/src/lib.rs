@@ -100,6 +100,35 @@ macro_rules! on_sheet {
     };
 }
 
+/// One call of a list.
+#[derive(Clone, Copy, Debug)]
+pub enum Call<'a> {
+    Run(Piece),
+    CarryOn,
+    Average { triplet: i64, ids1: &'a [i64], ids2: &'a [i64] },
+}
+
+/// Of a call in a replay: its answer, and the tally after it.
+pub type Replayed = (Result<(), Refused>, u64);
+
+/// A list of calls as numbers, six a call, and the ids that it names by their places.
+fn numbered(calls: &[Call]) -> (Vec<i64>, Vec<i64>) {
+    let (mut list, mut ids) = (Vec::new(), Vec::new());
+    for call in calls {
+        list.extend(match *call {
+            Call::Run(p) => [0, p.triplet, p.b1, p.b2, 0, 0],
+            Call::CarryOn => [1, 0, 0, 0, 0, 0],
+            Call::Average { triplet, ids1, ids2 } => {
+                let start = ids.len();
+                ids.extend(ids1.iter().chain(ids2));
+                let middle = (start + ids1.len()) as i64;
+                [2, triplet, start as i64, middle, middle, ids.len() as i64]
+            }
+        });
+    }
+    (list, ids)
+}
+
 /// Weights by channel, triplet, point, b1, b2; flags without the channel; marks by triplet, b1, b2; the tally of accepted runs.
 #[derive(Clone, Debug, Default, PartialEq)]
 pub struct Sheet {
@@ -129,6 +158,23 @@ impl Sheet {
 
     pub fn average_triplet(&mut self, y: &Study, triplet: i64, ids1: &[i64], ids2: &[i64]) -> Result<(), Refused> {
         on_sheet!(pelmetsavory_average_triplet, self, y, triplet, ids1.as_ptr(), ids1.len(), ids2.as_ptr(), ids2.len())
+    }
+
+    /// Replays a list of calls on a sheet with every piece open: of each its answer, and the tally after it.
+    pub fn replay(&mut self, y: &Study, calls: &[Call]) -> Result<Vec<Replayed>, Refused> {
+        let (list, ids) = numbered(calls);
+        let (mut answers, mut tallies) = (vec![0; calls.len()], vec![0; calls.len()]);
+        self.replay_list(y, &list, &ids, &mut answers, &mut tallies)?;
+        Ok(answers.into_iter().map(told).zip(tallies).collect())
+    }
+
+    /// The same by numbers, six a call: 0, triplet, b1, b2 runs a piece; 1 carries on; any other kind averages a triplet, with the start
+    /// and the end in `ids` of either id list.
+    pub fn replay_list(&mut self, y: &Study, list: &[i64], ids: &[i64], answers: &mut [u64], tallies: &mut [u64]) -> Result<(), Refused> {
+        on_sheet!(
+            pelmetsavory_replay, self, y, list.as_ptr(), list.len(), ids.as_ptr(), ids.len(),
+            answers.as_mut_ptr(), answers.len(), tallies.as_mut_ptr(), tallies.len()
+        )
     }
 
     /// Takes over the pieces that another sheet of the same study has computed and this one has open, and counts them.
@@ -317,4 +363,13 @@ pub fn num_channels(tp_type: i64) -> Result<usize, Refused> {
 /// Adds runs to a tally.
 pub fn tally_add(tally: &mut u64, runs: u64) -> Result<(), Refused> {
     told(unsafe { c::pelmetsavory_tally_add(tally, runs) })
+}
+
+/// What the program `weights` prints for the text of a study: its listing, or `refused`, a tab, the question's number and a newline.
+/// Needs less than 1.25 MiB of stack.
+pub fn answer(text: &[u8]) -> Vec<u8> {
+    let mut out = Box::new([0; 118617]);
+    // SAFETY: a live slice, and an array of the entry's length that nothing else holds.
+    let length = unsafe { c::pelmetsavory_answer(text.as_ptr(), text.len(), &mut *out) };
+    out[..length].to_vec()
 }

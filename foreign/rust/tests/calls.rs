@@ -186,9 +186,78 @@ fn every_entry_and_every_refusal() {
     assert_eq!(integration_weights_at_grid_points(&mut [], &[0.5], &small.table, &[], at, g, Function::J), Ok(()));
     assert_eq!(fill_neighboring_grid_points(&mut [], 0, &[], g), Err(Refused(7)));
 
+    replays(&y, &mut out);
+    answers(&stored, &mut out);
     if let Ok(path) = std::env::var("PELMETSAVORY_OUT") {
         std::fs::write(path, out).unwrap();
     }
+}
+
+const IDS: [i64; 6] = [0, 0, 2, 0, 1, 1];
+const LIST: [[i64; 6]; 14] = [
+    [0, 1, 1, 1, 9, 9], [0, 3, 0, 0, 9, 9], [2, 1, 0, 3, 3, 6], [0, 1, 1, 1, 9, 9], [1, 9, 9, 9, 9, 9], [2, 1, 0, 3, 3, 6], [0, 1, 0, 0, 9, 9],
+    [2, 1, 3, 6, 0, 3], [2, 0, 0, 2, 3, 6], [2, 0, -1, 3, 3, 6], [2, 2, 0, 3, 4, 7], [i64::MIN, 2, 3, 6, 0, 3], [1, 9, 9, 9, 9, 9], [2, i64::MIN, 0, 3, 3, 6],
+];
+const STATUSES: [u64; 14] = [0, 14, 18, 0, 0, 0, 15, 15, 17, 17, 17, 0, 0, 14];
+
+/// The call that six numbers name.
+fn named(c: &[i64; 6]) -> Call<'static> {
+    let part = |start: i64, end: i64| if 0 <= start && start <= end && end <= 6 { &IDS[start as usize..end as usize] } else { &[] };
+    match c[0] {
+        0 => Call::Run(piece(c[1], c[2], c[3])),
+        1 => Call::CarryOn,
+        _ => Call::Average { triplet: c[1], ids1: part(c[2], c[3]), ids2: part(c[4], c[5]) },
+    }
+}
+
+/// A list of calls in one call: in every bit what the same calls make one by one.
+fn replays(y: &Study, out: &mut String) {
+    let (mut answers, mut tallies) = ([7; 14], [7; 14]);
+    let mut s = Sheet { weights: vec![-7.25; 405], flags: vec![5; 135], marks: vec![0; 27], tally: 40 };
+    let (mut other, mut one_by_one, list) = (s.clone(), s.clone(), LIST.concat());
+    kept(12, &mut s, |s| s.replay_list(y, &list[1..], &IDS, &mut answers, &mut tallies));
+    kept(12, &mut s, |s| s.replay_list(y, &list[6..], &IDS, &mut answers, &mut tallies));
+    kept(12, &mut s, |s| s.replay_list(y, &list, &IDS, &mut answers[1..], &mut tallies[1..]));
+    kept(12, &mut s, |s| s.replay_list(y, &list, &IDS, &mut answers, &mut tallies[1..]));
+    s.marks[26] = 1;
+    kept(12, &mut s, |s| s.replay_list(y, &[], &IDS, &mut answers, &mut tallies));
+    kept(13, &mut s, |s| s.replay_list(y, &list, &IDS, &mut answers, &mut tallies));
+    kept(13, &mut s, |s| s.replay(y, &[]).map(|_| ()));
+    s.marks[26] = 0;
+    assert!(answers == [7; 14] && tallies == [7; 14]);
+    assert_eq!(s.replay(y, &[]), Ok(vec![]));
+    assert!(s.to_bytes() == other.to_bytes());
+
+    assert_eq!(s.replay_list(y, &list, &IDS, &mut answers, &mut tallies), Ok(()));
+    for (k, c) in LIST.iter().enumerate() {
+        let told = match named(c) {
+            Call::Run(p) => one_by_one.run_piece(y, p),
+            Call::CarryOn => one_by_one.carry_on(y),
+            Call::Average { triplet, ids1, ids2 } => one_by_one.average_triplet(y, triplet, ids1, ids2),
+        };
+        assert_eq!(told.map_or_else(|no| no.0, |()| 0), STATUSES[k]);
+        assert_eq!((answers[k], tallies[k]), (STATUSES[k], one_by_one.tally));
+    }
+    assert!(s.to_bytes() == one_by_one.to_bytes() && s.tally == 68);
+    let calls: Vec<Call> = LIST.iter().map(named).collect();
+    let told: Vec<u64> = other.replay(y, &calls).unwrap().iter().map(|(answer, _)| answer.map_or_else(|no| no.0, |()| 0)).collect();
+    assert!(told == STATUSES && other.to_bytes() == s.to_bytes());
+    say(out, "replay", vec![text(&answers), text(&tallies), hex(&s.weights), text(&s.flags), text(&s.marks), text(&[s.tally])]);
+}
+
+/// The answer to the text of the stored study is the stored listing.
+fn answers(listing: &str, out: &mut String) {
+    let study = std::fs::read(concat!(env!("CARGO_MANIFEST_DIR"), "/../data/study.txt")).unwrap();
+    let n = study.len();
+    let changed = |at: usize, byte: u8| {
+        let mut text = study.clone();
+        text[at] = byte;
+        answer(&text)
+    };
+    let all = [answer(&study), answer(&study[..n - 1]), answer(&[]), answer(&study.repeat(10)), changed(5, b'7'), changed(n - 4, b'2')];
+    let want = [listing, "refused\t1\n", "refused\t1\n", "refused\t1\n", "refused\t3\n", "refused\t10\n"];
+    assert!(all.iter().zip(want).all(|(got, want)| got == want.as_bytes()));
+    say(out, "answer", vec![text(&all.each_ref().map(Vec::len))]);
 }
 
 #[test]
