@@ -1,118 +1,66 @@
 #!/bin/sh
 # usage: bench/run.sh SOURCES
-# The load of request 13 through the proved `sheet::carry_on` and through the original Rust: checksums, time, instructions, growth.
-# SOURCES is the folder of the original's sources. README.md here says what is needed and printed.
+# The load of request 13 through the proved `sheet::carry_on` and through the original Rust: checksums, time, instructions, growth; and
+# one weight. SOURCES is the folder of the original's Rust sources. README.md here says what is printed.
 set -eu
-[ $# -ge 1 ] || { sed -n 2,4p "$0"; exit 2; }
-sources=$(cd "$1" && pwd)
-registry=${REGISTRY:-$(dpkg -L librust-rayon-dev | sed -n 's,/rayon-[^/]*$,,p' | head -n 1)}
+[ $# -eq 1 ] || { sed -n 2,4p "$0"; exit 2; }
 here=$(cd "$(dirname "$0")" && pwd)
-repo=$(cd "$here/.." && pwd)
-
 tmp=$(mktemp -d)
 trap 'rm -rf "$tmp"' EXIT
 trap 'exit 1' HUP INT TERM
-
-# The archive: the crates as they stand and one more that exports. What is proved already is not proved again.
-mkdir -p "$tmp/repo/target"
-cp -r "$repo/crates" "$repo/crates.txt" "$tmp/repo/"
-for d in rlib stamp; do
-  if [ -d "$repo/target/$d" ]; then cp -r "$repo/target/$d" "$tmp/repo/target/"; fi
-done
-mkdir -p "$tmp/repo/crates/export/src"
-cp "$here/export.rt.txt" "$tmp/repo/crates/export/src/lib.rt"
-echo export: triplet_study sheet_marks sheet_step sheet >> "$tmp/repo/crates.txt"
-(cd "$tmp/repo" && rt staticlib export) > "$tmp/rt.log" 2>&1 || { tail -n 40 "$tmp/rt.log"; exit 1; }
-archive=$tmp/repo/target/staticlib
-echo "archive: $(grep -c '^fn export::.*: proved$' "$tmp/rt.log") functions of the exporting crate proved"
-
-# The Rust: whole files, byte for byte.
-rust=$tmp/rust
-mkdir -p "$rust/src" "$rust/.cargo"
-for m in common funcs grgrid bzgrid tetrahedron_method triplet_iw triplet; do
-  for f in "$sources/src--src--$m.rs.txt" "$sources/src--$m.rs.txt" "$sources/$m.rs.txt" "$sources/$m.rs"; do
-    if [ -f "$f" ]; then break; fi
-  done
-  cp "$f" "$rust/src/$m.rs"
-  cmp "$f" "$rust/src/$m.rs"
-done
-cp "$here/main.rs" "$rust/src/main.rs"
-cat > "$rust/src/lib.rs" <<'EOF'
-#![allow(dead_code)]
-pub mod bzgrid;
-pub mod common;
-pub mod funcs;
-pub mod grgrid;
-pub mod tetrahedron_method;
-pub mod triplet;
-pub mod triplet_iw;
-EOF
-cat > "$rust/Cargo.toml" <<'EOF'
-[package]
-name = "phonors"
-version = "0.0.0"
-edition = "2021"
-publish = false
-[[bin]]
-name = "bench"
-path = "src/main.rs"
-[dependencies]
-rayon = "1"
-EOF
-cat > "$rust/.cargo/config.toml" <<EOF
-[source.crates-io]
-replace-with = "local"
-[source.local]
-directory = "$registry"
-[net]
-offline = true
-EOF
-(cd "$rust" && RUSTFLAGS="-L native=$archive" cargo build --release --offline --quiet)
-rustc --version
-program=$rust/target/release/bench
+"$here/../compare/build.sh" "$1" "$tmp" bench
+program=$tmp/bench
 export RAYON_NUM_THREADS=1
 
 "$program" compare || { echo 'DIFFERENCES'; exit 1; }
 
 if command -v valgrind > /dev/null; then counting=1; else counting=0; echo 'no valgrind: no instructions are counted'; fi
-# Instructions of the whole program for one call: count CALL LOAD
+# Instructions of the whole program: count WORDS
 count() {
-  valgrind --tool=callgrind --callgrind-out-file="$tmp/calls" "$program" work "$@" > /dev/null 2>&1
+  valgrind --tool=callgrind --callgrind-out-file="$tmp/calls" "$program" "$@" > /dev/null 2>&1
   sed -n 's/^totals: *//p' "$tmp/calls"
 }
-# Instructions of CALL less those of a program that stops before it: net CALL BEFORE LOAD
+# Instructions of CALL less those of a program that stops before it: net KIND CALL BEFORE WORDS
 net() {
   if [ $counting -eq 0 ]; then echo 0; return; fi
-  call=$1 before=$2
-  shift 2
-  all=$(count "$call" "$@")
-  less=$(count "$before" "$@")
+  kind=$1 call=$2 before=$3
+  shift 3
+  all=$(count "$kind" "$call" "$@")
+  less=$(count "$kind" "$before" "$@")
   echo $((all - less))
 }
-# Median milliseconds of a call in the last timing.
+# Median time of a call in the last timing.
 of() { sed -n "s/^$1 //p" "$tmp/time"; }
 # Milliseconds and instructions of both sides: sheet LOAD
 sheet() {
   "$program" time 11 "$@" > "$tmp/time"
-  theirs=$(net rust nothing "$@")
-  ours=$(net carry-on nothing "$@")
+  theirs=$(net work rust nothing "$@")
+  ours=$(net work carry-on nothing "$@")
   echo "$(of rust) $(of carry-on) $theirs $ours"
+}
+# A line with ratios to the Rust: beside WORDS TIME RUST'S INSTRUCTIONS RUST'S
+beside() {
+  echo "$2 $3 $4 $5" | awk -v words="$1" '{ printf "%-34s %10.2f %7.3f %12d %7.3f\n", words, $1, $1 / $2, $3, ($4 > 0 ? $3 / $4 : 0) }'
 }
 
 first=$(sheet 100 6 10 10)
-echo 'request 13: milliseconds (median of 11, the sides in turn) and instructions of one sheet, with their ratios to the Rust'
+read -r ms ours_ms n ours_n <<EOF
+$first
+EOF
+echo 'request 13, one sheet: milliseconds (median of 11, the sides in turn) and instructions, each with its ratio to the Rust'
+beside 'the Rust' "$ms" "$ms" "$n" "$n"
+beside 'carry-on (sheet::carry_on)' "$ours_ms" "$ms" "$ours_n" "$n"
+beside 'all triplets, no marks (triplet::)' "$(of all-triplets)" "$ms" "$(net work all-triplets nothing 100 6 10 10)" "$n"
 echo "$first" | awk '{
-  printf "%-10s %9.2f %7.3f %12d %7.3f\n", "the Rust", $1, 1, $3, 1
-  printf "%-10s %9.2f %7.3f %12d %7.3f\n", "carry-on", $2, $2 / $1, $4, ($3 > 0 ? $4 / $3 : 0)
   time = $2 <= 0.6 * $1 ? "met" : "NOT MET"
   instr = $3 == 0 ? "not counted" : $4 <= 0.6 * $3 ? "met" : "NOT MET"
-  printf "the aim, at most 0.6: time %s, instructions %s\n", time, instr
+  printf "the aim of carry-on, at most 0.6: time %s, instructions %s\n", time, instr
 }'
 
-echo 'one call on that sheet'
+echo 'one call on that sheet: milliseconds and instructions'
 while read -r call before words; do
-  ours=$(net "$call" "$before" 100 6 10 10)
-  printf '%-36s %9.4f %12d\n' "$words" "$(of "$call")" "$ours"
+  ours=$(net work "$call" "$before" 100 6 10 10)
+  printf '%-34s %10.4f %20d\n' "$words" "$(of "$call")" "$ours"
 done <<'EOF'
 named nothing a named run (run_piece)
 questions nothing the questions of every call alone
@@ -150,4 +98,21 @@ awk '
     printf "\n"
     last = $1; n = $2; ms = $4; instr = $6
   }' "$tmp/growth"
+
+echo 'one weight over 24 rows: nanoseconds (median of 11, the variants in turn) and instructions, each with its ratio to the Rust'
+"$program" weights 40960 11 > "$tmp/time"
+while read -r variant rust words; do
+  theirs=$(($(net weight "$rust" none 4096) / 4096))
+  ours=$(($(net weight "$variant" none 4096) / 4096))
+  beside "$words" "$(of "$variant")" "$(of "$rust")" "$ours" "$theirs"
+done <<'EOF'
+rust_i rust_i I the Rust
+given_i rust_i I rows as given
+entry_i rust_i I the entry, with its questions
+sorted_i rust_i I rows in order already
+rust_j rust_j J the Rust
+given_j rust_j J rows as given
+entry_j rust_j J the entry, with its questions
+sorted_j rust_j J rows in order already
+EOF
 echo 'no difference'

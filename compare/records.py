@@ -1,13 +1,19 @@
-"""What the generators share: numbers by chance, records in blocks, and questions to the oracle.
+"""What the scripts of the stored samples share: numbers by chance, records in blocks, and requests to the driver of the Rust.
 
 The stored input of a replaying program is a row of blocks, each a line of six digits (its count of bytes) and those bytes: lines of
 fields parted by one tab. The program's crate says what its records are.
 """
+import collections
 import math
+import os
 import struct
 import subprocess
+import sys
 
 BLOCK = 65536
+SEED = 20261115
+# Whole numbers at the ends of 64 bits.
+FAR = [2**63 - 1, -2**63, -2**63 + 1]
 
 
 class Rng:
@@ -46,6 +52,8 @@ class Rng:
         return xs
 
 
+# ---- floats and fields
+
 def bits(x):
     return struct.unpack(">Q", struct.pack(">d", x))[0]
 
@@ -58,6 +66,10 @@ def hexed(x):
     return "%016x" % bits(x)
 
 
+def unhexed(field):
+    return real(int(field, 16))
+
+
 def up(x):
     return math.nextafter(x, math.inf)
 
@@ -66,15 +78,23 @@ def down(x):
     return math.nextafter(x, -math.inf)
 
 
+def spelled(x):
+    return hexed(x) if isinstance(x, float) else str(x)
+
+
+def flat(rows):
+    return [x for row in rows for x in row]
+
+
 def line(*fields):
     """One record: a list stands for its count and its numbers, a float for the digits of its bits."""
     out = []
     for f in fields:
         if isinstance(f, (list, tuple)):
             out.append(str(len(f)))
-            out += [hexed(x) if isinstance(x, float) else str(x) for x in f]
+            out += map(spelled, f)
         else:
-            out.append(hexed(f) if isinstance(f, float) else str(f))
+            out.append(spelled(f))
     return "\t".join(out) + "\n"
 
 
@@ -93,22 +113,87 @@ def blocks(groups):
     return b"".join(b"%06d\n" % len(b) + b for b in out)
 
 
-def ask(oracle, requests):
-    """The oracle's answers to request lines, a list of lines for each request that asks."""
-    text = "".join(r + "\n" for r in requests)
-    out = subprocess.run([oracle, "batch"], input=text.encode(), stdout=subprocess.PIPE, check=True).stdout.decode()
-    answers, now = [], []
-    for l in out.split("\n")[:-1]:
-        if l == ".":
-            answers.append(now)
-            now = []
-        else:
-            now.append(l.split("\t"))
-    assert len(answers) == sum(r.startswith("?") for r in requests)
-    return answers
+# ---- the driver; its source says what it answers
+
+def request(tag, *fields):
+    return "\t".join([tag, *map(spelled, fields)])
+
+
+def grid_request(grid):
+    kind, mesh, addresses, gp_map = grid
+    return [request("grid", kind, *mesh), request("addr", *addresses), request("map", *gp_map)]
+
+
+def answers(driver, text):
+    """The driver's answers to all that the text asks, each as its bytes."""
+    out = subprocess.run([driver], input=text, stdout=subprocess.PIPE, check=True).stdout
+    return out.split(b".\n")[:-1]
+
+
+def ask(driver, requests):
+    """The answers to request lines, each a list of lines of fields."""
+    told = answers(driver, "".join(r + "\n" for r in requests).encode())
+    assert len(told) == sum(r.startswith("?") for r in requests)
+    return [[l.split("\t") for l in t.decode().splitlines()] for t in told]
+
+
+def tables(driver):
+    """The four built-in tables, each as 288 numbers."""
+    told = ask(driver, [request("?table", d) for d in range(4)])
+    out = [[int(x) for x in t[0]] for t in told]
+    assert [len(t) for t in out] == [288] * 4
+    return out
+
+
+# ---- a sample
+
+class Cases:
+    """Groups of records. A record that needs the Rust's answer is made by `finish`."""
+
+    def __init__(self, driver, names):
+        self.driver, self.names = driver, names
+        self.groups, self.requests, self.waiting = [], [], []
+        self.counts = {kind: [] for kind in names}
+        self.seen = collections.Counter()
+
+    def put(self, record):
+        self.groups[-1].append(record)
+
+    def wait(self, requests, make):
+        """A record that `make` makes of the answer."""
+        self.requests += ["reset"] + requests
+        self.waiting.append((self.groups[-1], len(self.groups[-1]), make))
+        self.put(None)
+
+    def finish(self):
+        for (group, i, make), answer in zip(self.waiting, ask(self.driver, self.requests), strict=True):
+            group[i] = make(answer)
+
+    def write(self, crate, seed):
+        """The program's input and output; what the sample holds is printed."""
+        self.finish()
+        expected = "".join(summary(name, self.counts[kind]) for kind, name in self.names.items())
+        write(crate, blocks(self.groups), expected.encode())
+        print("seed", seed)
+        print(expected, end="")
+        for what in sorted(self.seen):
+            print(what, self.seen[what])
 
 
 def summary(name, counts):
     """The line that a program prints for a kind of case; counts: refusal number (0 accepted) of each case."""
     refused = ["%d:%d" % (n, counts.count(n)) for n in range(1, 21) if n in counts]
     return "\t".join([name, "cases", str(len(counts)), "agree", str(len(counts)), "differ", "0", "refused"] + refused) + "\n"
+
+
+def write(crate, stdin, stdout):
+    for name, content in (("stdin", stdin), ("stdout", stdout)):
+        with open(os.path.join(crate, name), "wb") as f:
+            f.write(content)
+
+
+def main(doc, make):
+    """The command DRIVER CRATE_FOLDER [SEED] of a sample."""
+    if not 3 <= len(sys.argv) <= 4:
+        sys.exit(doc)
+    make(sys.argv[1], sys.argv[2], int(sys.argv[3]) if len(sys.argv) > 3 else SEED)

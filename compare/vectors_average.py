@@ -1,23 +1,21 @@
 #!/usr/bin/env python3
 """Makes the stored cases of the crate `vectors_average`: averages over degenerate sets.
 
-    vectors_average.py ORACLE CRATE_FOLDER [SEED]
+    vectors_average.py DRIVER CRATE_FOLDER [SEED]
 
-Writes CRATE_FOLDER/stdin and CRATE_FOLDER/stdout. The answer of an accepted call is the Rust's (ORACLE batch). Whether a call is
-accepted, and its number where it is not, comes from the questions of document 01 as written below; the Rust has no such checks.
-The answers are also compared with the plain definition below.
+Writes CRATE_FOLDER/stdin and CRATE_FOLDER/stdout. The answer of an accepted call is the Rust's. Whether a call is accepted, and its
+number where it is not, comes from the questions of document 01 as written below; the Rust has no such checks. The answers are also
+compared with the plain definition below.
 
 Every pattern of sets of 1 to 4 bands is paired with every other; of 5 to 8 bands each is met in either list. Some have 64 bands.
 """
 import math
-import sys
 
 import records
-from records import Rng, line, hexed, up
+from records import FAR, Rng, hexed, line, request, unhexed, up
+from scope import CHANNELS
 
-CHANNELS = {2: 2, 3: 3, 4: 1}
 LIMIT = 2.0**60
-FAR = [2**63 - 1, -2**63, -2**63 + 1]
 
 
 # ---- document 01: the questions and the definition
@@ -125,8 +123,14 @@ class Case:
 
     def requests(self):
         kind, points, bands, ids1, ids2, w, z = self.call
-        return (["reset"] + ["id1\t%d" % i for i in ids1] + ["id2\t%d" % i for i in ids2] + ["w\t" + hexed(x) for x in w]
-                + ["z\t%d" % x for x in z] + ["?avg\t%d\t%d" % (points, bands)])
+        return [request("id1", *ids1), request("id2", *ids2), request("w", *w), request("z", *z), request("?average", points, bands)]
+
+    def made(self, told):
+        """The record, of the Rust's answer, which is that of the definition."""
+        w, z = [unhexed(f) for f in told[0]], [int(f) for f in told[1]]
+        plain = averaged(self.call)
+        assert [hexed(x) for x in w] == [hexed(x) for x in plain[0]] and z == plain[1], self.call
+        return self.record((w, z))
 
     def record(self, answer):
         kind, points, bands, ids1, ids2, w, z = self.call
@@ -262,38 +266,25 @@ def refused(rng):
     return out
 
 
-def main():
-    oracle, folder = sys.argv[1], sys.argv[2]
-    seed = int(sys.argv[3]) if len(sys.argv) > 3 else 20261115
-    rng = Rng(seed)
-    cases = accepted(rng)
-    assert all(c.refusal == 0 for c in cases)
-    assert len(cases) >= 300
-    wrong = refused(rng)
-    assert all(c.refusal != 0 for c in wrong), [c.call[:5] for c in wrong if c.refusal == 0]
-    told = []
-    for k in range(0, len(cases), 50):
-        requests = [r for c in cases[k:k + 50] for r in c.requests()]
-        told += records.ask(oracle, requests)
-    answers = []
-    for c, lines in zip(cases, told):
-        w = [records.real(int(f, 16)) for tag, f in lines if tag == "w"]
-        z = [int(f) for tag, f in lines if tag == "z"]
-        plain = averaged(c.call)
-        assert [hexed(x) for x in w] == [hexed(x) for x in plain[0]] and z == plain[1], c.call
-        answers.append((w, z))
-    lines = [c.record(a) for c, a in zip(cases, answers)] + [c.record(None) for c in wrong]
-    with open(folder + "/stdin", "wb") as f:
-        f.write(records.blocks([[l] for l in lines]))
-    with open(folder + "/stdout", "w") as f:
-        f.write(records.summary("averages", [c.refusal for c in cases + wrong]))
-    print("seed", seed, "accepted", len(cases), "refused", len(wrong), "longest", max(map(len, lines)))
-    by_bands = {}
-    for c in cases:
-        by_bands[c.call[2]] = by_bands.get(c.call[2], 0) + 1
-    print("accepted by bands", sorted(by_bands.items()))
-    print("blocks of more than one entry", sum(1 for c in cases if len(sets(c.call[3])) < c.call[2] or len(sets(c.call[4])) < c.call[2]))
+def degenerate(case):
+    return any(len(sets(ids)) < len(ids) for ids in case.call[3:5])
+
+
+def make(driver, crate, seed):
+    rng, c = Rng(seed), records.Cases(driver, {"averages": "averages"})
+    right, wrong = accepted(rng), refused(rng)
+    assert all(case.refusal == 0 for case in right) and all(case.refusal for case in wrong)
+    for case in right + wrong:
+        c.groups.append([])
+        c.counts["averages"].append(case.refusal)
+        if case.refusal:
+            c.put(case.record(None))
+        else:
+            c.wait(case.requests(), case.made)
+            c.seen["%d bands" % case.call[2]] += 1
+            c.seen["with a set of more than one"] += degenerate(case)
+    c.write(crate, seed)
 
 
 if __name__ == "__main__":
-    main()
+    records.main(__doc__, make)

@@ -1,113 +1,41 @@
 #!/usr/bin/env python3
 """Makes the stored cases of the crate `vectors_grid`: grid index and neighbour calls.
 
-    vectors_grid.py ORACLE CRATE_FOLDER [SEED]
+    vectors_grid.py DRIVER CRATE_FOLDER [SEED]
 
-Writes CRATE_FOLDER/stdin and CRATE_FOLDER/stdout. The answer of an accepted call is the Rust's (ORACLE batch). Whether a call is
-accepted, and its number where it is not, comes from the questions of document 01 as written below; the Rust has no such checks.
-The answers are also compared with the plain definition below.
+Writes CRATE_FOLDER/stdin and CRATE_FOLDER/stdout. The answer of an accepted call is the Rust's. Whether a call is accepted, and its
+number where it is not, comes from the questions of document 01 (scope.py, and below); the Rust has no such checks. The answers are
+also compared with the plain definitions in scope.py.
 """
-import sys
-
 import records
-from records import Rng, line
-
-FAR = [2**63 - 1, -2**63, -2**63 + 1]
-
-
-# ---- document 01: the questions and the definitions
-
-def in_mesh(mesh, most):
-    return all(1 <= d <= most for d in mesh)
-
-
-def small(xs):
-    return all(-4096 <= x <= 4096 for x in xs)
-
-
-def map_sound(kind, n, p, gp_map):
-    if kind == 1:
-        return len(gp_map) >= 8 * n and all(0 <= v < p or v == 8 * n for v in gp_map[:8 * n])
-    return (len(gp_map) >= n + 1 and gp_map[0] == 0 and gp_map[n] == p
-            and all(gp_map[i] < gp_map[i + 1] for i in range(n)))
+from records import FAR, Rng, flat, grid_request, line, request
+from scope import found, grid_refusal, index, mesh_ok, place, size, small
 
 
 def refusal(grid, points, steps, room, many):
     """The number of the first question that is answered no, or 0."""
-    kind, mesh, addresses, gp_map = grid
-    if kind not in (1, 2):
-        return 3
-    if not in_mesh(mesh, 128):
-        return 4
-    n = mesh[0] * mesh[1] * mesh[2]
-    p = len(addresses) // 3
-    if len(addresses) % 3 or not n <= p <= 8 * n or not small(addresses):
-        return 5
-    if not map_sound(kind, n, p, gp_map):
-        return 6
+    no = grid_refusal(grid)
+    if no:
+        return no
     if not steps or len(steps) % 3 or not small(steps):
         return 7
     if many and len(points) > 65536:
         return 9
-    if not all(0 <= g < p for g in points):
+    if not all(0 <= g < len(grid[2]) // 3 for g in points):
         return 10
-    if room != len(points) * (len(steps) // 3):
-        return 12
-    return 0
-
-
-def index(a, d):
-    return a[2] % d[2] * d[0] * d[1] + a[1] % d[1] * d[0] + a[0] % d[0]
-
-
-SEEN = {}
-
-
-def seen(what):
-    SEEN[what] = SEEN.get(what, 0) + 1
-
-
-def neighbour(grid, point, step):
-    kind, d, addresses, gp_map = grid
-    a = [addresses[3 * point + k] + step[k] for k in range(3)]
-    n = d[0] * d[1] * d[2]
-    if kind == 1:
-        v = gp_map[index(a, [2 * x for x in d])]
-        seen("kind 1, missing" if v == 8 * n else "kind 1, found")
-        return index(a, d) if v == 8 * n else v
-    i = index(a, d)
-    lo, hi = gp_map[i], gp_map[i + 1]
-    if hi - lo == 1:
-        seen("kind 2, group of one")
-        return lo
-    for j in range(lo, hi):
-        if addresses[3 * j:3 * j + 3] == a:
-            seen("kind 2, first of a group" if j == lo else "kind 2, later in a group")
-            if any(addresses[3 * k:3 * k + 3] == a for k in range(j + 1, hi)):
-                seen("kind 2, equal addresses in a group")
-            return j
-    seen("kind 2, no match in a group")
-    return lo
+    return 0 if room == len(points) * (len(steps) // 3) else 12
 
 
 # ---- grids
-
-def place(i, d):
-    return [i % d[0], i // d[0] % d[1], i // (d[0] * d[1])]
-
 
 def image(r, a, d, far):
     return [x + d[k] * r.between(-far, far) for k, x in enumerate(a)]
 
 
-def flat(rows):
-    return [x for row in rows for x in row]
-
-
 def dense(r, d, style):
     """Kind 2: a group of addresses for each grid point."""
     groups = []
-    for i in range(d[0] * d[1] * d[2]):
+    for i in range(size(d)):
         c = place(i, d)
         near = r.shuffled([c[0] - d[0] * x, c[1] - d[1] * y, c[2] - d[2] * z] for x in (0, 1) for y in (0, 1) for z in (0, 1))
         if style == "one":
@@ -132,7 +60,7 @@ def dense(r, d, style):
 
 def sparse(r, d, style):
     """Kind 1: addresses, and a map on the doubled mesh."""
-    n = d[0] * d[1] * d[2]
+    n = size(d)
     rows = [place(i, d) for i in range(n)]
     if style == "far":
         rows = [image(r, c, d, 10) for c in rows]
@@ -184,41 +112,34 @@ def make_steps(r, style, table):
 
 # ---- cases
 
-class Cases:
-    def __init__(self, oracle):
-        self.oracle = oracle
-        self.groups = []
-        self.asked = []                                 # (group, place in it, kind of case, what follows the refusal)
-        self.requests = []
-        self.counts = {"index": [], "one": [], "many": []}
-
+class Cases(records.Cases):
     def group(self, grid=None):
         self.groups.append([line(2, grid[0], *grid[1], grid[2], grid[3])] if grid else [])
         self.grid = grid
 
-    def wait(self, request, make):
-        """A record that is made when the oracle has answered."""
-        self.requests += request
-        self.asked.append((len(self.groups) - 1, len(self.groups[-1]), make))
-        self.groups[-1].append(None)
-
     def index(self, address, mesh):
-        no = 0 if in_mesh(mesh, 256) else 4
+        no = 0 if mesh_ok(mesh, 256) else 4
         self.counts["index"].append(no)
         if no:
-            self.groups[-1].append(line(1, *address, *mesh, no, 0))
+            self.put(line(1, *address, *mesh, no, 0))
             return
         def made(answer):
-            value = int(answer[0][1])
+            value = int(answer[0][0])
             assert value == index(address, mesh), (address, mesh)
             return line(1, *address, *mesh, 0, value)
-        self.wait(["\t".join(["?index"] + [str(x) for x in list(address) + list(mesh)])], made)
+        self.wait([request("?index", *address, *mesh)], made)
 
-    def request(self, points, steps):
-        kind, mesh, addresses, gp_map = self.grid
-        triples = lambda tag, xs: ["%s\t%d\t%d\t%d" % (tag, *xs[i:i + 3]) for i in range(0, len(xs), 3)]
-        return (["reset", "grid\t%d\t%d\t%d\t%d" % (kind, *mesh)] + triples("addr", addresses) + ["map\t%d" % v for v in gp_map]
-                + triples("rel", steps) + ["gp\t%d" % g for g in points] + ["?neigh"])
+    def neighbours(self, points, steps, make):
+        """A record made of the neighbours that the Rust gives, which are those of the definition."""
+        grid = self.grid
+        def made(answer):
+            values = [int(x) for x in answer[0]]
+            triples = [steps[i:i + 3] for i in range(0, len(steps), 3)]
+            plain = [found(grid, g, s) for g in points for s in triples]
+            assert values == [v for v, _ in plain]
+            self.seen.update(way for _, way in plain)
+            return make(values)
+        self.wait(grid_request(grid) + [request("steps", *steps), request("gp", *points), "?neighbours"], made)
 
     def call(self, points, steps, room=None, many=True):
         """A neighbour call; room: length of the buffer, what it should be where not told."""
@@ -228,15 +149,9 @@ class Cases:
         self.counts["many" if many else "one"].append(no)
         head = (4, no, list(points)) if many else (3, no, points[0])
         if no or not points:
-            self.groups[-1].append(line(*head, steps, room, []))
-            return
-        def made(answer):
-            values = [int(x) for row in answer for x in row[2:]]
-            triples = [steps[i:i + 3] for i in range(0, len(steps), 3)]
-            assert values == [neighbour(grid, g, s) for g in points for s in triples]
-            return line(*head, steps, room, values)
-        grid = self.grid
-        self.wait(self.request(points, steps), made)
+            self.put(line(*head, steps, room, []))
+        else:
+            self.neighbours(points, steps, lambda values: line(*head, steps, room, values))
 
     def both(self, point, steps, room=None):
         self.call([point], steps, room, many=False)
@@ -248,21 +163,11 @@ class Cases:
             room = times
         no = refusal(self.grid, [point] * times, step, room, True)
         self.counts["many"].append(no)
+        head = (5, no, times, point, step, room)
         if no or not times:
-            self.groups[-1].append(line(5, no, times, point, step, room, 0))
-            return
-        def made(answer):
-            values = {int(row[2]) for row in answer}
-            assert len(answer) == times and values == {neighbour(grid, point, step)}
-            return line(5, 0, times, point, step, room, values.pop())
-        grid = self.grid
-        self.wait(self.request([point] * times, step), made)
-
-    def finish(self):
-        answers = records.ask(self.oracle, self.requests)
-        assert len(answers) == len(self.asked)
-        for (g, i, make), answer in zip(self.asked, answers):
-            self.groups[g][i] = make(answer)
+            self.put(line(*head, 0))
+        else:
+            self.neighbours([point] * times, step, lambda values: line(*head, values[0]))
 
 
 def index_cases(r, c):
@@ -341,7 +246,7 @@ def hurt_mesh(r, call):
 
 
 def hurt_addresses(r, call):
-    a, n = call["addresses"], call["mesh"][0] * call["mesh"][1] * call["mesh"][2]
+    a, n = call["addresses"], size(call["mesh"])
     k = r.below(6)
     if k == 0:
         a.pop()
@@ -359,7 +264,7 @@ def hurt_addresses(r, call):
 
 def hurt_map(r, call):
     m, mesh = call["map"], call["mesh"]
-    n, p = mesh[0] * mesh[1] * mesh[2], len(call["addresses"]) // 3
+    n, p = size(mesh), len(call["addresses"]) // 3
     k = r.below(5)
     if call["kind"] == 1:
         if k == 0:
@@ -492,31 +397,17 @@ def edge_cases(c):
         c.call([0, 1], step, room)
 
 
-def main():
-    oracle, crate = sys.argv[1], sys.argv[2]
-    seed = int(sys.argv[3]) if len(sys.argv) > 3 else 20261115
-    r = Rng(seed)
-    rows = records.ask(oracle, ["reset", "diag\t0", "?rga\t4"])[0]
-    table = [int(x) for row in rows if row[1] == "0" for x in row[2:]]
-    assert len(table) == 288
-    c = Cases(oracle)
+NAMES = {"index": "grid index", "one": "neighbours of one point", "many": "neighbours of many points"}
+
+
+def make(driver, crate, seed):
+    r, c = Rng(seed), Cases(driver, NAMES)
     index_cases(r, c)
-    accepted_cases(r, c, table)
+    accepted_cases(r, c, records.tables(driver)[0])
     refused_cases(r, c)
     edge_cases(c)
-    c.finish()
-    data = records.blocks(c.groups)
-    expected = "".join(records.summary(name, c.counts[k]) for k, name in
-                       (("index", "grid index"), ("one", "neighbours of one point"), ("many", "neighbours of many points")))
-    with open(crate + "/stdin", "wb") as f:
-        f.write(data)
-    with open(crate + "/stdout", "w") as f:
-        f.write(expected)
-    print("seed", seed, "bytes", len(data))
-    print(expected, end="")
-    for what in sorted(SEEN):
-        print(what, SEEN[what])
+    c.write(crate, seed)
 
 
 if __name__ == "__main__":
-    main()
+    records.main(__doc__, make)

@@ -1,61 +1,40 @@
 #!/usr/bin/env python3
 """Makes the stored cases of the crate `vectors_gridpoints`: weights at grid points, normal triplets, copies of a neighbour table.
 
-    vectors_gridpoints.py ORACLE CRATE_FOLDER [SEED]
+    vectors_gridpoints.py DRIVER CRATE_FOLDER [SEED]
 
-Writes CRATE_FOLDER/stdin and CRATE_FOLDER/stdout. The answer of an accepted call is the Rust's (ORACLE batch). Whether a call is
-accepted, and its number where it is not, comes from the questions of document 01 as written below; the Rust has no such checks.
-Normal triplets and copies are also compared with the plain definitions below.
+Writes CRATE_FOLDER/stdin and CRATE_FOLDER/stdout. The answer of an accepted call is the Rust's. Whether a call is accepted, and its
+number where it is not, comes from the questions of document 01 (scope.py, and below); the Rust has no such checks. Normal triplets and
+copies are also compared with the plain definitions below.
 """
-import sys
-
 import records
 import vectors_grid as grids
-from records import Rng, bits, down, hexed, line, up
-from vectors_grid import FAR, flat, in_mesh, make_grid, map_sound, small
+from records import FAR, Rng, down, flat, grid_request, line, request, unhexed, up
+from scope import (GREATEST, GREATEST_POINT, LEAST, LEAST_POINT, frequency_ok, grid_refusal, point_ok, small, table_ok)
+from vectors_grid import make_grid
 
-LEAST, GREATEST = 2.0**-600, 2.0**30
-LEAST_POINT, GREATEST_POINT = 2.0**-660, 2.0**31
 NAN, INFINITE = float("nan"), float("inf")
 
 
 # ---- document 01: the questions
 
-def in_range(x, low, high):
-    return x == 0 or low <= abs(x) <= high
-
-
-def table_ok(table):
-    return len(table) in (288, 576, 864, 1152) and small(table)
-
-
 def refusal(call):
     """The number of the first question that is answered no, or 0."""
-    kind, mesh, addresses, gp_map = call["grid"]
-    if kind not in (1, 2):
-        return 3
-    if not in_mesh(mesh, 128):
-        return 4
-    n = mesh[0] * mesh[1] * mesh[2]
-    p = len(addresses) // 3
-    if len(addresses) % 3 or not n <= p <= 8 * n or not small(addresses):
-        return 5
-    if not map_sound(kind, n, p, gp_map):
-        return 6
+    no = grid_refusal(call["grid"])
+    if no:
+        return no
     if not table_ok(call["table"]):
         return 7
+    p = len(call["grid"][2]) // 3
     bands, points, gps, r = call["bands"], call["points"], call["gps"], call["r"]
     if not 1 <= bands <= 64 or not 1 <= len(points) <= 1024 or len(gps) > 65536:
         return 9
     if not all(0 <= g < p for g in gps):
         return 10
-    if (r < 1 or len(call["freq"]) != r * bands or not all(in_range(x, LEAST, GREATEST) for x in call["freq"])
-            or len(call["ir"]) != p or not all(0 <= v < r for v in call["ir"])
-            or not all(in_range(x, LEAST_POINT, GREATEST_POINT) for x in points)):
+    if (r < 1 or len(call["freq"]) != r * bands or not all(map(frequency_ok, call["freq"]))
+            or len(call["ir"]) != p or not all(0 <= v < r for v in call["ir"]) or not all(map(point_ok, points))):
         return 11
-    if call["room"] != len(gps) * len(points) * bands:
-        return 12
-    return 0
+    return 0 if call["room"] == len(gps) * len(points) * bands else 12
 
 
 def normal_refusal(triplet, addresses):
@@ -78,44 +57,21 @@ def copies_refusal(table, tp_type, room):
 
 # ---- cases
 
-class Cases:
-    def __init__(self, oracle):
-        self.oracle = oracle
-        self.groups = []
-        self.asked = []
-        self.requests = []
-        self.counts = {"weights": [], "normal": [], "copies": []}
-        self.accepted = {}
-
-    def wait(self, request, make):
-        """A record that is made when the oracle has answered."""
-        self.requests += request
-        self.asked.append((len(self.groups) - 1, len(self.groups[-1]), make))
-        self.groups[-1].append(None)
-
+class Cases(records.Cases):
     def request(self, call, which):
-        kind, mesh, addresses, gp_map = call["grid"]
-        t = call["table"]
-        return (["reset", "grid\t%d\t%d\t%d\t%d" % (kind, *mesh)]
-                + ["addr\t%d\t%d\t%d" % tuple(addresses[i:i + 3]) for i in range(0, len(addresses), 3)]
-                + ["map\t%d" % v for v in gp_map]
-                + ["row\t" + "\t".join(str(x) for x in t[i:i + 12]) for i in range(0, len(t), 12)]
-                + ["freq\t" + hexed(x) for x in call["freq"]] + ["gmap\t%d" % v for v in call["ir"]]
-                + ["point\t" + hexed(x) for x in call["points"]] + ["gp\t%d" % g for g in call["gps"]]
-                + ["?gpw\t%s\t%d" % ("IJ"[which], call["bands"])])
+        return grid_request(call["grid"]) + [
+            request("row", *call["table"]), request("freq", *call["freq"]), request("irmap", *call["ir"]), request("point", *call["points"]),
+            request("gp", *call["gps"]), request("?gridpoints", "IJ"[which], call["bands"])]
 
     def head(self, call):
         kind, mesh, addresses, gp_map = call["grid"]
         self.groups.append([line(1, kind, *mesh, addresses, gp_map), line(2, call["table"], call["ir"], call["freq"], call["points"])])
 
     def met(self, call, which, weights):
-        for what in ("kind %d" % call["grid"][0], "%d rows" % (len(call["table"]) // 12), "IJ"[which],
-                     "kind %d, %d rows, %s" % (call["grid"][0], len(call["table"]) // 12, "IJ"[which])):
-            self.accepted[what] = self.accepted.get(what, 0) + 1
-        for x in weights:
-            assert x == x, "a weight that is judged by the definition alone"
-            what = "weight 0" if x == 0 else "weight other than 0"
-            self.accepted[what] = self.accepted.get(what, 0) + 1
+        assert all(x == x for x in weights), "a weight that is judged by the definition alone"
+        self.seen["kind %d, %d rows, %s" % (call["grid"][0], len(call["table"]) // 12, "IJ"[which])] += 1
+        self.seen["weight 0"] += weights.count(0.0)
+        self.seen["weight other than 0"] += len(weights) - weights.count(0.0)
 
     def weights(self, call, functions=(0, 1)):
         """A call, with I and with J."""
@@ -129,12 +85,11 @@ class Cases:
             if no or not call["gps"]:
                 if not no:
                     self.met(call, which, [])
-                self.groups[-1].append(line(*start, []))
+                self.put(line(*start, []))
                 continue
             def made(answer, start=start, which=which):
-                places = [(int(row[1]), int(row[2]), int(row[3])) for row in answer]
-                assert places == [(g, x, b) for g in range(len(call["gps"])) for x in range(len(call["points"])) for b in range(call["bands"])]
-                values = [records.real(int(row[4], 16)) for row in answer]
+                values = [unhexed(x) for x in answer[0]]
+                assert len(values) == call["room"]
                 self.met(call, which, values)
                 return line(*start, values)
             self.wait(self.request(call, which), made)
@@ -148,12 +103,12 @@ class Cases:
         self.counts["weights"].append(no)
         start = (4, no, which, call["r"], times, g, call["room"])
         if no or not times:
-            self.groups[-1].append(line(*start, 0.0))
+            self.put(line(*start, 0.0))
             return
         def made(answer):
-            values = {row[4] for row in answer}
-            assert len(answer) == times and len(values) == 1
-            value = records.real(int(values.pop(), 16))
+            values = set(answer[0])
+            assert len(answer[0]) == times and len(values) == 1
+            value = unhexed(values.pop())
             self.met(call, which, [value])
             return line(*start, value)
         self.wait(self.request(call, which), made)
@@ -162,17 +117,15 @@ class Cases:
         no = normal_refusal(triplet, addresses)
         self.counts["normal"].append(no)
         if no:
-            self.groups[-1].append(line(5, no, *triplet, list(addresses), 0))
+            self.put(line(5, no, *triplet, list(addresses), 0))
             return
         expected = all(sum(addresses[3 * g + k] for g in triplet) == 0 for k in range(3))
         def made(answer):
-            value = int(answer[0][1])
+            value = int(answer[0][0])
             assert value == int(expected)
-            what = "normal" if value else "not normal"
-            self.accepted[what] = self.accepted.get(what, 0) + 1
+            self.seen["normal" if value else "not normal"] += 1
             return line(5, 0, *triplet, list(addresses), value)
-        self.wait(["reset"] + ["addr\t%d\t%d\t%d" % tuple(addresses[i:i + 3]) for i in range(0, len(addresses), 3)]
-                  + ["?isn\t%d\t%d\t%d" % tuple(triplet)], made)
+        self.wait([request("addr", *addresses), request("?normal", *triplet)], made)
 
     def copies(self, table, tp_type, room=None):
         if room is None:
@@ -181,22 +134,14 @@ class Cases:
         self.counts["copies"].append(no)
         self.groups.append([])
         if no:
-            self.groups[-1].append(line(6, no, tp_type, list(table), room, []))
+            self.put(line(6, no, tp_type, list(table), room, []))
             return
         def made(answer):
-            values = [int(x) for copy in "01" for row in answer if row[1] == copy for x in row[2:]]
+            values = [int(x) for copy in answer for x in copy]
             assert values == table + [x if tp_type == 4 else -x for x in table]
-            what = "%d rows, type %d" % (len(table) // 12, tp_type)
-            self.accepted[what] = self.accepted.get(what, 0) + 1
+            self.seen["%d rows, type %d" % (len(table) // 12, tp_type)] += 1
             return line(6, 0, tp_type, list(table), room, values)
-        self.wait(["reset"] + ["row\t" + "\t".join(str(x) for x in table[i:i + 12]) for i in range(0, len(table), 12)]
-                  + ["?rga\t%d" % tp_type], made)
-
-    def finish(self):
-        answers = records.ask(self.oracle, self.requests)
-        assert len(answers) == len(self.asked)
-        for (g, i, make), answer in zip(self.asked, answers):
-            self.groups[g][i] = make(answer)
+        self.wait([request("row", *table), request("?copies", tp_type)], made)
 
 
 # ---- weights at grid points
@@ -230,8 +175,8 @@ def make_points(r, freq, count):
     low, high = min(freq), max(freq)
     mixed = low + (high - low) * r.unit()
     made = [low, high, r.pick(freq), r.pick(freq), mixed, up(high), down(low), low - 1.0, high + 1.0, (low + high) / 2, 0.0, -0.0]
-    made = [x if in_range(x, LEAST_POINT, GREATEST_POINT) else 0.0 for x in made]
-    return [mixed if in_range(mixed, LEAST_POINT, GREATEST_POINT) else low] + r.shuffled(made)[:count - 1]
+    made = [x if point_ok(x) else 0.0 for x in made]
+    return [mixed if point_ok(mixed) else low] + r.shuffled(made)[:count - 1]
 
 
 def make_call(r, tables, kind, rows, style, mesh=None, bands=None, points=None, gps=None, table="built-in"):
@@ -445,33 +390,17 @@ def copies_cases(r, c, tables):
     c.copies(table[:-1], 5, 0)
 
 
-def main():
-    oracle, crate = sys.argv[1], sys.argv[2]
-    seed = int(sys.argv[3]) if len(sys.argv) > 3 else 20261115
-    r = Rng(seed)
-    tables = []
-    for d in range(4):
-        rows = records.ask(oracle, ["reset", "diag\t%d" % d, "?rga\t4"])[0]
-        tables.append([int(x) for row in rows if row[1] == "0" for x in row[2:]])
-        assert len(tables[-1]) == 288
-    c = Cases(oracle)
+NAMES = {"weights": "weights at grid points", "normal": "normal triplets", "copies": "copies of a table"}
+
+
+def make(driver, crate, seed):
+    r, c, tables = Rng(seed), Cases(driver, NAMES), records.tables(driver)
     accepted_cases(r, c, tables)
     refused_cases(r, c, tables)
     normal_cases(r, c)
     copies_cases(r, c, tables)
-    c.finish()
-    data = records.blocks(c.groups)
-    expected = "".join(records.summary(name, c.counts[k]) for k, name in
-                       (("weights", "weights at grid points"), ("normal", "normal triplets"), ("copies", "copies of a table")))
-    with open(crate + "/stdin", "wb") as f:
-        f.write(data)
-    with open(crate + "/stdout", "w") as f:
-        f.write(expected)
-    print("seed", seed, "bytes", len(data))
-    print(expected, end="")
-    for what in sorted(c.accepted):
-        print(what, c.accepted[what])
+    c.write(crate, seed)
 
 
 if __name__ == "__main__":
-    main()
+    records.main(__doc__, make)

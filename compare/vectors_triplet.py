@@ -1,23 +1,19 @@
 #!/usr/bin/env python3
 """Makes the stored cases of the crate `vectors_triplet`: weights and flags of all triplets of a study, and of one triplet.
 
-    vectors_triplet.py ORACLE CRATE_FOLDER [SEED]
+    vectors_triplet.py DRIVER CRATE_FOLDER [SEED]
 
-Writes CRATE_FOLDER/stdin and CRATE_FOLDER/stdout. The answer of an accepted call is the Rust's (ORACLE batch, `?listing`). Whether a
-call is accepted, and its number where it is not, comes from the questions of document 01 as written below; the Rust has no such
-checks. The flags are also compared with the plain definition below. The answer for one triplet is its part of the Rust's call for all
-triplets: that call runs the Rust's function for one triplet on each.
+Writes CRATE_FOLDER/stdin and CRATE_FOLDER/stdout. The answer of an accepted call is the Rust's listing. Whether a call is accepted,
+and its number where it is not, comes from the questions of document 01 (scope.py, and below); the Rust has no such checks. The flags
+are also compared with the plain definition below. The answer for one triplet is its part of the Rust's call for all triplets: that
+call runs the Rust's function for one triplet on each.
 """
-import sys
-
 import records
 import vectors_grid as grids
-from records import Rng, down, hexed, line, up
-from vectors_grid import FAR, in_mesh, make_grid, map_sound, neighbour, small
-from vectors_gridpoints import (GREATEST, GREATEST_POINT, INFINITE, LEAST, LEAST_POINT, NAN, STYLES, hurt_grid, hurt_table, in_range,
-                                make_frequencies, make_table, table_ok)
-
-CHANNELS = {2: 2, 3: 3, 4: 1}
+from records import FAR, Rng, down, grid_request, line, request, unhexed, up
+from scope import (CHANNELS, GREATEST, GREATEST_POINT, LEAST, LEAST_POINT, frequency_ok, grid_refusal, neighbour, point_ok, table_ok)
+from vectors_grid import make_grid
+from vectors_gridpoints import INFINITE, NAN, STYLES, hurt_grid, hurt_table, make_frequencies, make_table
 
 
 # ---- document 01: the questions
@@ -29,33 +25,24 @@ def count_of(triplets):
 
 def refusal(call):
     """The number of the first question that is answered no, or 0."""
-    kind, mesh, addresses, gp_map = call["grid"]
-    if kind not in (1, 2):
-        return 3
-    if not in_mesh(mesh, 128):
-        return 4
-    n = mesh[0] * mesh[1] * mesh[2]
-    p = len(addresses) // 3
-    if len(addresses) % 3 or not n <= p <= 8 * n or not small(addresses):
-        return 5
-    if not map_sound(kind, n, p, gp_map):
-        return 6
+    no = grid_refusal(call["grid"])
+    if no:
+        return no
     if not table_ok(call["table"]):
         return 7
-    if call["type"] not in (2, 3, 4):
+    if call["type"] not in CHANNELS:
         return 8
+    p = len(call["grid"][2]) // 3
     b1, b2, points, triplets = call["b1"], call["b2"], call["points"], call["triplets"]
     if not 1 <= b1 <= 64 or not 1 <= b2 <= 64 or not 1 <= len(points) <= 1024 or count_of(triplets) > 65536:
         return 9
     if len(triplets) % 3 or not all(0 <= g < p for g in triplets):
         return 10
-    if (len(call["f1"]) != p * b1 or len(call["f2"]) != p * b2 or not all(in_range(x, LEAST, GREATEST) for x in call["f1"] + call["f2"])
-            or not all(in_range(x, LEAST_POINT, GREATEST_POINT) for x in points)):
+    if (len(call["f1"]) != p * b1 or len(call["f2"]) != p * b2 or not all(map(frequency_ok, call["f1"] + call["f2"]))
+            or not all(map(point_ok, points))):
         return 11
     cells = len(triplets) // 3 * len(points) * b1 * b2
-    if call["room"] != CHANNELS[call["type"]] * cells or call["places"] != cells:
-        return 12
-    return 0
+    return 0 if (call["room"], call["places"]) == (CHANNELS[call["type"]] * cells, cells) else 12
 
 
 # ---- document 01: corner values, boxes, flags
@@ -93,41 +80,20 @@ def with_points(r, call, count):
     far = max(abs(x) for x in call["f1"] + call["f2"])
     made += [-3 * far - 1.0, 3 * far + 1.0]
     mixed = low + (high - low) * r.unit()
-    made = [x for x in [mixed] + r.shuffled(made) if in_range(x, LEAST_POINT, GREATEST_POINT)]
+    made = [x for x in [mixed] + r.shuffled(made) if point_ok(x)]
     call["points"] = (made * count)[:count]
     return call
 
 
 # ---- cases
 
-class Cases:
-    def __init__(self, oracle):
-        self.oracle = oracle
-        self.groups = []
-        self.asked = []
-        self.requests = []
-        self.counts = {"all": [], "one": []}
-        self.accepted = {}
-
-    def seen(self, what, n=1):
-        if n:
-            self.accepted[what] = self.accepted.get(what, 0) + n
-
-    def ask(self, call, make):
-        """Records, one for each that make gives, once the oracle has answered."""
-        kind, mesh, addresses, gp_map = call["grid"]
-        t = call["table"]
-        self.requests += (["reset", "grid\t%d\t%d\t%d\t%d" % (kind, *mesh)]
-                          + ["addr\t%d\t%d\t%d" % tuple(addresses[i:i + 3]) for i in range(0, len(addresses), 3)]
-                          + ["map\t%d" % v for v in gp_map]
-                          + ["row\t" + "\t".join(str(x) for x in t[i:i + 12]) for i in range(0, len(t), 12)]
-                          + ["type\t%d" % call["type"], "bands\t%d\t%d" % (call["b1"], call["b2"])]
-                          + ["f1\t" + hexed(x) for x in call["f1"]] + ["f2\t" + hexed(x) for x in call["f2"]]
-                          + ["point\t" + hexed(x) for x in call["points"]]
-                          + ["triplet\t%d\t%d\t%d" % tuple(call["triplets"][i:i + 3]) for i in range(0, len(call["triplets"]), 3)]
-                          + ["?listing"])
-        self.asked.append((len(self.groups) - 1, len(self.groups[-1]), make))
-        self.groups[-1].append(None)
+class Cases(records.Cases):
+    def listing(self, call, make):
+        """A record made of the Rust's listing."""
+        self.wait(grid_request(call["grid"])
+                  + [request("row", *call["table"]), request("type", call["type"]), request("bands", call["b1"], call["b2"]),
+                     request("f1", *call["f1"]), request("f2", *call["f2"]), request("point", *call["points"]),
+                     request("triplet", *call["triplets"]), "?listing"], make)
 
     def head(self, call):
         kind, mesh, addresses, gp_map = call["grid"]
@@ -137,10 +103,10 @@ class Cases:
     def met(self, call, rows):
         """What the accepted call is a case of; the flags by the definition."""
         kind, rows24, type_ = call["grid"][0], len(call["table"]) // 12, call["type"]
-        self.seen("type %d, kind %d, %d rows" % (type_, kind, rows24))
-        self.seen("no triplet", not call["triplets"])
-        self.seen("several bands", call["b1"] > 1 and call["b2"] > 1)
-        self.seen("negative frequencies, type %d" % type_, min(call["f1"] + call["f2"]) < 0)
+        self.seen["type %d, kind %d, %d rows" % (type_, kind, rows24)] += 1
+        self.seen["no triplet"] += not call["triplets"]
+        self.seen["several bands"] += call["b1"] > 1 and call["b2"] > 1
+        self.seen["negative frequencies, type %d" % type_] += min(call["f1"] + call["f2"]) < 0
         at = {}
         for t in range(len(call["triplets"]) // 3):
             c1, c2 = corners(call, t)
@@ -151,14 +117,14 @@ class Cases:
             bs, w = at[t, b1, b2], call["points"][x]
             assert flag == (0 if any(low <= w <= high for low, high in bs) else 1), (t, x, b1, b2)
             assert all(v == v for v in weights), "a weight that is judged by the definition alone"
-            self.seen("flag %d" % flag)
-            self.seen("flag 0 and every weight 0", flag == 0 and not any(weights))
-            self.seen("weights other than 0", sum(1 for v in weights if v))
-            self.seen("negative weights", sum(1 for v in weights if v < 0))
-            self.seen("point on a box's top", any(w == high for _, high in bs))
-            self.seen("point on a box's bottom", any(w == low for low, _ in bs))
-            self.seen("point one step above a box", any(w == up(high) for _, high in bs))
-            self.seen("point one step below a box", any(w == down(low) for low, _ in bs))
+            self.seen["flag %d" % flag] += 1
+            self.seen["flag 0 and every weight 0"] += flag == 0 and not any(weights)
+            self.seen["weights other than 0"] += sum(1 for v in weights if v)
+            self.seen["negative weights"] += sum(1 for v in weights if v < 0)
+            self.seen["point on a box's top"] += any(w == high for _, high in bs)
+            self.seen["point on a box's bottom"] += any(w == low for low, _ in bs)
+            self.seen["point one step above a box"] += any(w == up(high) for _, high in bs)
+            self.seen["point one step below a box"] += any(w == down(low) for low, _ in bs)
 
     def weights(self, call, one=True):
         """A call for all triplets, and one for the last of them."""
@@ -173,14 +139,14 @@ class Cases:
         if no or not call["triplets"]:
             if not no:
                 self.met(call, [])
-            self.groups[-1].append(line(*start, [], []))
+            self.put(line(*start, [], []))
             return
         last = len(call["triplets"]) // 3 - 1
         each = cells // (last + 1)
         if one:
             self.counts["one"].append(0)
         def made(answer):
-            rows = [(*map(int, row[:4]), int(row[4]), [records.real(int(x, 16)) for x in row[5:]]) for row in answer[1:]]
+            rows = [(*map(int, row[:4]), int(row[4]), [unhexed(x) for x in row[5:]]) for row in answer[1:]]
             assert [row[:4] for row in rows] == [(t, x, b1, b2) for t in range(last + 1) for x in range(len(call["points"]))
                                                  for b1 in range(call["b1"]) for b2 in range(call["b2"])]
             self.met(call, rows)
@@ -190,7 +156,7 @@ class Cases:
             if one:
                 out += line(4, 0, call["triplets"][3 * last:], 3, ch * each, each, *both(rows[last * each:]))
             return out
-        self.ask(call, made)
+        self.listing(call, made)
 
     def one(self, call):
         """A call for one triplet that is refused."""
@@ -200,7 +166,7 @@ class Cases:
             return False
         self.counts["one"].append(no)
         self.head(call)
-        self.groups[-1].append(line(4, no, call["triplets"], 3, call["room"], call["places"], [], []))
+        self.put(line(4, no, call["triplets"], 3, call["room"], call["places"], [], []))
         return True
 
     def equal(self, call, count, number, room=None, places=None):
@@ -212,21 +178,15 @@ class Cases:
         self.head(call)
         start = (3, no, [number], count, call["room"], call["places"])
         if no or not count:
-            self.groups[-1].append(line(*start, [], []))
+            self.put(line(*start, [], []))
             return
         def made(answer):
             values = {(row[5], row[4]) for row in answer[1:]}
             assert len(answer) == count // 3 + 1 and len(values) == 1
             w, flag = values.pop()
-            self.seen("triplets that are all one", count // 3)
-            return line(*start, [records.real(int(w, 16))], [int(flag)])
-        self.ask(call, made)
-
-    def finish(self):
-        answers = records.ask(self.oracle, self.requests)
-        assert len(answers) == len(self.asked)
-        for (g, i, make), answer in zip(self.asked, answers):
-            self.groups[g][i] = make(answer)
+            self.seen["triplets that are all one"] += count // 3
+            return line(*start, [unhexed(w)], [int(flag)])
+        self.listing(call, made)
 
 
 MESHES = [(1, 1, 1), (2, 1, 1), (2, 2, 1), (2, 2, 2), (3, 2, 1), (3, 3, 3)]
@@ -380,31 +340,15 @@ def refused_cases(r, c, tables):
         c.weights(call)
 
 
-def main():
-    oracle, crate = sys.argv[1], sys.argv[2]
-    seed = int(sys.argv[3]) if len(sys.argv) > 3 else 20261115
-    r = Rng(seed)
-    tables = []
-    for d in range(4):
-        rows = records.ask(oracle, ["reset", "diag\t%d" % d, "?rga\t4"])[0]
-        tables.append([int(x) for row in rows if row[1] == "0" for x in row[2:]])
-        assert len(tables[-1]) == 288
-    c = Cases(oracle)
+NAMES = {"all": "weights of all triplets", "one": "weights of one triplet"}
+
+
+def make(driver, crate, seed):
+    r, c, tables = Rng(seed), Cases(driver, NAMES), records.tables(driver)
     accepted_cases(r, c, tables)
     refused_cases(r, c, tables)
-    c.finish()
-    data = records.blocks(c.groups)
-    expected = "".join(records.summary(name, c.counts[k]) for k, name in
-                       (("all", "weights of all triplets"), ("one", "weights of one triplet")))
-    with open(crate + "/stdin", "wb") as f:
-        f.write(data)
-    with open(crate + "/stdout", "w") as f:
-        f.write(expected)
-    print("seed", seed, "bytes", len(data))
-    print(expected, end="")
-    for what in sorted(c.accepted):
-        print(what, c.accepted[what])
+    c.write(crate, seed)
 
 
 if __name__ == "__main__":
-    main()
+    records.main(__doc__, make)

@@ -1,36 +1,29 @@
 #!/usr/bin/env python3
 """Makes the stored cases of the crate `vectors_weight`: sort, weights, choice of the table, tables, exact integrals, products.
 
-    vectors_weight.py ORACLE CRATE_FOLDER [SEED]
+    vectors_weight.py DRIVER CRATE_FOLDER [SEED]
 
-Writes CRATE_FOLDER/stdin and CRATE_FOLDER/stdout. The answer of an accepted call is the Rust's (ORACLE batch). Whether a call is
-accepted, and its number where it is not, comes from the questions of document 01 as written below. The exact integrals come from
-neither: they are divided differences in fractions, and the Rust's own answers are held against them too. Nor do the products, which
-the oracle does not tell: they are the Rust's three products and two sums in Python's floats, which are f64.
+Writes CRATE_FOLDER/stdin and CRATE_FOLDER/stdout. The answer of an accepted call is the Rust's. Whether a call is accepted, and its
+number where it is not, comes from the questions of document 01 (scope.py, and below). The exact integrals come from neither: they are
+divided differences in fractions, and the Rust's own answers are held against them too.
 """
 import itertools
 import math
-import sys
 from fractions import Fraction
 
 import records
-from records import Rng, down, hexed, line, real, up
+from records import Rng, down, line, request, unhexed, up
+from scope import point_ok, small
 
-NAN = real(0x7FF8000000000000)
-EPSILON = 1e-10
+NAN = math.nan
 
 
 # ---- document 01: the questions
 
-def point_ok(x):
-    """Question 11, of a point or a directly given vertex."""
-    return x == 0 or 2.0**-660 <= abs(x) <= 2.0**31
-
-
 def weight_refusal(omega, vertices):
     if len(vertices) not in (96, 192, 288, 384):
         return 7
-    return 0 if all(point_ok(x) for x in vertices) and point_ok(omega) else 11
+    return 0 if all(map(point_ok, vertices)) and point_ok(omega) else 11
 
 
 def lattice_refusal(entries):
@@ -38,9 +31,7 @@ def lattice_refusal(entries):
 
 
 def product_refusal(entries, vector):
-    if lattice_refusal(entries):
-        return 2
-    return 0 if all(-4096 <= x <= 4096 for x in vector) else 7
+    return lattice_refusal(entries) or (0 if small(vector) else 7)
 
 
 # ---- exact integrals
@@ -86,72 +77,50 @@ def around(x, width):
 
 # ---- cases
 
-class Cases:
-    def __init__(self, oracle):
-        self.oracle = oracle
-        self.groups = []
-        self.asked = []
-        self.requests = []
-        self.counts = {k: [] for k in ("sort", "weight", "lattice", "tables", "exact", "whole", "product")}
-        self.worst = 0.0
+class Cases(records.Cases):
+    worst = 0.0
 
-    def group(self):
-        self.groups.append([])
+    def group(self, *given):
+        self.groups.append(list(given))
 
-    def wait(self, request, make):
-        """A record that is made when the oracle has answered."""
-        self.requests += request
-        self.asked.append((len(self.groups) - 1, len(self.groups[-1]), make))
-        self.groups[-1].append(None)
-
-    def finish(self):
-        answers = records.ask(self.oracle, self.requests)
-        assert len(answers) == len(self.asked)
-        for (g, i, make), answer in zip(self.asked, answers):
-            self.groups[g][i] = make(answer)
+    def weight_request(self, function, omega, vertices, make):
+        """A record made of the Rust's weight."""
+        self.wait([request("vertices", *vertices), request("?weight", function, omega)], lambda answer: make(unhexed(answer[0][0])))
 
     def sort(self, row):
         self.group()
         self.counts["sort"].append(0)
-        self.wait([request("?sort", *row)],
-                  lambda a: line(1, *row, int(a[0][1]), *[real(int(x, 16)) for x in a[0][2:]]))
+        self.wait([request("?sort", *row)], lambda a: line(1, *row, int(a[0][0]), *map(unhexed, a[0][1:])))
+
+    def weight(self, record, function, omega, vertices, *spelled):
+        """A weight; its record is of that kind and spells these vertices."""
+        no = weight_refusal(omega, vertices)
+        self.counts["weight"].append(no)
+        head = (record, "IJ".index(function), no, omega, *spelled)
+        if no:
+            self.put(line(*head, 0.0))
+        else:
+            self.weight_request(function, omega, vertices, lambda w: line(*head, w))
 
     def row(self, function, omega, row):
         """A weight over 24 equal rows."""
         self.group()
-        no = weight_refusal(omega, list(row) * 24)
-        self.counts["weight"].append(no)
-        head = (4, "IJ".index(function), no, omega, *row)
-        if no:
-            self.groups[-1].append(line(*head, 0.0))
-        else:
-            self.wait([request("?iw24", function, omega, *row)], lambda a: line(*head, weight_of(a)))
+        self.weight(4, function, omega, list(row) * 24, *row)
 
     def vertices(self, vertices, calls):
         """Weights over one list of vertices; calls: function and omega of each."""
-        self.group()
-        self.groups[-1].append(line(2, [float(x) for x in vertices]))
-        rows = [vertices[i:i + 4] for i in range(0, len(vertices), 4)]
-        first = True
+        self.group(line(2, vertices))
         for function, omega in calls:
-            no = weight_refusal(omega, vertices)
-            self.counts["weight"].append(no)
-            head = (3, "IJ".index(function), no, omega)
-            if no:
-                self.groups[-1].append(line(*head, 0.0))
-                continue
-            ask = ["clear\tvrow"] + [request("vrow", *v) for v in rows] if first else []
-            first = False
-            self.wait(ask + [request("?iw", function, omega)], lambda a, head=head: line(*head, weight_of(a)))
+            self.weight(3, function, omega, vertices)
 
     def lattice(self, entries):
         self.group()
         no = lattice_refusal(entries)
         self.counts["lattice"].append(no)
         if no:
-            self.groups[-1].append(line(5, *entries, no, 0))
+            self.put(line(5, *entries, no, 0))
         else:
-            self.wait([request("?lattice", *entries)], lambda a: line(5, *entries, 0, int(a[0][1])))
+            self.wait([request("?lattice", *entries)], lambda a: line(5, *entries, 0, int(a[0][0])))
 
     def exact(self, function, omega, row):
         """24 equal rows give four times one row's weight: their sum is divided by rows / 4."""
@@ -160,36 +129,26 @@ class Cases:
         self.counts["exact"].append(0)
         exact = 4 * exact_weight(function, omega, row)
         low, high = around(exact, Fraction(10)**-12)
-        def made(a):
-            w = weight_of(a)
+        def made(w):
             self.worst = max(self.worst, abs(float(Fraction(w) - exact)))
             assert low <= w <= high, (function, omega, row, w, float(exact))
             return line(7, "IJ".index(function), omega, *row, low, high)
-        self.wait([request("?iw24", function, omega, *row)], made)
+        self.weight_request(function, omega, list(row) * 24, made)
         if row == tuple(sorted(row)):                   # once for each set of four values
             self.counts["whole"].append(0)
             whole = 4 * exact_whole(function, omega, row)
             parts = sum(4 * exact_weight(function, omega, (row[k],) + row[:k] + row[k + 1:]) for k in range(4))
             assert parts == whole, (function, omega, row)
-            self.groups[-1].append(line(8, "IJ".index(function), omega, *row, *around(whole, 4 * Fraction(10)**-12)))
-
+            self.put(line(8, "IJ".index(function), omega, *row, *around(whole, 4 * Fraction(10)**-12)))
 
     def product(self, entries, vector):
         self.group()
         no = product_refusal(entries, vector)
         self.counts["product"].append(no)
-        x, y, z = (float(b) for b in vector)
-        rows = [entries[i:i + 3] for i in (0, 3, 6)]
-        made = [0.0] * 3 if no else [a[0] * x + a[1] * y + a[2] * z for a in rows]
-        self.groups[-1].append(line(9, *entries, *vector, no, *made))
-
-
-def request(tag, *fields):
-    return "\t".join([tag] + [hexed(x) if isinstance(x, float) else str(x) for x in fields])
-
-
-def weight_of(answer):
-    return real(int(answer[0][1], 16))
+        if no:
+            self.put(line(9, *entries, *vector, no, 0.0, 0.0, 0.0))
+        else:
+            self.wait([request("?product", *entries, *vector)], lambda a: line(9, *entries, *vector, 0, *map(unhexed, a[0])))
 
 
 def sort_cases(r, c):
@@ -351,37 +310,23 @@ def product_cases(r, c):
             c.product(l, [1, -2, r.pick(beyond)])                        # 2 is asked before 7
 
 
-def main():
-    oracle, crate = sys.argv[1], sys.argv[2]
-    seed = int(sys.argv[3]) if len(sys.argv) > 3 else 20261115
-    r = Rng(seed)
-    c = Cases(oracle)
-    table = []
-    for d in range(4):
-        rows = records.ask(oracle, ["reset", "diag\t%d" % d, "?rga\t4"])[0]
-        table += [int(x) for row in rows if row[1] == "0" for x in row[2:]]
-    assert len(table) == 1152
+NAMES = {"sort": "sort", "weight": "weight", "lattice": "choice of the table", "tables": "tables", "exact": "exact integral",
+         "whole": "exact sum of the four vertices", "product": "lattice times vector"}
+
+
+def make(driver, crate, seed):
+    r, c = Rng(seed), Cases(driver, NAMES)
     c.counts["tables"].append(0)
-    c.groups.append([line(6, table)])
+    c.group(line(6, records.flat(records.tables(driver))))
     sort_cases(r, c)
     weight_cases(r, c)
     refused_weights(r, c)
     lattice_cases(r, c)
     exact_cases(r, c)
     product_cases(r, c)
-    c.finish()
-    data = records.blocks(c.groups)
-    expected = "".join(records.summary(name, c.counts[k]) for k, name in (
-        ("sort", "sort"), ("weight", "weight"), ("lattice", "choice of the table"), ("tables", "tables"),
-        ("exact", "exact integral"), ("whole", "exact sum of the four vertices"), ("product", "lattice times vector")))
-    with open(crate + "/stdin", "wb") as f:
-        f.write(data)
-    with open(crate + "/stdout", "w") as f:
-        f.write(expected)
-    print("seed", seed, "bytes", len(data))
-    print(expected, end="")
+    c.write(crate, seed)
     print("the Rust's greatest distance from an exact integral:", c.worst)
 
 
 if __name__ == "__main__":
-    main()
+    records.main(__doc__, make)

@@ -1,141 +1,195 @@
 #!/usr/bin/env python3
-"""Compare the proved run sheet with the model, through a shared library.
+"""Compares the proved run sheet with the model, through the library for other languages.
 
-    python3 sheet_calls.py LIBRARY [LISTS] [SEED]
+    sheet_calls.py LIBRARY [LISTS] [SEED]
 
-LIBRARY exports the functions of export.rt.txt. First the stored lists of sheet_cases.py, then LISTS random ones (2,000). After each
-call the answer, the tally and every byte of weights, flags and marks are compared, a NaN's payload too.
+LIBRARY is libpelmetsavory.so. First the stored lists and open counts of sheet_cases.py, then LISTS random lists (2,000; 60s: for so many
+seconds). After each call the answer, the tally and every byte of weights, flags and marks are compared with the model's program, a NaN's
+payload too. A list that starts with all marks 0 is also replayed by one call, and compared with the model's book.
 """
 import ctypes
+import os
 import random
 import sys
+import time
 
+here = os.path.dirname(os.path.abspath(__file__))
+sys.path[1:1] = [os.path.join(here, ".."), os.path.join(here, "../../foreign/python")]
+
+import pelmetsavory_entries as entries
 import sheet_cases
 import sheet_model as m
 import sheet_selftest as r
+from vectors_sheet import encoded, number_of
 
 NUMBERS = {"weights": ctypes.c_uint64, "flags": ctypes.c_int8, "marks": ctypes.c_uint8}
-
-
-class Shape(ctypes.Structure):
-    _fields_ = [(n, ctypes.c_int64) for n in ("grid_type", "d0", "d1", "d2", "tp_type", "bands1", "bands2")]
+# So many differences of a kind are told.
+TOLD = 20
+# What a place for an answer holds before a replay.
+UNTOUCHED = 99
 
 
 def array(kind, values):
     return (kind * len(values))(*values)
 
 
-def lent(values):
-    """A slice: where it lies and how many elements it has."""
-    return [values, ctypes.c_size_t(len(values))]
-
-
 def wholes(values):
     return array(ctypes.c_int64, values)
 
 
-def floats(values):
+def patterns(values):
     return array(ctypes.c_uint64, values)
 
 
-class Calls:
-    def __init__(self, path):
-        self.library = ctypes.CDLL(path)
-        for name in ("run_piece", "carry_on", "average_triplet", "open_count"):
-            getattr(self.library, "rattle_" + name).restype = ctypes.c_uint64
+def lent(*arrays):
+    """Slices: where each lies and how many elements it has."""
+    return [x for a in arrays for x in (a, len(a))]
 
-    def begin(self, s, start):
-        self.study = [Shape(s.kind, *s.mesh, s.type, *s.bands)]
-        for values in (wholes(s.addresses), wholes(s.map), wholes(s.table), floats(s.frequencies1), floats(s.frequencies2),
-                       floats(s.points), wholes(s.triplets)):
-            self.study += lent(values)
+
+class Library:
+    def __init__(self, path):
+        library = ctypes.CDLL(path)
+        for name, (result, params) in entries.ENTRIES.items():
+            f = getattr(library, name)
+            f.restype, f.argtypes = result, [kind if how == "value" else ctypes.c_void_p for _, how, kind, _ in params]
+            setattr(self, name.removeprefix("pelmetsavory_"), f)
+
+
+class Calls:
+    """One study and its sheet, in the library's form."""
+
+    def __init__(self, library, s, start):
+        self.library = library
+        shape = entries.Shape(s.kind, array(ctypes.c_int64, s.mesh), s.type, *s.bands)
         self.sheet = {n: array(kind, getattr(start, n)) for n, kind in NUMBERS.items()}
         self.tally = ctypes.c_uint64(start.tally)
+        self.given = [shape] + lent(wholes(s.addresses), wholes(s.map), wholes(s.table), patterns(s.frequencies1),
+                                    patterns(s.frequencies2), patterns(s.points), wholes(s.triplets), *self.sheet.values())
+        self.given.append(ctypes.byref(self.tally))
+
+    def content(self):
+        return [list(self.sheet[n]) for n in NUMBERS] + [self.tally.value]
 
     def make(self, call):
-        given = self.study + [x for n in NUMBERS for x in lent(self.sheet[n])] + [ctypes.byref(self.tally)]
         if call[0] == "run":
-            number = self.library.rattle_run_piece(*given, *(ctypes.c_int64(x) for x in call[1:]))
-        elif call[0] == "carry_on":
-            number = self.library.rattle_carry_on(*given)
-        else:
-            number = self.library.rattle_average_triplet(*given, ctypes.c_int64(call[1]), *lent(wholes(call[2])), *lent(wholes(call[3])))
-        return number, [list(self.sheet[n]) for n in NUMBERS] + [self.tally.value]
+            return self.library.run_piece(*self.given, entries.Piece(*call[1:]))
+        if call[0] == "carry_on":
+            return self.library.carry_on(*self.given)
+        return self.library.average_triplet(*self.given, call[1], *lent(wholes(call[2]), wholes(call[3])))
 
-    def count(self, counts, flags, triplet):
-        b1, b2, points, triplets = counts
-        out = ctypes.c_uint64(0)
-        number = self.library.rattle_open_count(*(ctypes.c_int64(x) for x in (triplets, points, b1, b2)),
-                                                *lent(array(ctypes.c_int8, flags)), ctypes.c_int64(triplet), ctypes.byref(out))
-        return number, out.value
+    def replay(self, calls, places):
+        """The status, and for each call a place with its answer and one with the tally after it."""
+        numbers, ids = encoded(calls)
+        told, tallies = patterns([UNTOUCHED] * places), patterns([UNTOUCHED] * places)
+        status = self.library.replay(*self.given, *lent(wholes(numbers), wholes(ids), told, tallies))
+        return status, list(told), list(tallies)
 
 
 def is_nan(b):
     return b & ~m.SIGN > r.INFINITY
 
 
-class Report:
-    def __init__(self):
-        self.seen, self.differ, self.lists, self.nans = {}, 0, 0, 0
+class Kind:
+    """The counts of one kind of case."""
 
-    def compare(self, calls, s, start, made, steps):
-        """steps: the model's answers and sheets."""
-        self.lists += 1
-        calls.begin(s, start)
-        for call, (answer, sheet) in zip(made, steps):
-            number, content = calls.make(call)
-            want = answer[1] if answer[0] == "refused" else 0
-            key = (call[0], want or "done")
-            self.seen[key] = self.seen.get(key, 0) + 1
-            self.nans += sum(map(is_nan, sheet.weights))
-            if number != want or content != list(sheet.content()):
-                self.differ += 1
-                print("differs:", call, number, answer)
+    def __init__(self, name):
+        self.name, self.cases, self.seen, self.differ, self.nans = name, 0, {}, 0, 0
 
-    def show(self, what):
-        print("%s: %d lists, %d calls, %d NaNs compared by their bits: %d calls differ"
-              % (what, self.lists, sum(self.seen.values()), self.nans, self.differ))
-        print(m.answer_table(self.seen))
+    def count(self, call, number, agree):
+        self.seen[call, number] = self.seen.get((call, number), 0) + 1
+        if not agree:
+            self.differ += 1
+            if self.differ <= TOLD:
+                print("differs: %s, list %d: %s, wanted %d" % (self.name, self.cases, call, number))
+
+    def show(self):
+        by = {}
+        for (_, number), times in self.seen.items():
+            by[number] = by.get(number, 0) + times
+        done = by.pop(0, 0)
+        refused = " ".join("%d:%d" % x for x in sorted(by.items()))
+        print("kind\t%s\t%d\t%d\t%s\t%d" % (self.name, self.cases, done, refused or "-", self.differ))
 
 
-def stored(calls, seed):
-    report = Report()
-    for c in sheet_cases.cases(seed):
-        steps = [(x["answer"], m.Sheet(x["weights"], x["flags"], x["marks"], x["tally"])) for x in c["steps"]]
-        report.compare(calls, m.Study(**c["study"]), m.Sheet(**c["start"]), c["calls"], steps)
-    report.show("stored")
-    wrong = cases = 0
-    for c in sheet_cases.open_count_cases(seed):
-        answer = c["answer"]
-        cases += 1
-        wrong += calls.count(c["counts"], c["flags"], c["triplet"]) != ((0, answer[1]) if answer[0] == "done" else (answer[1], 0))
-    print("open count: %d calls: %d differ" % (cases, wrong))
-    return report.differ + wrong
+class Comparison:
+    def __init__(self, path):
+        self.library = Library(path)
+        self.kinds = {n: Kind(n) for n in ("stored call lists", "call lists", "replayed lists", "open counts")}
 
+    def compare(self, name, s, start, made, steps):
+        """A list of calls; steps: the model's answers and sheets."""
+        kind, calls = self.kinds[name], Calls(self.library, s, start)
+        kind.cases += 1
+        for call, (answer, sheet) in zip(made, steps, strict=True):
+            number = calls.make(call)
+            kind.nans += sum(map(is_nan, sheet.weights))
+            kind.count(call[0], number_of(answer), number == number_of(answer) and calls.content() == list(sheet.content()))
+        self.replay(s, start, made)
 
-def drawn(calls, lists, seed):
-    rng = random.Random(seed)
-    report = Report()
-    while report.lists < lists:
-        s = r.random_study(rng)
-        start = r.random_start(rng, s)
-        made = [r.random_call(rng, s) for _ in range(rng.randint(1, 14))] + [("carry_on",)]
-        if rng.random() < 0.2:
-            s = r.spoil_study(rng, s)
-        elif rng.random() < 0.1:
-            r.spoil_lengths(rng, start)
-        report.compare(calls, s, start, made, m.program(s, start, made))
-    report.show("random")
-    return report.differ
+    def replay(self, s, start, made):
+        """The whole list by one call: refused with 12 where it has a place too many, with 13 where a mark is not 0."""
+        kind, calls = self.kinds["replayed lists"], Calls(self.library, s, start)
+        kind.cases += 1
+        places = len(made) + (kind.cases % 16 == 0)
+        want = 12 if places > len(made) else 13 if any(start.marks) else 0
+        steps = [] if want else m.book(s, start, made)
+        last = steps[-1][1] if steps else start
+        expected = [[number_of(a) for a, _ in steps], [x.tally for _, x in steps]] if not want else [[UNTOUCHED] * places] * 2
+        agree = calls.replay(made, places) == (want, *expected) and calls.content() == list(last.content())
+        kind.count("replay", want, agree)
+
+    def stored(self):
+        for c in sheet_cases.cases():
+            steps = [(x["answer"], m.Sheet(x["weights"], x["flags"], x["marks"], x["tally"])) for x in c["steps"]]
+            self.compare("stored call lists", m.Study(**c["study"]), m.Sheet(**c["start"]), c["calls"], steps)
+
+    def open_counts(self):
+        kind = self.kinds["open counts"]
+        for c in sheet_cases.open_count_cases():
+            kind.cases += 1
+            b1, b2, points, triplets = c["counts"]
+            count = ctypes.c_uint64(0)
+            number = self.library.open_count(entries.Counts(triplets, points, b1, b2), *lent(array(ctypes.c_int8, c["flags"])), c["triplet"],
+                                             ctypes.byref(count))
+            want = number_of(c["answer"])
+            kind.count("open count", want, (number, count.value) == (want, 0 if want else c["answer"][1]))
+
+    def drawn(self, limit, seed):
+        rng, kind, begun = random.Random(seed), self.kinds["call lists"], time.time()
+        while time.time() - begun < float(limit[:-1]) if limit.endswith("s") else kind.cases < int(limit):
+            s = r.random_study(rng)
+            start = r.begun(rng, s) if rng.random() < 0.3 else r.random_start(rng, s)
+            made = [r.random_call(rng, s) for _ in range(rng.randint(1, 14))] + [("carry_on",)]
+            if rng.random() < 0.2:
+                s = r.spoil_study(rng, s)
+            elif rng.random() < 0.1:
+                r.spoil_lengths(rng, start)
+            self.compare("call lists", s, start, made, m.program(s, start, made))
+
+    def show(self):
+        """Prints the counts; whether nothing differs and every answer that a call can give was met."""
+        seen, missing = {}, []
+        for kind in self.kinds.values():
+            kind.show()
+            for key, times in kind.seen.items():
+                seen[key] = seen.get(key, 0) + times
+        print(m.answer_table({(call, n or "done"): times for (call, n), times in seen.items()}))
+        print("sheets: %d NaNs compared by their bits" % sum(k.nans for k in self.kinds.values()))
+        asked = {**m.ASKED, "open count": (9, 12, 14), "replay": (12, 13)}
+        missing = [(call, n) for call, numbers in asked.items() for n in (0, *numbers) if (call, n) not in seen]
+        if missing:
+            print("never seen:", missing)
+        return not missing and not any(k.differ for k in self.kinds.values())
 
 
 def main():
-    calls = Calls(sys.argv[1])
-    lists = int(sys.argv[2]) if len(sys.argv) > 2 else 2000
+    comparison = Comparison(sys.argv[1])
     seed = int(sys.argv[3]) if len(sys.argv) > 3 else sheet_cases.SEED
-    wrong = stored(calls, sheet_cases.SEED) + drawn(calls, lists, seed)
-    print("no difference" if wrong == 0 else "DIFFERENCES")
-    return 1 if wrong else 0
+    print("sheets: seed", seed)
+    comparison.stored()
+    comparison.open_counts()
+    comparison.drawn(sys.argv[2] if len(sys.argv) > 2 else "2000", seed)
+    return 0 if comparison.show() else 1
 
 
 if __name__ == "__main__":

@@ -6,7 +6,7 @@ so a NaN's payload, -0.0 and infinities survive where nothing is written.
 All float arithmetic is Python's (IEEE doubles), in the order of the Rust.
 
     sheet_selftest.py    the self-test
-    sheet_oracle.py      weights and averages against the original Rust
+    sheet_rust.py        weights and averages against the original Rust
     sheet_cases.py       the stored test
 """
 import math

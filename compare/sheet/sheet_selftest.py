@@ -139,6 +139,30 @@ def random_start(rng, s, marks=None, tally=None):
                  rng.choice(TALLIES) if tally is None else tally)
 
 
+def random_marks(rng, s):
+    """Any marks: a triplet computed, averaged, begun, or as question 13 forbids."""
+    nbb = s.bands[0] * s.bands[1]
+    marks = []
+    for _ in range(s.t):
+        k = rng.randrange(6)
+        marks += ([1] * nbb if k < 3 else [2] * nbb if k == 3 else
+                  [rng.choice((0, 1)) for _ in range(nbb)] if k == 4 else
+                  [rng.choice((0, 1, 2, 3, 255)) for _ in range(nbb)])
+    return marks
+
+
+def begun(rng, s):
+    """A start with any marks; often with weights that question 19 lets pass, all or all but one."""
+    start = random_start(rng, s, random_marks(rng, s))
+    if rng.random() < 0.6:
+        start.weights = [rng.choice((0, 1, power(60), power(60) | SIGN, bits(0.1), bits(-7.3)))
+                         for _ in start.weights]
+        if start.weights and rng.random() < 0.5:
+            start.weights[rng.randrange(len(start.weights))] = rng.choice(
+                (SIGN, INFINITY, INFINITY + 1, power(60) + 1, (power(60) + 1) | SIGN))
+    return start
+
+
 def random_ids(rng, count):
     ids = []
     for i in range(count):
@@ -328,17 +352,7 @@ def self_test(count, seed):
             calls_made += len(calls)
             lists += 1
         # Any marks at the start: no book, each call against its patch.
-        nbb = s.bands[0] * s.bands[1]
-        marks = []
-        for _ in range(s.t):
-            k = rng.randrange(6)
-            marks += ([1] * nbb if k < 3 else [2] * nbb if k == 3 else
-                      [rng.choice((0, 1)) for _ in range(nbb)] if k == 4 else
-                      [rng.choice((0, 1, 2, 3, 255)) for _ in range(nbb)])
-        before = random_start(rng, s, marks)
-        if rng.random() < 0.6:
-            before.weights = [rng.choice((0, 1, power(60), power(60) | SIGN, bits(0.1), bits(-7.3)))
-                              for _ in before.weights]
+        before = begun(rng, s)
         for _ in range(rng.randint(1, 8)):
             call = random_call(rng, s)
             sheet = before.copy()

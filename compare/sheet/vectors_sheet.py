@@ -177,12 +177,8 @@ def main():
     asked[4] = (0, 9, 12, 14)
     asked[5] = (0, 12, 13)
     assert sorted(seen) == sorted((k, n) for k, v in asked.items() for n in v)
-    with open(os.path.join(crate, "stdin"), "wb") as f:
-        f.write(data)
-    with open(os.path.join(crate, "stdout"), "w") as f:
-        for kind, number in sorted(seen):
-            f.write("%s\t%s\t%d\n" % (NAMES[kind], "refused %d" % number if number else "done", seen[kind, number]))
-        f.write("differences\t0\n")
+    lines = ["%s\t%s\t%d\n" % (NAMES[kind], "refused %d" % number if number else "done", seen[kind, number]) for kind, number in sorted(seen)]
+    records.write(crate, data, ("".join(lines) + "differences\t0\n").encode())
     print("seed %d: %d calls, %d bytes" % (seed, sum(seen.values()), len(data)))
 
 

@@ -1,143 +1,171 @@
 #!/usr/bin/env python3
-"""Studies and their answers, for the gate and for longer runs.
+"""Studies through the program `weights`, against the original Rust and the checker.
 
-    studies.py pack ORACLE_FOLDER CRATE_FOLDER [SEED]         writes CRATE_FOLDER/stdin and stdout, the stored texts of `corpus`
-    studies.py fuzz ORACLE_FOLDER PROGRAM SEED [DAMAGED]      one seed's studies, and DAMAGED texts of each, through PROGRAM
-    studies.py keep ORACLE_FOLDER OUT_FOLDER SEED COUNT       COUNT texts of a seed, half of them damaged, a file each
+    studies.py fuzz OUT SEED STUDIES      at least STUDIES studies from SEED on (or for so many seconds: 60s), and a damaged text of each
+    studies.py corpus DRIVER CRATE [SEED] writes CRATE/stdin and CRATE/stdout, the stored texts of the program `corpus`
+    studies.py valgrind OUT SEED COUNT    COUNT texts of a seed through the program under valgrind
 
-ORACLE_FOLDER holds the driver of the original Rust (built), the generator gen.py and the checker study_check.py; see README.md here.
-An accepted text's answer is the Rust's listing; whether a text is accepted, and the number of its refusal, is the checker's.
+OUT holds the programs `weights` and `driver`. An accepted text's answer is the Rust's listing; whether a text is accepted, and the
+number of its refusal, is the checker's.
 """
 import collections
 import os
 import subprocess
 import sys
+import time
 
-sys.dont_write_bytecode = True
-
+import checker
 import damage
+import records
+import texts
 
 here = os.path.dirname(os.path.abspath(__file__))
+# All that the program can answer: acceptance, and its refusals.
+NUMBERS = (0, 1, 3, 4, 5, 6, 8, 9, 10, 11)
+# So many texts with each of them among them, and so many texts kept whose answers differ.
+LONG, KEPT = 5000, 20
 
 
-def load(folder):
-    sys.path.insert(0, folder)
-    import gen
-    import study_check
-    return gen, study_check, os.path.join(folder, "rust", "target", "release", "oracle")
+def judged(driver, given):
+    """Of each text the number of its refusal, or 0, and the bytes of its answer."""
+    numbers = [checker.number(t) for t in given]
+    accepted = [t for t, n in zip(given, numbers) if n == 0]
+    listings = iter(records.answers(driver, b"".join(b"reset\n" + t + b"?listing\n" for t in accepted)))
+    out = [(n, b"refused\t%d\n" % n if n else next(listings)) for n in numbers]
+    assert next(listings, None) is None
+    return out
 
 
-def run(command, text):
-    done = subprocess.run(command, input=text, stdout=subprocess.PIPE, stderr=subprocess.DEVNULL)
-    return done.stdout, done.returncode
+class Program:
+    """Runs a program on one text after the other; its input and output are files in memory."""
 
-
-class Judge:
-    def __init__(self, check, oracle):
-        self.check, self.oracle = check, oracle
+    def __init__(self, path):
+        self.path = path
+        self.files = [os.memfd_create(name, 0) for name in ("in", "out")]
+        self.actions = [(os.POSIX_SPAWN_DUP2, f, k) for k, f in enumerate(self.files)]
 
     def __call__(self, text):
-        """The number of the refusal, or 0, and the bytes of the answer."""
-        number = self.check(text)[0]
-        if number:
-            return number, b"refused\t%d\n" % number
-        return 0, run([self.oracle, "weights"], text)[0]
+        """The bytes that it prints, and its status."""
+        for f, content in zip(self.files, (text, b"")):
+            os.ftruncate(f, 0)
+            os.pwrite(f, content, 0)
+            os.lseek(f, 0, os.SEEK_SET)
+        child = os.posix_spawn(self.path, [self.path], {}, file_actions=self.actions)
+        status = os.waitstatus_to_exitcode(os.waitpid(child, 0)[1])
+        out = self.files[1]
+        return os.pread(out, os.fstat(out).st_size, 0), status
+
+
+def keep(path, text, why):
+    """Leaves a text in the folder where the script was started."""
+    with open(path, "wb") as f:
+        f.write(text)
+    print("%s: %s" % (path, why))
+
+
+class Kind:
+    """The counts of one kind of text."""
+
+    def __init__(self, name):
+        self.name, self.counts, self.differ = name, collections.Counter(), 0
+
+    def compare(self, program, given, answers, label):
+        for k, (text, (number, want)) in enumerate(zip(given, answers)):
+            self.counts[number] += 1
+            got, status = program(text)
+            if got != want or status:
+                self.differ += 1
+                if self.differ <= KEPT:
+                    keep("differs-%s-%d" % (label, k), text, "status %d, want %r, got %r" % (status, want[:60], got[:60]))
+
+    def show(self):
+        refused = " ".join("%d:%d" % (n, c) for n, c in sorted(self.counts.items()) if n)
+        print("kind\t%s\t%d\t%d\t%s\t%d" % (self.name, sum(self.counts.values()), self.counts[0], refused or "-", self.differ))
+
+    def right(self):
+        """Nothing differs, and in a long run every number was met."""
+        missing = [n for n in NUMBERS if not self.counts[n]] if self.counts.total() >= LONG else []
+        if missing:
+            print("%s: never seen: %s" % (self.name, missing))
+        return not self.differ and not missing
+
+
+def both(seed):
+    """A seed's studies, and a damaged text of each."""
+    studies, r = [t for _, t in texts.texts(seed)], records.Rng(seed ^ 0x5DEECE66D)
+    return studies, [damage.damaged(r, t)[1] for t in studies]
+
+
+def fuzz(out, seed, limit):
+    driver, program = os.path.join(out, "driver"), Program(os.path.join(out, "weights"))
+    kinds, first, begun = (Kind("studies"), Kind("damaged texts")), seed, time.time()
+    enough = (lambda: time.time() - begun >= float(limit[:-1])) if limit.endswith("s") else (lambda: kinds[0].counts.total() >= int(limit))
+    while seed == first or not enough():
+        for kind, given in zip(kinds, both(seed)):
+            kind.compare(program, given, judged(driver, given), "%d-%s" % (seed, kind.name.split()[0]))
+        seed += 1
+    print("studies: seeds %d to %d" % (first, seed - 1))
+    for kind in kinds:
+        kind.show()
+    return all([kind.right() for kind in kinds])
 
 
 def longest():
     """The study with the longest answer: 195 triplets at 21 points, 118,617 bytes."""
-    rows = ["grid\t2\t1\t1\t1", "diag\t3", "type\t4", "bands\t1\t1", "addr\t0\t0\t0", "map\t0", "map\t1", "f1\t3ff0000000000000", "f2\t4000000000000000"]
-    rows += ["point\t%016x" % (0x3FF0000000000000 + (k << 48)) for k in range(21)]
-    rows += ["triplet\t0\t0\t0"] * 195
-    return "".join(r + "\n" for r in rows).encode()
+    s = texts.example()
+    s.diag, s.type, s.f2 = 3, 4, [0x4000000000000000]
+    s.points = [0x3FF0000000000000 + (k << 48) for k in range(21)]
+    s.triplets = [[0, 0, 0]] * 195
+    return s.text()
 
 
-def tally(counts):
-    return ", ".join("%s: %d" % (n or "accepted", c) for n, c in sorted(counts.items()))
-
-
-def pack(folder, crate, seed):
-    gen, study_check, oracle = load(folder)
-    judge = Judge(study_check.check, oracle)
-    texts = [t for _, t, _ in gen.build(seed)]
-    count = len(texts)
+def stored(seed):
+    """The generator's studies, those of examples/, the longest, damaged texts, and some that are hardly texts."""
+    out = [t for _, t in texts.texts(seed)]
+    small = [t for t in out if len(t) < 700]
     for name in ("small", "aluminium"):
         with open(os.path.join(here, "..", "..", "examples", name + ".study"), "rb") as f:
-            texts.append(f.read())
-    texts.append(longest())
-    r = gen.Rng(seed + 1)
-    small = [t for t in texts[:count] if len(t) < 700]
-    kinds = collections.Counter()
-    for _ in range(400):
-        kind, t = damage.damaged(r, r.pick(small))
-        kinds[kind] += 1
-        texts.append(t)
-    texts += [b"", b"\n", b"a" * 16384, b"a" * 16385, b"\n" * 16384, b"a" * 40000]
-    counts = collections.Counter()
-    with open(os.path.join(crate, "stdin"), "wb") as fi, open(os.path.join(crate, "stdout"), "wb") as fo:
-        for t in texts:
-            number, answer = judge(t)
-            counts[number] += 1
-            fi.write(b"%06d\n" % len(t) + t)
-            fo.write(answer)
-    assert len(judge(longest())[1]) == 118617
-    print("seed %d: %d studies of the generator, 3 more, %d damaged, %d others" % (seed, count, sum(kinds.values()), len(texts) - count - 3 - sum(kinds.values())))
-    print("by number:", tally(counts))
-    print("damage:", ", ".join("%s %d" % kc for kc in sorted(kinds.items())))
+            out.append(f.read())
+    r = records.Rng(seed + 1)
+    out += [longest()] + [damage.damaged(r, r.pick(small))[1] for _ in range(400)]
+    return out + [b"", b"\n", b"a" * 16384, b"a" * 16385, b"\n" * 16384, b"a" * 40000]
 
 
-def fuzz(folder, program, seed, most):
-    gen, study_check, oracle = load(folder)
-    judge = Judge(study_check.check, oracle)
-    r = gen.Rng(seed ^ 0x5DEECE66D)
-    counts, broken, bad, longest_answer = collections.Counter(), collections.Counter(), 0, 0
-    try:
-        studies = gen.build(seed)
-    except OverflowError as e:                          # a few seeds make it repeat a list too often; none of their studies is run
-        print("no studies for seed %d: the generator stopped (%s)" % (seed, e))
-        return 0
-    for name, text, _ in studies:
-        for k in range(1 + most):
-            kind, t = ("study", text) if k == 0 else damage.damaged(r, text)
-            number, want = judge(t)
-            (broken if k else counts)[number] += 1
-            longest_answer = max(longest_answer, len(want))
-            got, code = run([program], t)
-            if got != want or code:
-                bad += 1
-                path = "differs-%d-%s-%d" % (seed, name, k)
-                with open(path, "wb") as f:
-                    f.write(t)
-                print("%s (%s): exit %d, want %r, got %r" % (path, kind, code, want[:60], got[:60]))
-    print("seed %d: %d studies (%s); %d damaged (%s); longest answer %d bytes; %d differ"
-          % (seed, sum(counts.values()), tally(counts), sum(broken.values()), tally(broken), longest_answer, bad))
-    return bad
+def corpus(driver, crate, seed):
+    given = stored(seed)
+    answers = judged(driver, given)
+    assert max(len(a) for _, a in answers) == 118617
+    records.write(crate, b"".join(b"%06d\n" % len(t) + t for t in given), b"".join(a for _, a in answers))
+    counts = collections.Counter(n for n, _ in answers)
+    assert sorted(counts) == sorted(NUMBERS)
+    print("seed %d: %d texts, %d accepted, refused %s"
+          % (seed, len(given), counts.pop(0), " ".join("%d:%d" % nc for nc in sorted(counts.items()))))
 
 
-def keep(folder, out, seed, count):
-    gen, _, _ = load(folder)
-    r = gen.Rng(seed)
-    texts = [t for _, t, _ in gen.build(seed)]
-    os.makedirs(out, exist_ok=True)
-    for k in range(count):
-        t = r.pick(texts)
-        if k % 2:
-            t = damage.damaged(r, t)[1]
-        with open(os.path.join(out, "%04d" % k), "wb") as f:
-            f.write(t)
+def valgrind(out, seed, count):
+    program = os.path.join(out, "weights")
+    command = ["valgrind", "-q", "--error-exitcode=9", "--max-stackframe=8388608", program]
+    given = [t for two in zip(*both(seed)) for t in two]
+    r, clean = records.Rng(seed), 0
+    for _ in range(count):
+        text = r.pick(given)
+        plain = subprocess.run([program], input=text, stdout=subprocess.PIPE).stdout
+        done = subprocess.run(command, input=text, capture_output=True)
+        clean += done.returncode == 0 and not done.stderr and done.stdout == plain
+    print("valgrind: %d of %d texts clean" % (clean, count))
+    return clean == count
 
 
 def main():
     a = sys.argv[1:]
-    if len(a) >= 3 and a[0] == "pack":
-        pack(a[1], a[2], int(a[3]) if len(a) > 3 else 20261115)
-    elif len(a) >= 4 and a[0] == "fuzz":
-        sys.exit(1 if fuzz(a[1], os.path.abspath(a[2]), int(a[3]), int(a[4]) if len(a) > 4 else 1) else 0)
-    elif len(a) == 5 and a[0] == "keep":
-        keep(a[1], a[2], int(a[3]), int(a[4]))
-    else:
-        sys.exit(__doc__)
+    if len(a) == 4 and a[0] == "fuzz":
+        return fuzz(a[1], int(a[2]), a[3])
+    if len(a) in (3, 4) and a[0] == "corpus":
+        return corpus(a[1], a[2], int(a[3]) if len(a) > 3 else records.SEED) is None
+    if len(a) == 4 and a[0] == "valgrind":
+        return valgrind(a[1], int(a[2]), int(a[3]))
+    sys.exit(__doc__)
 
 
 if __name__ == "__main__":
-    main()
+    sys.exit(0 if main() else 1)

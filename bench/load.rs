@@ -1,0 +1,167 @@
+//! The load of request 13, and larger and smaller ones, made on the Rust side and handed to both.
+use crate::calls::{self, Parts};
+use crate::study::{rows, triples, Grid, Sheet, Study};
+use phonors::common::Vec3I;
+use phonors::tetrahedron_method::all_relative_grid_address;
+use phonors::triplet::set_relative_grid_address;
+use phonors::triplet_iw::{integration_weight_per_triplet, TpRelativeGridAddress, TpType};
+
+const MESH: i64 = 12;
+
+pub struct Load {
+    pub study: Study,
+    /// Pairs of neighbouring bands are the degenerate sets.
+    pub ids: Vec<i64>,
+    // the study as the Rust takes it
+    addresses: Vec<Vec3I>,
+    tables: TpRelativeGridAddress,
+    triplets: Vec<Vec3I>,
+}
+
+/// Numbers of request 1's sequence from 0, from place `from` on.
+fn draws(from: usize, count: usize) -> Vec<f64> {
+    let mut x: u32 = 0;
+    let mut next = || {
+        x = x.wrapping_mul(1664525).wrapping_add(1013904223);
+        (x >> 16) as f64 / 4096.0
+    };
+    for _ in 0..from {
+        next();
+    }
+    (0..count).map(|_| next()).collect()
+}
+
+/// Mesh 12, 12, 12 of kind 2, one address a grid point.
+fn grid() -> Grid {
+    let n = MESH.pow(3);
+    let addresses = (0..n).flat_map(|i| [i % MESH, i / MESH % MESH, i / MESH / MESH]);
+    Grid {
+        kind: 2,
+        mesh: [MESH; 3],
+        addresses: addresses.collect(),
+        map: (0..=n).collect(),
+    }
+}
+
+impl Load {
+    /// Table 0, type 2; triplet i is i, i, i. With 100 triplets, six bands and ten points, all drawn, it is request 13's load. Other
+    /// points repeat the drawn ones, which are the same for all band counts.
+    pub fn new(count: usize, bands: usize, points: usize, drawn: usize) -> Load {
+        let grid = grid();
+        let p = grid.count();
+        let study = Study {
+            table: all_relative_grid_address()[0].concat().concat(),
+            tp: 2,
+            bands: [bands as i64; 2],
+            f1: draws(0, p * bands),
+            f2: draws(p * bands, p * bands),
+            points: draws(12 * p, drawn)
+                .into_iter()
+                .cycle()
+                .take(points)
+                .collect(),
+            triplets: (0..count as i64).flat_map(|i| [i; 3]).collect(),
+            grid,
+        };
+        Load {
+            ids: (0..bands as i64).map(|b| b - b % 2).collect(),
+            addresses: triples(&study.grid.addresses),
+            tables: set_relative_grid_address(&rows(&study.table), study.tp),
+            triplets: triples(&study.triplets),
+            study,
+        }
+    }
+
+    /// A cleared sheet.
+    pub fn sheet(&self) -> Sheet {
+        let s = &self.study;
+        let cells = s.count() * s.per();
+        Sheet {
+            weights: vec![0.0; s.channels() * cells],
+            flags: vec![0; cells],
+            marks: vec![0; s.count() * s.pairs()],
+            tally: 0,
+        }
+    }
+}
+
+pub fn clear(s: &mut Sheet) {
+    s.weights.fill(0.0);
+    s.flags.fill(0);
+    s.marks.fill(0);
+    s.tally = 0;
+}
+
+/// The Rust's function for one triplet in a loop, on one thread.
+#[inline(never)]
+pub fn rust(l: &Load, sheet: &mut Sheet) {
+    let s = &l.study;
+    let (view, per) = (s.grid.view(&l.addresses), s.per());
+    let (a, b) = sheet.weights.split_at_mut(s.count() * per);
+    for (i, triplet) in l.triplets.iter().enumerate() {
+        let part = i * per..(i + 1) * per;
+        let mut channels: [&mut [f64]; 2] = [&mut a[part.clone()], &mut b[part.clone()]];
+        integration_weight_per_triplet(
+            &mut channels,
+            &mut sheet.flags[part],
+            &s.points,
+            s.points.len() as i64,
+            &l.tables,
+            *triplet,
+            &view,
+            &s.f1,
+            s.bands[0],
+            &s.f2,
+            s.bands[1],
+            TpType::Type2,
+        )
+        .unwrap();
+    }
+}
+
+#[inline(never)]
+pub fn rust_average(l: &Load, sheet: &mut Sheet, i: usize) {
+    sheet.rust_average(&l.study, i, [&l.ids, &l.ids]);
+}
+
+fn parts(s: &mut Sheet) -> Parts<'_> {
+    Parts {
+        weights: &mut s.weights,
+        flags: &mut s.flags,
+        marks: &mut s.marks,
+        tally: &mut s.tally,
+    }
+}
+
+#[inline(never)]
+pub fn carry_on(l: &Load, s: &mut Sheet) {
+    let no = calls::carry_on(&l.study, parts(s));
+    assert!(no == 0, "refused {no}");
+}
+
+/// The entry for all triplets, which has no marks.
+#[inline(never)]
+pub fn all_triplets(l: &Load, s: &mut Sheet) {
+    let no = calls::all_triplets(&l.study, &mut s.weights, &mut s.flags);
+    assert!(no == 0, "refused {no}");
+}
+
+#[inline(never)]
+pub fn run_piece(l: &Load, s: &mut Sheet, piece: [usize; 3]) {
+    let no = calls::run_piece(&l.study, parts(s), piece.map(|x| x as i64));
+    assert!(no == 0, "refused {no}");
+}
+
+#[inline(never)]
+pub fn average(l: &Load, s: &mut Sheet, i: usize) {
+    let no = calls::average_triplet(&l.study, parts(s), i as i64, [&l.ids, &l.ids]);
+    assert!(no == 0, "refused {no}");
+}
+
+/// A piece of a triplet that is not on the sheet: all the questions that every call asks, and no work.
+#[inline(never)]
+pub fn questions(l: &Load, s: &mut Sheet) {
+    let piece = [l.study.count() as i64, 0, 0];
+    let no = calls::run_piece(&l.study, parts(s), piece);
+    assert!(no == 14, "{no}, not refused with 14");
+}

@@ -1,0 +1,107 @@
+#!/usr/bin/env python3
+"""Shows that the judge can fail: each change below of the Rust or of the judge's questions must be seen.
+
+    mutants.py SOURCES OUT [SEED]
+
+SOURCES is the folder of the original's Rust sources, OUT a folder as build.sh leaves it (its proved side is used as it is; its judge is
+replaced). For each change a judge is built and run (`times 1`); its status must be 1. The kinds that saw the change are printed. The
+status is 1 where a change was not seen.
+"""
+import pathlib
+import shutil
+import subprocess
+import sys
+import tempfile
+
+REPO = pathlib.Path(__file__).resolve().parent.parent
+STEPS = "base[0] + rel[0], base[1] + rel[1], base[2] + rel[2]"
+AVERAGE = """.map(|b1| matrix[b1 * num_band + s2..][..c2].iter().sum::<f64>())
+                .sum();"""
+
+# file, old text, new text, and which of its places (the first where none is told); asks is the judge's own file
+CHANGES = [
+    ("tetrahedron_method", "THM_EPSILON: f64 = 1e-10", "THM_EPSILON: f64 = 1.1e-10"),
+    ("tetrahedron_method", "if min_length > length", "if min_length >= length"),
+    ("tetrahedron_method", "if v[1] > v[2]", "if v[1] >= v[2]"),
+    ("tetrahedron_method", "} else if omega < v[1] {", "} else if omega <= v[1] {"),
+    ("tetrahedron_method", "sum / (tetrahedra_omegas.len() as f64 / 4.0)", "sum * (4.0 / tetrahedra_omegas.len() as f64)"),
+    ("tetrahedron_method", "1.0 - _f(0, 3, omega, v) * _f(1, 3, omega, v) * _f(2, 3, omega, v)",
+     "1.0 - _f(0, 3, omega, v) * (_f(1, 3, omega, v) * _f(2, 3, omega, v))"),
+    ("tetrahedron_method", "[-1, -1, -1], [-1, -1, 0], [-1, 0, 0]]", "[-1, -1, -1], [-1, -1, 0], [0, -1, 0]]"),
+    ("tetrahedron_method", "iw_chunk[j * num_band + bi]", "iw_chunk[bi * num_fp + j]"),
+    ("tetrahedron_method", "a[0] * a[0] + a[1] * a[1] + a[2] * a[2]", "a[0] * a[0] + (a[1] * a[1] + a[2] * a[2])"),
+    ("bzgrid", STEPS, STEPS.replace("[2] +", "[2] -")),
+    ("bzgrid", STEPS, STEPS.replace("[2] +", "[2] -"), 1),
+    ("bzgrid", "if hi - lo > 1", "if hi - lo > 2"),
+    ("bzgrid", "out[i] = j;\n                    break;", "out[i] = j;"),
+    ("grgrid", "r2 * d_diag[0] * d_diag[1] + r1 * d_diag[0] + r0", "r0 * d_diag[2] * d_diag[1] + r1 * d_diag[2] + r2"),
+    ("common", "a[0][0] * b[0] as f64 + a[0][1] * b[1] as f64 + a[0][2] * b[2] as f64",
+     "a[0][0] * b[0] as f64 + (a[0][1] * b[1] as f64 + a[0][2] * b[2] as f64)"),
+    ("triplet", "if tp_type == 2 || tp_type == 3 { -1 }", "if tp_type == 2 { -1 }"),
+    ("triplet", "for i in 0..3 {\n        let mut sum_q", "for i in 0..2 {\n        let mut sum_q"),
+    ("triplet_iw", "fmin <= f0 && f0 <= fmax", "fmin <= f0 && f0 < fmax"),
+    ("triplet_iw", "if f1 < 0.0 {", "if f1 < -1.0 {"),
+    ("triplet_iw", "g[0] + g[1] + g[2]]", "g[0] + (g[1] + g[2])]"),
+    ("triplet_iw", AVERAGE, ".flat_map(|b1| matrix[b1 * num_band + s2..][..c2].iter().copied())\n                .sum();"),
+    ("triplet_iw", ".filter(|&(_, c1, _, c2)| c1 * c2 > 1)", ".filter(|&(_, c1, _, c2)| c1 * c2 > 2)"),
+    ("triplet_iw", ".contains(&0)", ".iter().all(|z| *z == 0)"),
+    ("asks", "within(*d, 1, 128)", "within(*d, 1, 129)"),
+    ("asks", "within(*x, -4096, 4096)", "within(*x, -4096, 4097)"),
+    ("asks", "within(p, n, 8 * n)", "within(p, n, 8 * n + 1)"),
+    ("asks", "zero_or(x, power(-600), power(30))", "zero_or(x, power(-600), power(29))"),
+    ("asks", "zero_or(x, power(-660), power(31))", "zero_or(x, power(-659), power(31))"),
+    ("asks", "within(things, 0, 65536)", "within(things, 0, 65537)"),
+    ("asks", "within(points, 1, 1024)", "within(points, 1, 1025)"),
+    ("asks", "w.abs() <= power(60) && !(w == 0.0 && w.is_sign_negative())", "w.abs() <= power(60)"),
+    ("asks", "(0..n).all(|i| g.map[i] < g.map[i + 1])", "(0..n).all(|i| g.map[i] <= g.map[i + 1])"),
+    ("asks", "(averaged == 0 || averaged == m.len())", "(averaged == 0 || averaged > 0)"),
+    ("asks", "(before as u128 + runs as u128) < 1 << 63", "(before as u128 + runs as u128) <= 1 << 63"),
+    ("asks", "(10, &|| s.triplets.len() % 3 == 0 && on_grid(&s.grid, &s.triplets)),\n            (11, &|| study_frequencies(s)),",
+     "(11, &|| study_frequencies(s)),\n            (10, &|| s.triplets.len() % 3 == 0 && on_grid(&s.grid, &s.triplets)),"),
+]
+
+
+def source_file(folder, module):
+    names = [p + module + e for p in ("src--src--", "src--", "") for e in (".rs.txt", ".rs")]
+    return next(folder / n for n in names if (folder / n).is_file())
+
+
+def changed(path, old, new, place=0):
+    parts = path.read_text().split(old)
+    assert len(parts) > place + 1, (path, old)
+    path.write_text(old.join(parts[:place + 1]) + new + old.join(parts[place + 1:]))
+
+
+def seen_by(said):
+    """The kinds of a judge's lines that differ."""
+    lines = [l.split("\t") for l in said.split("\n") if l.startswith("kind\t")]
+    return ["%s %s" % (l[1], l[5]) for l in lines if l[5] != "0"]
+
+
+def tried(sources, out, seed, change):
+    """Whether the judge saw the change."""
+    with tempfile.TemporaryDirectory() as room:
+        room = pathlib.Path(room)
+        shutil.copytree(sources, room / "sources")
+        for part in ("compare", "foreign"):
+            shutil.copytree(REPO / part, room / part)
+        module = change[0]
+        changed(room / "compare/judge/asks.rs" if module == "asks" else source_file(room / "sources", module), *change[1:])
+        subprocess.run([room / "compare/build.sh", room / "sources", out, "judge"], check=True, stdout=subprocess.DEVNULL)
+        end = subprocess.run([out / "judge", str(seed), "times", "1"], stdout=subprocess.PIPE, text=True)
+        kinds = seen_by(end.stdout)
+        seen = end.returncode == 1 and kinds != []
+        print("%s\t%s: %s\t%s" % ("seen" if seen else "NOT SEEN", module, " ".join(change[1].split()), "; ".join(kinds)), flush=True)
+        return seen
+
+
+def main():
+    sources, out = (pathlib.Path(p).resolve() for p in sys.argv[1:3])
+    seed = int(sys.argv[3]) if len(sys.argv) > 3 else 1
+    missed = [c for c in CHANGES if not tried(sources, out, seed, c)]
+    print("%d changes, %d not seen" % (len(CHANGES), len(missed)))
+    return 1 if missed else 0
+
+
+if __name__ == "__main__":
+    sys.exit(main())
