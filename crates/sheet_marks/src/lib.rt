@@ -11,6 +11,7 @@ pub struct Tally {
     pub runs: u64,
 }
 
+// The tally with the runs added, or the number of question 20.
 pub enum Added {
     To(Tally),
     Refused(u64),
@@ -43,6 +44,7 @@ pub struct Counts {
     pub num_band2: i64,
 }
 
+// The open count, or the number of the first question that is answered no.
 pub enum OpenAnswer {
     Open(u64),
     Refused(u64),
