@@ -1,4 +1,4 @@
-// What a run sheet counts and marks: the tally of accepted runs, the marks of the pieces, and the open count of a triplet.
+// What a run sheet counts: the tally of accepted runs, and the open count of a triplet.
 ghost use mathlib.Core.Path.{_≡_};
 ghost use Prim.Native.Nat.{_*_, _<_};
 ghost use Rattle.sheet_marks.specs.Tallies.{addedTo};

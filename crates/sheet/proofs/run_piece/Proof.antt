@@ -210,7 +210,7 @@ same-length-5 c =
     ap length (c .before .before .before .before .before .before .before .fill-named .ensures .1) ∙ length-computed-flags _ _ (c .before .before .before .before .before .before .before .before .before .before .before .before .before .before .before .before .before .before .before .before .before .before .before .before .before .before .before .before .before .before .before .before .before .before .args .flags .now)
 
 same-length-6 : tie.Need-same-length-6
-same-length-6 c = ap length (c .before .before .set-mark .ensures) ∙ length-set (c .before .before .before .before .before .before .before .before .before .before .before .before .before .before .before .before .before .before .before .before .before .before .before .before .before .before .before .before .before .before .before .before .before .before .args .marks .now) (placed (c .before .before .before .before .before .before .before .before .before .before)) 1
+same-length-6 c = ap length (c .before .before .set-mark .ensures) ∙ length-set (c .before .before .before .before .before .before .before .before .before .before .before .before .before .before .before .before .before .before .before .before .before .before .before .before .before .before .before .before .before .before .before .before .before .before .args .marks .now) (placed (c .before .before .before .before .before .before .before .before .before .before)) _
 
 returns-4 : tie.Need-returns-4
 unfolding effect

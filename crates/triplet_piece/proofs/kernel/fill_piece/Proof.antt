@@ -73,18 +73,27 @@ box-of-requires-3 c κs =
 
 sort-rows-requires : tie.Need-sort-rows-requires
 sort-rows-requires c κs =
-    let s : _ = c .before .before .before .before .before .before .before .before .before .before .before .before .before .before .before .before .before .before .before .before .before .before .before .before .before .before .before .before in
-    (s .pre .0 .0 .1, c .before .before .before .before .before .before .before .before .before .before .before .before .before .before .before .before .fill-channel .ensures .size, s .pre .1 .1 .places0)
+    let s : _ = c .before .before .before .before .before .before .before .before .before .before .before .before .before .before .before .before .before .before .before .before .before .before .before .before .before .before .before .before in (
+      s .pre .0 .0 .1,
+      c .before .before .before .before .before .before .before .before .before .before .before .before .before .before .before .before .fill-channel .ensures .size,
+      s .pre .1 .1 .places0,
+    )
 
 sort-rows-requires-2 : tie.Need-sort-rows-requires-2
 sort-rows-requires-2 c κs =
-    let s : _ = c .before .before .before .before .before .before .before .before .before .before .before .before .before .before .before .before .before .before .before .before .before .before .before .before .before .before .before .before .before .before .before in
-    (s .pre .0 .0 .1, c .before .before .before .before .before .before .before .before .before .before .before .before .before .before .before .fill-channel2 .ensures .size, s .pre .1 .1 .places1)
+    let s : _ = c .before .before .before .before .before .before .before .before .before .before .before .before .before .before .before .before .before .before .before .before .before .before .before .before .before .before .before .before .before .before .before in (
+      s .pre .0 .0 .1,
+      c .before .before .before .before .before .before .before .before .before .before .before .before .before .before .before .fill-channel2 .ensures .size,
+      s .pre .1 .1 .places1,
+    )
 
 sort-rows-requires-3 : tie.Need-sort-rows-requires-3
 sort-rows-requires-3 c κs =
-    let s : _ = c .before .before .before .before .before .before .before .before .before .before .before .before .before .before .before .before .before .before .before .before .before .before .before .before .before .before .before .before .before .before .before .before .before .before in
-    (s .pre .0 .0 .1, c .before .before .before .before .before .before .before .before .before .before .before .before .before .before .fill-channel3 .ensures .size, s .pre .1 .1 .places2)
+    let s : _ = c .before .before .before .before .before .before .before .before .before .before .before .before .before .before .before .before .before .before .before .before .before .before .before .before .before .before .before .before .before .before .before .before .before .before in (
+      s .pre .0 .0 .1,
+      c .before .before .before .before .before .before .before .before .before .before .before .before .before .before .fill-channel3 .ensures .size,
+      s .pre .1 .1 .places2,
+    )
 
 fill-points-requires : tie.Need-fill-points-requires
 fill-points-requires c κs =
@@ -102,7 +111,24 @@ returns : tie.Need-returns
 unfolding outputsOfCorners
 returns c =
     let s : _ = c .before .before .before .before .before .before .before .before .before .before .before .before .before .before .before .before .before .before .before .before .before .before .before .before .before .before .before .before .before .before .before .before .before .before .before .before .before .before .before .before .before .before .before .before .before .before .before in
-    (record { size1 = c .before .before .before .before .before .before .before .before .before .before .before .before .before .before .before .before .before .before .before .before .before .before .before .before .before .before .before .before .before .before .before .before .before .before .before .before .before .before .before .before .before .fill-frequencies .ensures .size; size2 = c .before .before .before .before .before .before .before .before .before .before .before .before .before .before .before .before .before .before .before .before .before .before .before .before .before .before .before .before .before .before .before .before .before .before .before .before .before .before .before .fill-frequencies2 .ensures .size; channel0 = c .before .before .before .before .before .before .before .before .before .before .before .before .before .before .before .before .before .before .sort-rows .ensures .size; places0 = c .before .before .before .before .before .before .before .before .before .before .before .before .before .before .before .before .before .before .sort-rows .ensures .count; channel1 = c .before .before .before .before .before .before .before .before .before .before .before .before .before .before .before .sort-rows2 .ensures .size; places1 = c .before .before .before .before .before .before .before .before .before .before .before .before .before .before .before .sort-rows2 .ensures .count; channel2 = c .before .before .before .before .before .before .before .before .before .before .before .before .sort-rows3 .ensures .size; places2 = c .before .before .before .before .before .before .before .before .before .before .before .before .sort-rows3 .ensures .count }, (c .before .before .before .fill-points .ensures .0 ∙ weights-same (s .args .z) _ _ _ (λ x. outputs-is (s .args .tp) (getD (s .args .points .now) x nan) (s .args .rows) (s .pre .0 .0 .0) (prepare 0 (s .args .rows) (c .before .before .before .before .before .before .before .before .before .before .before .before .before .before .before .before .before .before .before .before .before .before .before .before .before .before .before .before .before .before .before .before .before .before .before .before .before .before .before .before .before .fill-frequencies .ensures) (c .before .before .before .before .before .before .before .before .before .before .before .before .before .before .before .before .before .before .before .before .before .before .before .before .before .before .before .before .before .before .before .before .before .before .before .before .before .before .before .fill-frequencies2 .ensures) (c .before .before .before .before .before .before .before .before .before .before .before .before .before .before .before .before .before .before .before .before .before .before .before .before .before .before .before .before .before .before .before .before .before .before .before .fill-channel .ensures) (c .before .before .before .before .before .before .before .before .before .before .before .before .before .before .before .before .before .before .sort-rows .ensures .sorted) (c .before .before .before .before .before .before .before .before .before .before .before .before .before .before .before .before .before .before .before .before .before .before .before .before .before .box-of .ensures)) (prepare 1 (s .args .rows) (c .before .before .before .before .before .before .before .before .before .before .before .before .before .before .before .before .before .before .before .before .before .before .before .before .before .before .before .before .before .before .before .before .before .before .before .before .before .before .before .before .before .fill-frequencies .ensures) (c .before .before .before .before .before .before .before .before .before .before .before .before .before .before .before .before .before .before .before .before .before .before .before .before .before .before .before .before .before .before .before .before .before .before .before .before .before .before .before .fill-frequencies2 .ensures) (c .before .before .before .before .before .before .before .before .before .before .before .before .before .before .before .before .before .before .before .before .before .before .before .before .before .before .before .before .before .before .before .fill-channel2 .ensures) (c .before .before .before .before .before .before .before .before .before .before .before .before .before .before .before .sort-rows2 .ensures .sorted) (c .before .before .before .before .before .before .before .before .before .before .before .before .before .before .before .before .before .before .before .before .before .before .before .box-of2 .ensures)) (prepare 2 (s .args .rows) (c .before .before .before .before .before .before .before .before .before .before .before .before .before .before .before .before .before .before .before .before .before .before .before .before .before .before .before .before .before .before .before .before .before .before .before .before .before .before .before .before .before .fill-frequencies .ensures) (c .before .before .before .before .before .before .before .before .before .before .before .before .before .before .before .before .before .before .before .before .before .before .before .before .before .before .before .before .before .before .before .before .before .before .before .before .before .before .before .fill-frequencies2 .ensures) (c .before .before .before .before .before .before .before .before .before .before .before .before .before .before .before .before .before .before .before .before .before .before .before .before .before .before .before .fill-channel3 .ensures) (c .before .before .before .before .before .before .before .before .before .before .before .before .sort-rows3 .ensures .sorted) (c .before .before .before .before .before .before .before .before .before .before .before .before .before .before .before .before .before .before .before .before .before .box-of3 .ensures))) (s .args .weights .now), c .before .before .before .fill-points .ensures .1 ∙ flags-same (s .args .z) _ _ _ (λ x. outputs-is (s .args .tp) (getD (s .args .points .now) x nan) (s .args .rows) (s .pre .0 .0 .0) (prepare 0 (s .args .rows) (c .before .before .before .before .before .before .before .before .before .before .before .before .before .before .before .before .before .before .before .before .before .before .before .before .before .before .before .before .before .before .before .before .before .before .before .before .before .before .before .before .before .fill-frequencies .ensures) (c .before .before .before .before .before .before .before .before .before .before .before .before .before .before .before .before .before .before .before .before .before .before .before .before .before .before .before .before .before .before .before .before .before .before .before .before .before .before .before .fill-frequencies2 .ensures) (c .before .before .before .before .before .before .before .before .before .before .before .before .before .before .before .before .before .before .before .before .before .before .before .before .before .before .before .before .before .before .before .before .before .before .before .fill-channel .ensures) (c .before .before .before .before .before .before .before .before .before .before .before .before .before .before .before .before .before .before .sort-rows .ensures .sorted) (c .before .before .before .before .before .before .before .before .before .before .before .before .before .before .before .before .before .before .before .before .before .before .before .before .before .box-of .ensures)) (prepare 1 (s .args .rows) (c .before .before .before .before .before .before .before .before .before .before .before .before .before .before .before .before .before .before .before .before .before .before .before .before .before .before .before .before .before .before .before .before .before .before .before .before .before .before .before .before .before .fill-frequencies .ensures) (c .before .before .before .before .before .before .before .before .before .before .before .before .before .before .before .before .before .before .before .before .before .before .before .before .before .before .before .before .before .before .before .before .before .before .before .before .before .before .before .fill-frequencies2 .ensures) (c .before .before .before .before .before .before .before .before .before .before .before .before .before .before .before .before .before .before .before .before .before .before .before .before .before .before .before .before .before .before .before .fill-channel2 .ensures) (c .before .before .before .before .before .before .before .before .before .before .before .before .before .before .before .sort-rows2 .ensures .sorted) (c .before .before .before .before .before .before .before .before .before .before .before .before .before .before .before .before .before .before .before .before .before .before .before .box-of2 .ensures)) (prepare 2 (s .args .rows) (c .before .before .before .before .before .before .before .before .before .before .before .before .before .before .before .before .before .before .before .before .before .before .before .before .before .before .before .before .before .before .before .before .before .before .before .before .before .before .before .before .before .fill-frequencies .ensures) (c .before .before .before .before .before .before .before .before .before .before .before .before .before .before .before .before .before .before .before .before .before .before .before .before .before .before .before .before .before .before .before .before .before .before .before .before .before .before .before .fill-frequencies2 .ensures) (c .before .before .before .before .before .before .before .before .before .before .before .before .before .before .before .before .before .before .before .before .before .before .before .before .before .before .before .fill-channel3 .ensures) (c .before .before .before .before .before .before .before .before .before .before .before .before .sort-rows3 .ensures .sorted) (c .before .before .before .before .before .before .before .before .before .before .before .before .before .before .before .before .before .before .before .before .before .box-of3 .ensures))) (s .args .flags .now)))
+    let p0 : _ = prepare 0 (s .args .rows) (c .before .before .before .before .before .before .before .before .before .before .before .before .before .before .before .before .before .before .before .before .before .before .before .before .before .before .before .before .before .before .before .before .before .before .before .before .before .before .before .before .before .fill-frequencies .ensures) (c .before .before .before .before .before .before .before .before .before .before .before .before .before .before .before .before .before .before .before .before .before .before .before .before .before .before .before .before .before .before .before .before .before .before .before .before .before .before .before .fill-frequencies2 .ensures) (c .before .before .before .before .before .before .before .before .before .before .before .before .before .before .before .before .before .before .before .before .before .before .before .before .before .before .before .before .before .before .before .before .before .before .before .fill-channel .ensures) (c .before .before .before .before .before .before .before .before .before .before .before .before .before .before .before .before .before .before .sort-rows .ensures .sorted) (c .before .before .before .before .before .before .before .before .before .before .before .before .before .before .before .before .before .before .before .before .before .before .before .before .before .box-of .ensures) in
+    let p1 : _ = prepare 1 (s .args .rows) (c .before .before .before .before .before .before .before .before .before .before .before .before .before .before .before .before .before .before .before .before .before .before .before .before .before .before .before .before .before .before .before .before .before .before .before .before .before .before .before .before .before .fill-frequencies .ensures) (c .before .before .before .before .before .before .before .before .before .before .before .before .before .before .before .before .before .before .before .before .before .before .before .before .before .before .before .before .before .before .before .before .before .before .before .before .before .before .before .fill-frequencies2 .ensures) (c .before .before .before .before .before .before .before .before .before .before .before .before .before .before .before .before .before .before .before .before .before .before .before .before .before .before .before .before .before .before .before .fill-channel2 .ensures) (c .before .before .before .before .before .before .before .before .before .before .before .before .before .before .before .sort-rows2 .ensures .sorted) (c .before .before .before .before .before .before .before .before .before .before .before .before .before .before .before .before .before .before .before .before .before .before .before .box-of2 .ensures) in
+    let p2 : _ = prepare 2 (s .args .rows) (c .before .before .before .before .before .before .before .before .before .before .before .before .before .before .before .before .before .before .before .before .before .before .before .before .before .before .before .before .before .before .before .before .before .before .before .before .before .before .before .before .before .fill-frequencies .ensures) (c .before .before .before .before .before .before .before .before .before .before .before .before .before .before .before .before .before .before .before .before .before .before .before .before .before .before .before .before .before .before .before .before .before .before .before .before .before .before .before .fill-frequencies2 .ensures) (c .before .before .before .before .before .before .before .before .before .before .before .before .before .before .before .before .before .before .before .before .before .before .before .before .before .before .before .fill-channel3 .ensures) (c .before .before .before .before .before .before .before .before .before .before .before .before .sort-rows3 .ensures .sorted) (c .before .before .before .before .before .before .before .before .before .before .before .before .before .before .before .before .before .before .before .before .before .box-of3 .ensures) in (
+      record {
+        size1 = c .before .before .before .before .before .before .before .before .before .before .before .before .before .before .before .before .before .before .before .before .before .before .before .before .before .before .before .before .before .before .before .before .before .before .before .before .before .before .before .before .before .fill-frequencies .ensures .size;
+        size2 = c .before .before .before .before .before .before .before .before .before .before .before .before .before .before .before .before .before .before .before .before .before .before .before .before .before .before .before .before .before .before .before .before .before .before .before .before .before .before .before .fill-frequencies2 .ensures .size;
+        channel0 = c .before .before .before .before .before .before .before .before .before .before .before .before .before .before .before .before .before .before .sort-rows .ensures .size;
+        places0 = c .before .before .before .before .before .before .before .before .before .before .before .before .before .before .before .before .before .before .sort-rows .ensures .count;
+        channel1 = c .before .before .before .before .before .before .before .before .before .before .before .before .before .before .before .sort-rows2 .ensures .size;
+        places1 = c .before .before .before .before .before .before .before .before .before .before .before .before .before .before .before .sort-rows2 .ensures .count;
+        channel2 = c .before .before .before .before .before .before .before .before .before .before .before .before .sort-rows3 .ensures .size;
+        places2 = c .before .before .before .before .before .before .before .before .before .before .before .before .sort-rows3 .ensures .count;
+      },
+      (
+        c .before .before .before .fill-points .ensures .0 ∙ weights-same (s .args .z) _ _ _ (λ x. outputs-is (s .args .tp) (getD (s .args .points .now) x nan) (s .args .rows) (s .pre .0 .0 .0) p0 p1 p2) (s .args .weights .now),
+        c .before .before .before .fill-points .ensures .1 ∙ flags-same (s .args .z) _ _ _ (λ x. outputs-is (s .args .tp) (getD (s .args .points .now) x nan) (s .args .rows) (s .pre .0 .0 .0) p0 p1 p2) (s .args .flags .now),
+      ),
+    )
 
 pub fill-piece-spec : {M : Type 1} → statement M
 fill-piece-spec =

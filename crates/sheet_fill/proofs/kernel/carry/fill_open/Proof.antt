@@ -12,7 +12,8 @@ use Rattle.sheet_fill.specs.Within.{closedWithin, openWithin}
 use Rattle.triplet_corners.proofs.CornerLaws.{second-length, second-lent}
 use Rattle.triplet_iw.proofs.TripletLaws.{triplets-few}
 use Rattle.triplet_piece.proofs.StudyLaws.{length-computed, length-computed-flags}
-use Rattle.triplet_piece.specs.Study.{computedFlags, computedWeights, study}
+use Rattle.bzgrid.specs.declared.BzGrid.{BzGrid}
+use Rattle.triplet_piece.specs.Study.{Study, computedFlags, computedWeights, study}
 use Rattle.sheet_fill.proofs.kernel.carry.fill_open.Statement.{statement}
 use Rattle.sheet_fill.proofs.kernel.carry.fill_open.Tie as tie
 
@@ -24,6 +25,10 @@ abbrev μ-loop : tie.MeasureT-loop
 μ-loop weights₀ flags₀ marks₀ z tp grid addresses gp-map steps frequencies1 frequencies2 points triplets second m rows n t₀ weights flags marks t =
     z .triplets - t
 
+-- the study that the arguments make, on a grid
+abbrev studied : tie.Start Inv-loop μ-loop → BzGrid → Study
+studied s g = study (s .args .tp) g (s .args .addresses .now) (s .args .gp-map .now) (s .args .steps .now) (s .args .z .bands1) (s .args .z .bands2) (s .args .frequencies1 .now) (s .args .frequencies2 .now) (s .args .points .now) (s .args .triplets .now)
+
 second-steps-requires : tie.Need-second-steps-requires Inv-loop μ-loop
 second-steps-requires c κs =
     let s : _ = c .before .before .before .before .before in
@@ -32,8 +37,13 @@ second-steps-requires c κs =
 loop-holds : tie.Need-loop-holds Inv-loop μ-loop
 loop-holds c =
     let s : _ = c .before .before .before .before .before .before in
-    let z0 : 0 * (s .args .z .pairs) ≡ 0 = zero-mul (s .args .z .pairs) in
-    (zero-le, (rw z0 (weights-none (study (s .args .tp) (s .args .grid) (s .args .addresses .now) (s .args .gp-map .now) (s .args .steps .now) (s .args .z .bands1) (s .args .z .bands2) (s .args .frequencies1 .now) (s .args .frequencies2 .now) (s .args .points .now) (s .args .triplets .now)) (s .args .marks .now) 0 (s .args .weights .now)), (rw z0 (flags-none (study (s .args .tp) (s .args .grid) (s .args .addresses .now) (s .args .gp-map .now) (s .args .steps .now) (s .args .z .bands1) (s .args .z .bands2) (s .args .frequencies1 .now) (s .args .frequencies2 .now) (s .args .points .now) (s .args .triplets .now)) (s .args .marks .now) 0 (s .args .flags .now)), rw z0 (closed-none (s .args .marks .now) 0))))
+    let z0 : 0 * (s .args .z .pairs) ≡ 0 = zero-mul (s .args .z .pairs) in (
+      zero-le,
+      (
+        rw z0 (weights-none (studied s (s .args .grid)) (s .args .marks .now) 0 (s .args .weights .now)),
+        (rw z0 (flags-none (studied s (s .args .grid)) (s .args .marks .now) 0 (s .args .flags .now)), rw z0 (closed-none (s .args .marks .now) 0)),
+      ),
+    )
 
 array-share-prefix-second : tie.Need-array-share-prefix-second Inv-loop μ-loop
 array-share-prefix-second c =
@@ -49,10 +59,15 @@ slice-aggregate-fill-triplet-if-open c =
 fill-triplet-if-open-requires : tie.Need-fill-triplet-if-open-requires Inv-loop μ-loop
 fill-triplet-if-open-requires c κs =
     let s : _ = c .before .before .before .before .before .before .before .before .before .before .before .before in
-    let lw : length (c .before .before .before .before .before .loop .weights) ≡ length (s .args .weights .now) = ap length (c .before .before .before .before .before .loop .inv .1 .0) ∙ length-computed (study (s .args .tp) (s .args .grid) (s .args .addresses .now) (s .args .gp-map .now) (s .args .steps .now) (s .args .z .bands1) (s .args .z .bands2) (s .args .frequencies1 .now) (s .args .frequencies2 .now) (s .args .points .now) (s .args .triplets .now)) (openWithin (s .args .marks .now) 0 ((c .before .before .before .before .before .loop .t) * (s .args .z .pairs))) (s .args .weights .now) in
-    let lf : length (c .before .before .before .before .before .loop .flags) ≡ length (s .args .flags .now) = ap length (c .before .before .before .before .before .loop .inv .1 .1 .0) ∙ length-computed-flags (study (s .args .tp) (s .args .grid) (s .args .addresses .now) (s .args .gp-map .now) (s .args .steps .now) (s .args .z .bands1) (s .args .z .bands2) (s .args .frequencies1 .now) (s .args .frequencies2 .now) (s .args .points .now) (s .args .triplets .now)) (openWithin (s .args .marks .now) 0 ((c .before .before .before .before .before .loop .t) * (s .args .z .pairs))) (s .args .flags .now) in
-    let lm : length (c .before .before .before .before .before .loop .marks) ≡ length (s .args .marks .now) = ap length (c .before .before .before .before .before .loop .inv .1 .1 .1) ∙ length-closed (s .args .marks .now) 0 ((c .before .before .before .before .before .loop .t) * (s .args .z .pairs)) in
-    (rw (lw, lf) (s .pre .0), (second-lent (s .args .tp) (s .args .steps .now) (c .before .before .before .before .before .before .second-steps .result) (c .before .before .before .before .before .before .second-steps .ensures), (refl, (omega (arith, c .before .before .before .before .loop-test .taken), lm ∙ s .pre .1))))
+    let lw : length (c .before .before .before .before .before .loop .weights) ≡ length (s .args .weights .now) = ap length (c .before .before .before .before .before .loop .inv .1 .0) ∙ length-computed (studied s (s .args .grid)) (openWithin (s .args .marks .now) 0 ((c .before .before .before .before .before .loop .t) * (s .args .z .pairs))) (s .args .weights .now) in
+    let lf : length (c .before .before .before .before .before .loop .flags) ≡ length (s .args .flags .now) = ap length (c .before .before .before .before .before .loop .inv .1 .1 .0) ∙ length-computed-flags (studied s (s .args .grid)) (openWithin (s .args .marks .now) 0 ((c .before .before .before .before .before .loop .t) * (s .args .z .pairs))) (s .args .flags .now) in
+    let lm : length (c .before .before .before .before .before .loop .marks) ≡ length (s .args .marks .now) = ap length (c .before .before .before .before .before .loop .inv .1 .1 .1) ∙ length-closed (s .args .marks .now) 0 ((c .before .before .before .before .before .loop .t) * (s .args .z .pairs)) in (
+      rw (lw, lf) (s .pre .0),
+      (
+        second-lent (s .args .tp) (s .args .steps .now) (c .before .before .before .before .before .before .second-steps .result) (c .before .before .before .before .before .before .second-steps .ensures),
+        (refl, (omega (arith, c .before .before .before .before .loop-test .taken), lm ∙ s .pre .1)),
+      ),
+    )
 
 add-t : tie.Need-add-t Inv-loop μ-loop
 add-t c =
@@ -65,19 +80,27 @@ loop-less c =
 
 loop-again : tie.Need-loop-again Inv-loop μ-loop
 loop-again c =
-    let s : _ = c .before .before .before .before .before .before .before .before .before .before .before .before .before .before .before .before .before .before in
-    (search needs, (c .before .before .before .before .before .fill-triplet-if-open .ensures .0 ∙ weights-more (study (s .args .tp) (s .args .grid) (s .args .addresses .now) (s .args .gp-map .now) (s .args .steps .now) (s .args .z .bands1) (s .args .z .bands2) (s .args .frequencies1 .now) (s .args .frequencies2 .now) (s .args .points .now) (s .args .triplets .now)) (s .args .marks .now) (c .before .before .before .before .before .before .before .before .before .before .before .loop .marks) (s .args .z .pairs) (c .before .before .before .before .before .before .before .before .before .before .before .loop .t) (c .before .before .before .before .before .before .before .before .before .before .before .loop .inv .1 .1 .1) (c .before .before .before .before .before .before .before .before .before .before .before .loop .weights) (s .args .weights .now) (c .before .before .before .before .before .before .before .before .before .before .before .loop .inv .1 .0), (c .before .before .before .before .before .fill-triplet-if-open .ensures .1 .0 ∙ flags-more (study (s .args .tp) (s .args .grid) (s .args .addresses .now) (s .args .gp-map .now) (s .args .steps .now) (s .args .z .bands1) (s .args .z .bands2) (s .args .frequencies1 .now) (s .args .frequencies2 .now) (s .args .points .now) (s .args .triplets .now)) (s .args .marks .now) (c .before .before .before .before .before .before .before .before .before .before .before .loop .marks) (s .args .z .pairs) (c .before .before .before .before .before .before .before .before .before .before .before .loop .t) (c .before .before .before .before .before .before .before .before .before .before .before .loop .inv .1 .1 .1) (c .before .before .before .before .before .before .before .before .before .before .before .loop .flags) (s .args .flags .now) (c .before .before .before .before .before .before .before .before .before .before .before .loop .inv .1 .1 .0), c .before .before .before .before .before .fill-triplet-if-open .ensures .1 .1 ∙ marks-more (study (s .args .tp) (s .args .grid) (s .args .addresses .now) (s .args .gp-map .now) (s .args .steps .now) (s .args .z .bands1) (s .args .z .bands2) (s .args .frequencies1 .now) (s .args .frequencies2 .now) (s .args .points .now) (s .args .triplets .now)) (s .args .marks .now) (c .before .before .before .before .before .before .before .before .before .before .before .loop .marks) (s .args .z .pairs) (c .before .before .before .before .before .before .before .before .before .before .before .loop .t) (c .before .before .before .before .before .before .before .before .before .before .before .loop .inv .1 .1 .1))))
+    let s : _ = c .before .before .before .before .before .before .before .before .before .before .before .before .before .before .before .before .before .before in (
+      search needs,
+      (
+        c .before .before .before .before .before .fill-triplet-if-open .ensures .0 ∙ weights-more (studied s (s .args .grid)) (s .args .marks .now) (c .before .before .before .before .before .before .before .before .before .before .before .loop .marks) (s .args .z .pairs) (c .before .before .before .before .before .before .before .before .before .before .before .loop .t) (c .before .before .before .before .before .before .before .before .before .before .before .loop .inv .1 .1 .1) (c .before .before .before .before .before .before .before .before .before .before .before .loop .weights) (s .args .weights .now) (c .before .before .before .before .before .before .before .before .before .before .before .loop .inv .1 .0),
+        (
+          c .before .before .before .before .before .fill-triplet-if-open .ensures .1 .0 ∙ flags-more (studied s (s .args .grid)) (s .args .marks .now) (c .before .before .before .before .before .before .before .before .before .before .before .loop .marks) (s .args .z .pairs) (c .before .before .before .before .before .before .before .before .before .before .before .loop .t) (c .before .before .before .before .before .before .before .before .before .before .before .loop .inv .1 .1 .1) (c .before .before .before .before .before .before .before .before .before .before .before .loop .flags) (s .args .flags .now) (c .before .before .before .before .before .before .before .before .before .before .before .loop .inv .1 .1 .0),
+          c .before .before .before .before .before .fill-triplet-if-open .ensures .1 .1 ∙ marks-more (studied s (s .args .grid)) (s .args .marks .now) (c .before .before .before .before .before .before .before .before .before .before .before .loop .marks) (s .args .z .pairs) (c .before .before .before .before .before .before .before .before .before .before .before .loop .t) (c .before .before .before .before .before .before .before .before .before .before .before .loop .inv .1 .1 .1),
+        ),
+      ),
+    )
 
 same-length : tie.Need-same-length Inv-loop μ-loop
 same-length c =
     let s : _ = c .before .before .before .before .before .before .before .before in
-    let lw : length (c .before .loop .weights) ≡ length (s .args .weights .now) = ap length (c .before .loop .inv .1 .0) ∙ length-computed (study (s .args .tp) (s .args .grid) (s .args .addresses .now) (s .args .gp-map .now) (s .args .steps .now) (s .args .z .bands1) (s .args .z .bands2) (s .args .frequencies1 .now) (s .args .frequencies2 .now) (s .args .points .now) (s .args .triplets .now)) (openWithin (s .args .marks .now) 0 ((c .before .loop .t) * (s .args .z .pairs))) (s .args .weights .now) in
+    let lw : length (c .before .loop .weights) ≡ length (s .args .weights .now) = ap length (c .before .loop .inv .1 .0) ∙ length-computed (studied s (s .args .grid)) (openWithin (s .args .marks .now) 0 ((c .before .loop .t) * (s .args .z .pairs))) (s .args .weights .now) in
     lw
 
 same-length-2 : tie.Need-same-length-2 Inv-loop μ-loop
 same-length-2 c =
     let s : _ = c .before .before .before .before .before .before .before .before in
-    let lf : length (c .before .loop .flags) ≡ length (s .args .flags .now) = ap length (c .before .loop .inv .1 .1 .0) ∙ length-computed-flags (study (s .args .tp) (s .args .grid) (s .args .addresses .now) (s .args .gp-map .now) (s .args .steps .now) (s .args .z .bands1) (s .args .z .bands2) (s .args .frequencies1 .now) (s .args .frequencies2 .now) (s .args .points .now) (s .args .triplets .now)) (openWithin (s .args .marks .now) 0 ((c .before .loop .t) * (s .args .z .pairs))) (s .args .flags .now) in
+    let lf : length (c .before .loop .flags) ≡ length (s .args .flags .now) = ap length (c .before .loop .inv .1 .1 .0) ∙ length-computed-flags (studied s (s .args .grid)) (openWithin (s .args .marks .now) 0 ((c .before .loop .t) * (s .args .z .pairs))) (s .args .flags .now) in
     lf
 
 same-length-3 : tie.Need-same-length-3 Inv-loop μ-loop
@@ -89,8 +112,13 @@ same-length-3 c =
 returns : tie.Need-returns Inv-loop μ-loop
 returns c =
     let s : _ = c .before .before .before .before .before .before .before .before in
-    let e : (c .before .loop .t) * (s .args .z .pairs) ≡ length (s .args .marks .now) = (let e2 : (c .before .loop .t) ≡ s .args .z .triplets = omega arith in rw e2 (sym (s .pre .1))) in
-    (c .before .loop .inv .1 .0 ∙ weights-all (study (s .args .tp) (s .args .grid) (s .args .addresses .now) (s .args .gp-map .now) (s .args .steps .now) (s .args .z .bands1) (s .args .z .bands2) (s .args .frequencies1 .now) (s .args .frequencies2 .now) (s .args .points .now) (s .args .triplets .now)) (s .args .marks .now) ((c .before .loop .t) * (s .args .z .pairs)) e (s .args .weights .now), (c .before .loop .inv .1 .1 .0 ∙ flags-all (study (s .args .tp) (s .args .grid) (s .args .addresses .now) (s .args .gp-map .now) (s .args .steps .now) (s .args .z .bands1) (s .args .z .bands2) (s .args .frequencies1 .now) (s .args .frequencies2 .now) (s .args .points .now) (s .args .triplets .now)) (s .args .marks .now) ((c .before .loop .t) * (s .args .z .pairs)) e (s .args .flags .now), c .before .loop .inv .1 .1 .1 ∙ closed-all (s .args .marks .now) ((c .before .loop .t) * (s .args .z .pairs)) e))
+    let e : (c .before .loop .t) * (s .args .z .pairs) ≡ length (s .args .marks .now) = (let e2 : (c .before .loop .t) ≡ s .args .z .triplets = omega arith in rw e2 (sym (s .pre .1))) in (
+      c .before .loop .inv .1 .0 ∙ weights-all (studied s (s .args .grid)) (s .args .marks .now) ((c .before .loop .t) * (s .args .z .pairs)) e (s .args .weights .now),
+      (
+        c .before .loop .inv .1 .1 .0 ∙ flags-all (studied s (s .args .grid)) (s .args .marks .now) ((c .before .loop .t) * (s .args .z .pairs)) e (s .args .flags .now),
+        c .before .loop .inv .1 .1 .1 ∙ closed-all (s .args .marks .now) ((c .before .loop .t) * (s .args .z .pairs)) e,
+      ),
+    )
 
 pub fill-open-spec : {M : Type 1} → statement M
 fill-open-spec =
