@@ -1,5 +1,5 @@
 -- The calls that numbers encode, by their kinds; the part of the ids that two numbers name. Assumes nothing.
-use mathlib.Core.Path.{_≡_, refl}
+use mathlib.Core.Path.{_≡_}
 use mathlib.Core.Bool.{true, false, _&&_}
 use mathlib.Core.List.{List, []}
 use Prim.Native.Nat.{ℕ, _-_, _≤_}
@@ -11,7 +11,7 @@ use lib.Signed.{nonNeg, mag}
 use Rattle.list_laws.specs.Lists.{part}
 use Rattle.list_laws.specs.Signed.{isNat}
 use Rattle.list_laws.proofs.BoolLaws.{and-left, and-right}
-use Rattle.sheet_step.specs.Steps.{Call, run, carry, average}
+use Rattle.sheet_step.specs.Steps.{run, carry, average}
 use Rattle.book.specs.Calls.{numberAt, isPart, idsFrom, callOf, callAt}
 
 module _ (ids : List ℤ) (start end : ℤ) where

@@ -1,6 +1,6 @@
 -- What a replay's own questions say, and its answer. Assumes nothing.
 use mathlib.Core.Path.{_≡_, refl, sym, ap, _∙_}
-use mathlib.Core.Bool.{Bool, true, _&&_}
+use mathlib.Core.Bool.{true}
 use mathlib.Core.List.{List}
 use Prim.Native.Nat.{ℕ, zero, suc, _*_}
 use native.Mathlib.Omega.{arith}
@@ -13,7 +13,6 @@ use Rattle.list_laws.proofs.BelowLaws.{below-at}
 use Rattle.questions.specs.Ask.{AllYes}
 use Rattle.questions.proofs.AskLaws.{all-yes}
 use Rattle.sheet_step.specs.Marks.{isOpenAt}
-use Rattle.book.specs.declared.ReplayAnswer.{ReplayAnswer}
 use Rattle.book.specs.declared.ReplayAnswer.the-variants.{Done, Refused}
 use Rattle.book.specs.Replay.{areReplayLengths, areOpen, replayQuestions, replayNo, replayAnswer}
 

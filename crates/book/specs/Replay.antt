@@ -25,6 +25,7 @@ areReplayLengths list answers tallies = eqb list (answers * 6) && eqb tallies an
 unfoldable pub areOpen : List ℕ → Bool
 areOpen marks = allBelow (length marks) (isOpenAt marks)
 
+-- 12 the lengths, 13 the marks
 abbrev pub replayQuestions : ℕ → ℕ → ℕ → List ℕ → List Question
 replayQuestions list answers tallies marks = asks 12 (areReplayLengths list answers tallies) ∷ asks 13 (areOpen marks) ∷ []
 

@@ -1,29 +1,25 @@
 -- What follows from a call's acceptance: every question says yes. Assumes nothing.
 use mathlib.Core.Path.{_≡_, refl}
-use mathlib.Core.Bool.{true, false, _&&_}
+use mathlib.Core.Bool.{true}
 use mathlib.Core.List.{List, [], _∷_, _++_}
-use Prim.Native.Nat.{ℕ, _+_, _*_, _<_, _≤_}
+use Prim.Native.Nat.{_+_, _*_, _<_, _≤_}
 use native.Mathlib.Nat.{one-le-mul}
 use native.Mathlib.Omega.{arith}
 use lib.Arith.{digits-lt}
-use lib.Dec.{eqb}
 use lib.IntN.{ℤ}
 use lib.ListN.{length}
 use lib.Signed.{mag}
-use borrow.Author.Tests.{eqb-true}
-use Rattle.list_laws.proofs.BoolLaws.{and-left, and-right}
-use Rattle.list_laws.proofs.SignedLaws.{below-lt}
-use Rattle.list_laws.specs.Signed.{isBelow}
-use Rattle.questions.specs.Ask.{Question, asks, firstNo, AllYes, Numbered}
+use Rattle.questions.specs.Ask.{Question, asks, AllYes, Numbered}
 use Rattle.questions.proofs.AskLaws.{all-yes}
 use Rattle.triplet_piece.specs.declared.Sizes.{Sizes}
 use Rattle.triplet_piece.specs.Layout.{Fitting}
 use Rattle.triplet_piece.specs.Study.{sizesOf}
 use Rattle.triplet_piece.proofs.StudyLaws.{study-fits}
-use Rattle.triplet_study.specs.Given.{Given, givenQuestions, studyOf, areLengths}
-use Rattle.triplet_study.proofs.GivenLaws.{given-numbered, given-ready, lengths-say}
+use Rattle.triplet_study.specs.Given.{Given, givenQuestions, studyOf}
+use Rattle.triplet_study.proofs.GivenLaws.{given-numbered, given-ready}
 use Rattle.sheet_step.specs.Marks.{areMarks}
-use Rattle.sheet_step.specs.Steps.{Sheet, Call, run, carry, average, countsOf, areSheetLengths, isPiece, sheetQuestions, ownQuestions, callQuestions, verdict, pieceOf}
+use Rattle.sheet_step.proofs.StepLaws.{both-yes, sheet-lengths, piece-on}
+use Rattle.sheet_step.specs.Steps.{Sheet, Call, run, carry, average, countsOf, isPiece, sheetQuestions, ownQuestions, callQuestions, verdict, pieceOf}
 
 -- ---- the questions of a call have their numbers
 
@@ -40,13 +36,6 @@ pub call-numbered : (g : Given) (s : Sheet) (c : Call) → Numbered (callQuestio
 call-numbered g s c =
     numbered-join (givenQuestions g) (sheetQuestions (countsOf g) (length (s .weights)) (length (s .flags)) (s .marks) ++ ownQuestions g s c) (given-numbered g)
     (omega arith, (omega arith, own-numbered g s c))
-
--- a yes to all is a yes to each group
-pub both-yes : (qs rest : List Question) → Numbered qs → firstNo (qs ++ rest) ≡ 0 → (firstNo qs ≡ 0) × (firstNo rest ≡ 0)
-unfolding firstNo
-both-yes [] rest h e = (refl, e)
-both-yes (asks n true ∷ qs) rest h e = both-yes qs rest (h .1) e
-both-yes (asks n false ∷ qs) rest h e = absurd (omega (arith, h .0))
 
 -- ---- an accepted call
 
@@ -66,12 +55,6 @@ pairs-are : (g : Given) → countsOf g .pairs ≡ countsOf g .bands1 * countsOf 
 unfolding sizesOf
 pairs-are g = refl
 
--- question 12's yes
-sheet-lengths : (z : Sizes) (w f m : ℕ) → areSheetLengths z w f m ≡ true → (areLengths z w f ≡ true) × (m ≡ z .triplets * z .pairs)
-unfolding areSheetLengths
-sheet-lengths z w f m e =
-    (and-left (areLengths z w f) (eqb m (z .triplets * z .pairs)) e, eqb-true m (z .triplets * z .pairs) (and-right (areLengths z w f) (eqb m (z .triplets * z .pairs)) e))
-
 pub accepted : (g : Given) (s : Sheet) (c : Call) → verdict g s c ≡ 0 → Accepted g s c
 unfolding verdict
 accepted g s c e =
@@ -79,14 +62,13 @@ accepted g s c e =
     let rest : List Question = sheetQuestions z (length (s .weights)) (length (s .flags)) (s .marks) ++ ownQuestions g s c in
     let both : _ = both-yes (givenQuestions g) rest (given-numbered g) e in
     let yes : AllYes rest = all-yes rest (omega arith, (omega arith, own-numbered g s c)) (both .1) in
-    let size : _ = sheet-lengths z (length (s .weights)) (length (s .flags)) (length (s .marks)) (yes .0) in
-    let long : _ = lengths-say z (length (s .weights)) (length (s .flags)) (size .0) in
-    let ready : _ = given-ready g z (length (s .weights)) (length (s .flags)) (both .0) refl (long .0) (long .1) in
+    let long : _ = sheet-lengths z (length (s .weights)) (length (s .flags)) (length (s .marks)) (yes .0) in
+    let ready : _ = given-ready g z (length (s .weights)) (length (s .flags)) (both .0) refl (long .0) (long .1 .0) in
     record {
-      fits = study-fits (studyOf g) (length (s .weights)) (length (s .flags)) (ready .points-low) (long .0) (long .1);
+      fits = study-fits (studyOf g) (length (s .weights)) (length (s .flags)) (ready .points-low) (long .0) (long .1 .0);
       some = pairs-some g (ready .bands1-low) (ready .bands2-low);
       bands = pairs-are g;
-      marked = size .1;
+      marked = long .1 .1;
       fine = yes .1 .0;
       own = yes .1 .1;
     }
@@ -94,13 +76,7 @@ accepted g s c e =
 -- question 14's yes: the piece is one of them
 pub piece-in : (z : Sizes) (t b1 b2 : ℤ) → z .pairs ≡ z .bands1 * z .bands2 → isPiece z t b1 b2 ≡ true
     → (mag t < z .triplets) × (mag b1 * z .bands2 + mag b2 < z .pairs)
-unfolding isPiece
-piece-in z t b1 b2 e h =
-    let two : (isBelow t (z .triplets) && isBelow b1 (z .bands1)) ≡ true = and-left (isBelow t (z .triplets) && isBelow b1 (z .bands1)) (isBelow b2 (z .bands2)) h in
-    let h0 : mag t < z .triplets = below-lt t (z .triplets) (and-left (isBelow t (z .triplets)) (isBelow b1 (z .bands1)) two) in
-    let h1 : mag b1 < z .bands1 = below-lt b1 (z .bands1) (and-right (isBelow t (z .triplets)) (isBelow b1 (z .bands1)) two) in
-    let h2 : mag b2 < z .bands2 = below-lt b2 (z .bands2) (and-right (isBelow t (z .triplets) && isBelow b1 (z .bands1)) (isBelow b2 (z .bands2)) h) in
-    (h0, rw e (digits-lt h1 h2))
+piece-in z t b1 b2 e h = let n : _ = piece-on z t b1 b2 h in (n .0, rw e (digits-lt (n .1 .0) (n .1 .1)))
 
 -- a named piece that is run has a mark
 pub named : (g : Given) (s : Sheet) (t b1 b2 : ℤ) → Accepted g s (run t b1 b2) → pieceOf (countsOf g) t b1 b2 < length (s .marks)

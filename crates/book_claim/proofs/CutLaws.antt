@@ -9,11 +9,11 @@ use lib.ListN.{length, getD}
 use borrow.Author.Tests.{eqb-false}
 use Rattle.list_laws.specs.Patch.{pick}
 use Rattle.list_laws.proofs.MapLaws.{getD-map-lt}
-use Rattle.questions.proofs.AskLaws.{after-done, after-refused}
 use Rattle.triplet_study.specs.Given.{Given}
 use Rattle.sheet_step.specs.declared.SheetAnswer.{SheetAnswer}
 use Rattle.sheet_step.specs.Marks.{closed, carriedMarks}
 use Rattle.sheet_step.specs.Steps.{Sheet, Call, carry, verdict, effect, step, stepAnswer, sheetAnswer}
+use Rattle.sheet_step.proofs.StepLaws.{refused-sheet, done-sheet}
 use Rattle.book_claim.specs.Book.{Book, turn, bookNo, booked, bookAnswers}
 use Rattle.book_claim.specs.Lists.{played, answers}
 use Rattle.book_claim.specs.Counts.{AreRefused}
@@ -39,16 +39,6 @@ module _ (g : Given) where
   book-answers-cut start b (c ∷ first) rest =
       ap (λ (l : List SheetAnswer). sheetAnswer (bookNo g start b c) (turn g start b c .tally) ∷ l) (book-answers-cut start (turn g start b c) first rest)
 
-  -- ---- one call
-
-  pub step-done : (s : Sheet) (c : Call) → verdict g s c ≡ 0 → step g s c ≡ effect g s c
-  unfolding step
-  step-done s c e = sym (after-done (verdict g s c) (effect g s c) s e)
-
-  pub step-refused : (s : Sheet) (c : Call) → (verdict g s c ≡ 0 → ⊥) → step g s c ≡ s
-  unfolding step
-  step-refused s c e = sym (after-refused (verdict g s c) (effect g s c) s e)
-
   -- ---- "a sheet on which every call is refused stays as it was"
 
   pub all-refused : (s : Sheet) (calls : List Call) → AreRefused (answers g s calls) → played g s calls ≡ s
@@ -58,7 +48,7 @@ module _ (g : Given) where
       go : (n : ℕ) → verdict g s c ≡ n → AreRefused (sheetAnswer n (step g s c .tally) ∷ answers g (step g s c) calls)
           → (AreRefused (answers g (step g s c) calls) → played g (step g s c) calls ≡ step g s c) → played g (step g s c) calls ≡ s
       go zero e r later = absurd r
-      go (suc n) e r later = later r ∙ step-refused s c (λ z. omega arith)
+      go (suc n) e r later = later r ∙ sym (refused-sheet g s c (suc n) e (λ z. omega arith))
 
   -- ---- "after an accepted one no 0 is left"
 
@@ -73,4 +63,4 @@ module _ (g : Given) where
   unfolding effect carriedMarks
   none-open s e q d h z =
       closed-not-open (getD (s .marks) q d)
-      (sym (getD-map-lt closed (s .marks) q d d h) ∙ subst (λ (x : Sheet). getD (x .marks) q d ≡ 0) (step-done s carry e) z)
+      (sym (getD-map-lt closed (s .marks) q d d h) ∙ subst (λ (x : Sheet). getD (x .marks) q d ≡ 0) (sym (done-sheet g s carry e)) z)

@@ -19,7 +19,6 @@ use Rattle.list_laws.proofs.PatchLaws.{length-patch, getD-patch}
 use Rattle.list_laws.specs.Lists.{oneIf}
 use Rattle.list_laws.proofs.MapLaws.{getD-map-lt}
 use Rattle.questions.specs.Ask.{afterCall}
-use Rattle.questions.proofs.AskLaws.{after-done, after-refused}
 use Rattle.triplet_study.specs.Given.{Given}
 use Rattle.sheet_step.specs.Marks.{markAt, isAveragedAt, alike, isMark, areMarks, isNotAveraged}
 use Rattle.sheet_step.specs.Steps.{Sheet, Call, run, carry, average, countsOf, pieceOf}
@@ -88,16 +87,6 @@ and-false true = refl
 and-false false = refl
 
 module _ (g : Given) (start : Sheet) (b : Book) where
-  -- "The first "no" refuses the call with that number, and the book stays."
-  pub book-stays : (c : Call) → (bookNo g start b c ≡ 0 → ⊥) → turn g start b c ≡ b
-  unfolding turn
-  book-stays c e = sym (after-refused (bookNo g start b c) (writes g b c) b e)
-
-  -- "Otherwise:" what the call writes
-  pub book-written : (c : Call) → bookNo g start b c ≡ 0 → turn g start b c ≡ writes g b c
-  unfolding turn
-  book-written c e = sym (after-done (bookNo g start b c) (writes g b c) b e)
-
   -- there are as many words afterwards
   pub turn-long : (c : Call) → length (turn g start b c .words) ≡ length (b .words)
   unfolding turn writes

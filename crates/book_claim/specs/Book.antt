@@ -30,6 +30,7 @@ pub record Book : Type 0 where
   pub words : List Word
   pub tally : ℕ
 
+-- a book from its parts
 abbrev pub book : List Word → ℕ → Book
 book words tally = record { words = words; tally = tally }
 
@@ -79,10 +80,11 @@ pieceOfWeight g i = pieceOfFlag g (i % countsOf g .cells)
 abbrev pub wordAt : Book → ℕ → Word
 wordAt b q = getD (b .words) q fresh
 
--- the words that say what stands at place i of the weights, and at place j of the flags
+-- the word that says what stands at place i of the weights
 abbrev pub wordOfWeight : Given → Book → ℕ → Word
 wordOfWeight g b i = wordAt b (pieceOfWeight g i)
 
+-- and at place j of the flags
 abbrev pub wordOfFlag : Given → Book → ℕ → Word
 wordOfFlag g b j = wordAt b (pieceOfFlag g j)
 

@@ -70,6 +70,7 @@ isAveraged (averagedBy ids1 ids2) = true
 
 -- ---- "a sheet on which every call is refused"
 
+-- every answer is a refusal
 abbrev pub AreRefused : List SheetAnswer → Type 0
 AreRefused [] = Unit
 AreRefused (Done tally ∷ rest) = ⊥

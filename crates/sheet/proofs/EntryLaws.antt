@@ -1,7 +1,7 @@
 -- The study by the values that a call makes, and the parts of a sheet. Assumes nothing.
-use mathlib.Core.Path.{_≡_, refl, sym, ap, _∙_}
+use mathlib.Core.Path.{_≡_}
 use mathlib.Core.List.{List}
-use Prim.Native.Nat.{ℕ, _*_, _+_, _<_, _≤_}
+use Prim.Native.Nat.{ℕ, _*_}
 use lib.Ieee.{Float}
 use lib.IntN.{ℤ}
 use lib.ListN.{length, length-map}
@@ -12,7 +12,7 @@ use Rattle.bzgrid.specs.Neighbours.{gridOf}
 use Rattle.triplet_channels.specs.declared.TpType.{TpType}
 use Rattle.triplet_channels.specs.Types.{tpTypeOf}
 use Rattle.triplet_piece.specs.declared.Sizes.{Sizes}
-use Rattle.triplet_piece.specs.Study.{Study, study, sizesOf, Ready}
+use Rattle.triplet_piece.specs.Study.{study, sizesOf, Ready}
 use Rattle.triplet_study.specs.Given.{Given, givenQuestions, studyOf}
 use Rattle.triplet_study.proofs.GivenLaws.{given-ready}
 use Rattle.sheet_step.specs.Marks.{closed, carriedMarks, averagedMarks}

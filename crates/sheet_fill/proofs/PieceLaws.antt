@@ -1,5 +1,5 @@
 -- A piece that is written by its corners is computed, and the open pieces of a stretch one after the other. Assumes nothing.
-use mathlib.Core.Path.{_≡_, refl, sym, ap, _∙_}
+use mathlib.Core.Path.{_≡_, refl, ap, _∙_}
 use mathlib.Core.Bool.{Bool, true, false}
 use mathlib.Core.List.{List}
 use Prim.Native.Nat.{ℕ, _+_, _*_, _/_, _%_, _≤_, _<_}
@@ -14,7 +14,8 @@ use Rattle.list_laws.proofs.PatchLaws.{length-patch}
 use Rattle.triplet_channels.specs.declared.Outputs.{Outputs}
 use Rattle.triplet_piece.specs.declared.Sizes.{Sizes}
 use Rattle.triplet_piece.specs.Layout.{pieceWeights, pieceFlags}
-use Rattle.triplet_piece.specs.Study.{Study, rowsIn, outputsOfCorners, firstCorners, secondCorners, outputsOf, sizesOf, computedWeights, computedFlags}
+use Rattle.questions.specs.Tables.{rowsIn}
+use Rattle.triplet_piece.specs.Study.{Study, outputsOfCorners, firstCorners, secondCorners, outputsOf, sizesOf, computedWeights, computedFlags}
 use Rattle.triplet_piece.proofs.LayoutLaws.{weights-same, flags-same}
 use Rattle.triplet_piece.proofs.StudyLaws.{piece-weights, piece-flags, weights-join, flags-join, weights-alike, flags-alike}
 use Rattle.triplet_iw.proofs.TripletLaws.{band-lt}

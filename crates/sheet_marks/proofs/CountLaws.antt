@@ -9,11 +9,12 @@ use Rattle.list_laws.proofs.BoolLaws.{and-left, and-right}
 use Rattle.list_laws.proofs.SignedLaws.{between-high}
 use Rattle.sheet_marks.specs.declared.Counts.{Counts}
 use Rattle.sheet_marks.specs.declared.OpenAnswer.the-variants.{Refused}
+use Rattle.questions.specs.Counts.{isBandCount}
 use Rattle.sheet_marks.specs.OpenCount.{areCounts, cellsPerTriplet, openAnswer}
 
 module _ (c : Counts) (e : areCounts c ≡ true) where
   bands : (isBetween 1 64 (c .«num_band1») && isBetween 1 64 (c .«num_band2»)) && isBetween 1 1024 (c .«num_band0») ≡ true
-  unfolding areCounts
+  unfolding areCounts isBandCount
   bands = and-left ((isBetween 1 64 (c .«num_band1») && isBetween 1 64 (c .«num_band2»)) && isBetween 1 1024 (c .«num_band0»)) (isBetween 0 65536 (c .«num_triplets»)) e
 
   both : isBetween 1 64 (c .«num_band1») && isBetween 1 64 (c .«num_band2») ≡ true
@@ -32,7 +33,7 @@ module _ (c : Counts) (e : areCounts c ≡ true) where
       pair-le
 
   pub triplets-le : mag (c .«num_triplets») ≤ 65536
-  unfolding areCounts
+  unfolding areCounts isBandCount
   triplets-le =
       between-high 0 65536 (c .«num_triplets»)
       (and-right ((isBetween 1 64 (c .«num_band1») && isBetween 1 64 (c .«num_band2»)) && isBetween 1 1024 (c .«num_band0»)) (isBetween 0 65536 (c .«num_triplets»)) e)

@@ -9,6 +9,7 @@ use lib.Signed.{mag}
 use Rattle.list_laws.specs.Lists.{at, countBelow}
 use Rattle.list_laws.specs.Signed.{eqZ, isBelow, isBetween}
 use Rattle.questions.specs.Ask.{Question, asks, firstNo}
+use Rattle.questions.specs.Counts.{isBandCount}
 use Rattle.sheet_marks.specs.declared.Counts.{Counts}
 use Rattle.sheet_marks.specs.declared.OpenAnswer.{OpenAnswer}
 use Rattle.sheet_marks.specs.declared.OpenAnswer.the-variants.{Open, Refused}
@@ -16,7 +17,7 @@ use Rattle.sheet_marks.specs.declared.OpenAnswer.the-variants.{Open, Ref
 -- Question 9: "band counts 1 to 64, frequency points 1 to 1,024, triplets .. at most 65,536 (0 allowed)"
 unfoldable pub areCounts : Counts → Bool
 areCounts c =
-    ((isBetween 1 64 (c .«num_band1») && isBetween 1 64 (c .«num_band2»)) && isBetween 1 1024 (c .«num_band0»)) && isBetween 0 65536 (c .«num_triplets»)
+    ((isBandCount (c .«num_band1») && isBandCount (c .«num_band2»)) && isBetween 1 1024 (c .«num_band0»)) && isBetween 0 65536 (c .«num_triplets»)
 
 -- how many flags a triplet has: one for each point, b1, b2
 unfoldable pub cellsPerTriplet : Counts → ℕ
@@ -28,8 +29,8 @@ cellsOf c = mag (c .«num_triplets») * cellsPerTriplet c
 
 -- 9 the counts, 12 the flags' length, 14 the triplet
 abbrev pub openQuestions : Counts → ℕ → ℤ → List Question
-openQuestions c length triplet =
-    asks 9 (areCounts c) ∷ asks 12 (eqb length (cellsOf c)) ∷ asks 14 (isBelow triplet (mag (c .«num_triplets»))) ∷ []
+openQuestions c flags triplet =
+    asks 9 (areCounts c) ∷ asks 12 (eqb flags (cellsOf c)) ∷ asks 14 (isBelow triplet (mag (c .«num_triplets»))) ∷ []
 
 -- flag k is 0
 abbrev pub isZeroAt : List ℤ → ℕ → Bool

@@ -2,7 +2,6 @@
 use Prim.Native.Nat.{ℕ, _+_, _^_}
 use lib.Dec.{ltb}
 use Rattle.list_laws.specs.Patch.{pick}
-use Rattle.sheet_marks.specs.declared.Tally.{Tally}
 use Rattle.sheet_marks.specs.declared.Added.{Added}
 use Rattle.sheet_marks.specs.declared.Added.the-variants.{To, Refused}
 

@@ -5,7 +5,7 @@ ghost use Prim.Native.Nat.{_+_, _*_, _≤_, _<_};
 ghost use lib.ListN.{length};
 ghost use Rattle.list_laws.specs.Lists.{oneIf};
 ghost use Rattle.questions.specs.Ask.{firstNo};
-ghost use Rattle.sheet_marks.specs.OpenCount.{areCounts, cellsPerTriplet, cellsOf, openQuestions, isZeroAt, zerosFrom};
+ghost use Rattle.sheet_marks.specs.OpenCount.{areCounts, cellsPerTriplet, openQuestions, isZeroAt, zerosFrom};
 use crate::Counts;
 
 // 2^63
@@ -49,6 +49,7 @@ pub fn open_no(counts: Counts, num_flags: usize, triplet: i64) -> u64
     0
 }
 
+// Whether flag `k` is 0.
 fn is_zero_at(flags: &[i8], k: usize) -> bool
     requires { ⌜ k < length (now flags) ⌝ }
     ensures { λ r. ⌜ r ≡ isZeroAt (now (flags .entry)) k ⌝ }
@@ -56,7 +57,8 @@ fn is_zero_at(flags: &[i8], k: usize) -> bool
     flags[k] == 0
 }
 
-fn one_if(yes: bool) -> u64
+// 1 where the test holds, otherwise 0.
+pub fn one_if(yes: bool) -> u64
     ensures { λ r. ⌜ r ≡ oneIf yes ⌝ }
 {
     if yes { 1 } else { 0 }

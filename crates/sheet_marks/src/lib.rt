@@ -1,4 +1,4 @@
-// What a run sheet counts and marks: the tally of accepted runs, the marks of the pieces, and the open count of a triplet.
+// What a run sheet counts: the tally of accepted runs, and the open count of a triplet.
 ghost use mathlib.Core.Path.{_≡_};
 ghost use Prim.Native.Nat.{_*_, _<_};
 ghost use Rattle.sheet_marks.specs.Tallies.{addedTo};
@@ -11,6 +11,7 @@ pub struct Tally {
     pub runs: u64,
 }
 
+// The tally with the runs added, or the number of question 20.
 pub enum Added {
     To(Tally),
     Refused(u64),
@@ -43,6 +44,7 @@ pub struct Counts {
     pub num_band2: i64,
 }
 
+// The open count, or the number of the first question that is answered no.
 pub enum OpenAnswer {
     Open(u64),
     Refused(u64),

@@ -1,5 +1,5 @@
 -- The counts of a tested study, and where a triplet's weights and marks lie. Assumes nothing.
-use mathlib.Core.Path.{_≡_, refl, sym, ap, _∙_}
+use mathlib.Core.Path.{_≡_, refl, _∙_}
 use Prim.Native.Nat.{ℕ, _+_, _*_, _≤_, _<_}
 use native.Mathlib.Nat.{mul-le-mul, mul-assoc, one-le-mul}
 use native.Mathlib.Omega.{arith}

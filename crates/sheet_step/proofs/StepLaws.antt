@@ -2,9 +2,9 @@
 use mathlib.Core.Path.{_≡_, refl, sym, ap, _∙_, subst}
 use mathlib.Core.Bool.{Bool, true, false, _&&_}
 use mathlib.Core.List.{List, [], _∷_, _++_, append-assoc}
-use Prim.Native.Nat.{ℕ, zero, suc, _+_, _*_, _^_, _≤_, _<_}
+use Prim.Native.Nat.{ℕ, zero, suc, _+_, _*_, _^_, _<_}
 use native.Mathlib.Omega.{arith}
-use borrow.Author.Tests.{eqb-true, lt-ltb, ltb-true, ltb-false}
+use borrow.Author.Tests.{eqb-true}
 use lib.Dec.{eqb, ltb}
 use lib.Ieee.{Float}
 use lib.IntN.{ℤ}
@@ -13,9 +13,9 @@ use lib.Signed.{mag}
 use Rattle.list_laws.specs.Lists.{allBelow}
 use Rattle.list_laws.specs.Patch.{pick}
 use Rattle.list_laws.specs.Signed.{isBelow}
-use Rattle.list_laws.proofs.BoolLaws.{and-left, and-right, clash}
+use Rattle.list_laws.proofs.BoolLaws.{and-left, and-right}
 use Rattle.list_laws.proofs.SignedLaws.{below-lt}
-use Rattle.questions.specs.Ask.{Question, asks, firstNo, afterCall, AllYes, Numbered}
+use Rattle.questions.specs.Ask.{Question, asks, firstNo, AllYes, Numbered}
 use Rattle.questions.specs.Averages.{areDegenerateIds, isDegenerateId}
 use Rattle.questions.proofs.AskLaws.{group-no, group-yes, all-yes, after-done, after-refused}
 use Rattle.triplet_piece.specs.declared.Sizes.{Sizes}
@@ -25,17 +25,23 @@ use Rattle.sheet_marks.specs.declared.Tally.{Tally}
 use Rattle.sheet_marks.specs.declared.Added.{Added}
 use Rattle.sheet_marks.specs.declared.Added.the-variants.{To, Refused as Full}
 use Rattle.sheet_marks.specs.Tallies.{addedTo}
-use Rattle.sheet_step.specs.declared.SheetAnswer.{SheetAnswer}
 use Rattle.sheet_step.specs.declared.SheetAnswer.the-variants.{Done, Refused}
-use Rattle.sheet_step.specs.Steps.{Sheet, Call, countsOf, Counted, areSheetLengths, isPiece, areIdLists, isRoom, sheetQuestions, pieceQuestions, averageQuestions, tallyQuestions, ownQuestions, callQuestions, verdict, effect, step, sheetAnswer, stepAnswer}
+use Rattle.sheet_step.specs.Steps.{Sheet, Call, countsOf, Counted, areSheetLengths, isPiece, areIdLists, isRoom, sheetQuestions, pieceQuestions, averageQuestions, tallyQuestions, ownQuestions, verdict, effect, step, sheetAnswer, stepAnswer}
 use Rattle.sheet_step.proofs.CountLaws.{counted}
 
--- the first group of accepted questions
-front-yes : (qs rest : List Question) → Numbered qs → firstNo (qs ++ rest) ≡ 0 → firstNo qs ≡ 0
+-- a yes to all is a yes to each group
+pub both-yes : (qs rest : List Question) → Numbered qs → firstNo (qs ++ rest) ≡ 0 → (firstNo qs ≡ 0) × (firstNo rest ≡ 0)
 unfolding firstNo
-front-yes [] rest h e = refl
-front-yes (asks n true ∷ qs) rest h e = front-yes qs rest (h .1) e
-front-yes (asks n false ∷ qs) rest h e = e
+both-yes [] rest h e = (refl, e)
+both-yes (asks n true ∷ qs) rest h e = both-yes qs rest (h .1) e
+both-yes (asks n false ∷ qs) rest h e = absurd (omega (arith, h .0))
+
+-- question 12's yes
+pub sheet-lengths : (z : Sizes) (w f m : ℕ) → areSheetLengths z w f m ≡ true → (w ≡ z .channels * z .cells) × ((f ≡ z .cells) × (m ≡ z .triplets * z .pairs))
+unfolding areSheetLengths
+sheet-lengths z w f m e =
+    let l : _ = lengths-say z w f (and-left (areLengths z w f) (eqb m (z .triplets * z .pairs)) e) in
+    (l .0, (l .1, eqb-true m (z .triplets * z .pairs) (and-right (areLengths z w f) (eqb m (z .triplets * z .pairs)) e)))
 
 module _ (g : Given) (s : Sheet) (c : Call) where
   -- the questions that every call asks
@@ -52,10 +58,10 @@ module _ (g : Given) (s : Sheet) (c : Call) where
       ∙ group-no commonOf (ownQuestions g s c) h
 
   pub given-yes : firstNo commonOf ≡ 0 → firstNo (givenQuestions g) ≡ 0
-  given-yes e = front-yes (givenQuestions g) _ (given-numbered g) e
+  given-yes e = both-yes (givenQuestions g) _ (given-numbered g) e .0
 
   sheet-yes : firstNo commonOf ≡ 0 → firstNo (sheetQuestions (countsOf g) (length (s .weights)) (length (s .flags)) (s .marks)) ≡ 0
-  sheet-yes e = sym (group-yes (givenQuestions g) _ (given-numbered g) (given-yes e)) ∙ e
+  sheet-yes e = both-yes (givenQuestions g) _ (given-numbered g) e .1
 
   pub verdict-own : firstNo commonOf ≡ 0 → verdict g s c ≡ firstNo (ownQuestions g s c)
   unfolding verdict
@@ -66,16 +72,11 @@ module _ (g : Given) (s : Sheet) (c : Call) where
   pub counts-yes : firstNo commonOf ≡ 0 → Counted (countsOf g)
   counts-yes e = counted g (given-yes e)
 
-  -- question 12's yes
   pub lengths-yes : firstNo commonOf ≡ 0
       → (length (s .weights) ≡ countsOf g .channels * countsOf g .cells) × ((length (s .flags) ≡ countsOf g .cells) × (length (s .marks) ≡ countsOf g .triplets * countsOf g .pairs))
-  unfolding areSheetLengths
   lengths-yes e =
       let y : AllYes (sheetQuestions (countsOf g) (length (s .weights)) (length (s .flags)) (s .marks)) = all-yes (sheetQuestions (countsOf g) (length (s .weights)) (length (s .flags)) (s .marks)) sheet-numbered (sheet-yes e) in
-      let a : areLengths (countsOf g) (length (s .weights)) (length (s .flags)) ≡ true = and-left (areLengths (countsOf g) (length (s .weights)) (length (s .flags))) (eqb (length (s .marks)) (countsOf g .triplets * countsOf g .pairs)) (y .0) in
-      let b : eqb (length (s .marks)) (countsOf g .triplets * countsOf g .pairs) ≡ true = and-right (areLengths (countsOf g) (length (s .weights)) (length (s .flags))) (eqb (length (s .marks)) (countsOf g .triplets * countsOf g .pairs)) (y .0) in
-      let l : _ = lengths-say (countsOf g) (length (s .weights)) (length (s .flags)) a in
-      (l .0, (l .1, eqb-true (length (s .marks)) (countsOf g .triplets * countsOf g .pairs) b))
+      sheet-lengths (countsOf g) (length (s .weights)) (length (s .flags)) (length (s .marks)) (y .0)
 
   -- ---- a refused call
 
@@ -159,21 +160,26 @@ no-room tally runs n e = go (ltb (tally + runs) (2 ^ 63)) refl e
 
 -- ---- what 14 says of a named piece, and 14 to 19 of an averaging
 
+-- question 14's yes
+pub piece-on : (z : Sizes) (t b1 b2 : ℤ) → isPiece z t b1 b2 ≡ true → (mag t < z .triplets) × ((mag b1 < z .bands1) × (mag b2 < z .bands2))
+unfolding isPiece
+piece-on z t b1 b2 e =
+    let a : (isBelow t (z .triplets) && isBelow b1 (z .bands1)) ≡ true = and-left (isBelow t (z .triplets) && isBelow b1 (z .bands1)) (isBelow b2 (z .bands2)) e in (
+      below-lt t (z .triplets) (and-left (isBelow t (z .triplets)) (isBelow b1 (z .bands1)) a),
+      (
+        below-lt b1 (z .bands1) (and-right (isBelow t (z .triplets)) (isBelow b1 (z .bands1)) a),
+        below-lt b2 (z .bands2) (and-right (isBelow t (z .triplets) && isBelow b1 (z .bands1)) (isBelow b2 (z .bands2)) e),
+      ),
+    )
+
 module _ (z : Sizes) (marks : List ℕ) (t b1 b2 : ℤ) where
   pub piece-numbered : Numbered (pieceQuestions z marks t b1 b2)
   piece-numbered = (omega arith, (omega arith, tt))
 
   pub piece-named : firstNo (pieceQuestions z marks t b1 b2) ≡ 0 → (mag t < z .triplets) × ((mag b1 < z .bands1) × (mag b2 < z .bands2))
-  unfolding isPiece
   piece-named e =
       let y : AllYes (pieceQuestions z marks t b1 b2) = all-yes (pieceQuestions z marks t b1 b2) piece-numbered e in
-      let a : (isBelow t (z .triplets) && isBelow b1 (z .bands1)) ≡ true = and-left (isBelow t (z .triplets) && isBelow b1 (z .bands1)) (isBelow b2 (z .bands2)) (y .0) in (
-        below-lt t (z .triplets) (and-left (isBelow t (z .triplets)) (isBelow b1 (z .bands1)) a),
-        (
-          below-lt b1 (z .bands1) (and-right (isBelow t (z .triplets)) (isBelow b1 (z .bands1)) a),
-          below-lt b2 (z .bands2) (and-right (isBelow t (z .triplets) && isBelow b1 (z .bands1)) (isBelow b2 (z .bands2)) (y .0)),
-        ),
-      )
+      piece-on z t b1 b2 (y .0)
 
 id-count : (bands : ℕ) (ids : List ℤ) → areDegenerateIds bands ids ≡ true → length ids ≡ bands
 unfolding areDegenerateIds

@@ -11,13 +11,15 @@ use Rattle.list_laws.specs.Patch.{pick, patch}
 abbrev pub markAt : List ℕ → ℕ → ℕ
 markAt marks q = getD marks q 1
 
--- "Open, computed, averaged are marks 0, 1, 2"
+-- "Open, computed, averaged are marks 0, 1, 2": piece q is open
 unfoldable pub isOpenAt : List ℕ → ℕ → Bool
 isOpenAt marks q = eqb (markAt marks q) 0
 
+-- piece q is computed
 unfoldable pub isComputedAt : List ℕ → ℕ → Bool
 isComputedAt marks q = eqb (markAt marks q) 1
 
+-- piece q is averaged
 unfoldable pub isAveragedAt : List ℕ → ℕ → Bool
 isAveragedAt marks q = eqb (markAt marks q) 2
 

@@ -30,6 +30,7 @@ pub record Sheet : Type 0 where
   pub marks : List ℕ
   pub tally : ℕ
 
+-- a sheet from its parts
 abbrev pub sheet : List Float → List ℤ → List ℕ → ℕ → Sheet
 sheet weights flags marks tally = record { weights = weights; flags = flags; marks = marks; tally = tally }
 
@@ -128,10 +129,11 @@ verdict g s c = firstNo (callQuestions g s c)
 abbrev pub pieceOf : Sizes → ℤ → ℤ → ℤ → ℕ
 pieceOf z t b1 b2 = mag t * z .pairs + (mag b1 * z .bands2 + mag b2)
 
--- "what the degenerate sets of the lists .. make of" a row of weights, and of flags: its entry at place i
+-- "what the degenerate sets of the lists .. make of" a row of weights: its entry at place i
 abbrev pub averagedAt : Sizes → List ℤ → List ℤ → List Float → ℕ → Float
 averagedAt z ids1 ids2 row i = getD (averaged (z .bands1) ids1 ids2 row) (i % z .pairs) nan
 
+-- of a row of flags: its entry at place j
 abbrev pub averagedFlagAt : Sizes → List ℤ → List ℤ → List ℤ → ℕ → ℤ
 averagedFlagAt z ids1 ids2 row j = getD (averagedFlags (z .bands1) ids1 ids2 row) (j % z .pairs) (pos 0)
 

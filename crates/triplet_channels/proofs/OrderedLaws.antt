@@ -1,12 +1,10 @@
 -- Work areas that begin alike have the same boxes and weights, and channels in order have the plain outputs. Assumes nothing.
-use mathlib.Core.Path.{_≡_, refl, sym, _∙_, ap}
+use mathlib.Core.Path.{_≡_, refl, _∙_}
 use mathlib.Core.List.{List}
-use Prim.Native.Nat.{ℕ, zero, suc, _+_, _*_, _<_, _≤_}
+use Prim.Native.Nat.{ℕ, zero, suc, _*_, _≤_}
 use native.Mathlib.Omega.{arith}
 use lib.Ieee.{Float, nan}
-use lib.ListN.{getD, length}
-use Rattle.list_laws.specs.Lists.{tabulate}
-use Rattle.list_laws.specs.Patch.{pick}
+use lib.ListN.{getD}
 use Rattle.list_laws.proofs.FillLaws.{tabulate-ext}
 use Rattle.tetrahedron_method.specs.Weight.{weightOf}
 use Rattle.tetrahedron_method.specs.Sorted.{Ordered, sortedWeight}
@@ -15,9 +13,8 @@ use Rattle.tetrahedron_method.proofs.SortedLaws.{weight-is, weight-same}
 use Rattle.triplet_channels.specs.declared.TpType.{TpType}
 use Rattle.triplet_channels.specs.declared.TpType.the-variants.{Type2, Type3, Type4}
 use Rattle.triplet_channels.specs.declared.ValueBox.{ValueBox}
-use Rattle.triplet_channels.specs.declared.Channel.the-variants.{Closed, Open}
-use Rattle.triplet_channels.specs.Values.{combined, channelValues, lesser, greater, leastOf, greatestOf, boxOf, Begun}
-use Rattle.triplet_channels.specs.Channels.{holds, channelAt, furtherAt, outputsBy, outputsAt}
+use Rattle.triplet_channels.specs.Values.{combined, channelValues, leastOf, greatestOf, boxOf, Begun}
+use Rattle.triplet_channels.specs.Channels.{channelAt, furtherAt, outputsAt}
 use Rattle.triplet_channels.specs.Ordered.{orderedChannelAt, orderedFurtherAt, outputsOrdered}
 
 -- the values of a channel go by the first entries alone

@@ -1,5 +1,5 @@
 -- The last channel, a store in a work area, and the output channels of a type by its number. Assumes nothing.
-use mathlib.Core.Path.{_≡_, refl, sym, _∙_, subst}
+use mathlib.Core.Path.{_≡_, refl, _∙_, subst}
 use mathlib.Core.Bool.{Bool, true, false, cond}
 use mathlib.Core.List.{List}
 use Prim.Native.Nat.{ℕ, zero, suc, _+_, _<_, _≤_}
@@ -43,12 +43,8 @@ channels-of-type tp = by (isNat tp 2) (isNat tp 3)
     by false true = refl
     by false false = refl
 
+-- a type has at most three outputs
 pub channel-count-le : (tp : TpType) → channelCount tp ≤ 3
 channel-count-le Type2 = omega arith
 channel-count-le Type3 = omega arith
 channel-count-le Type4 = omega arith
-
-pub channel-count-some : (tp : TpType) → 1 ≤ channelCount tp
-channel-count-some Type2 = omega arith
-channel-count-some Type3 = omega arith
-channel-count-some Type4 = omega arith

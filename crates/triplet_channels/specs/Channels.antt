@@ -29,6 +29,7 @@ abbrev pub valueOf : Channel → Float
 valueOf Closed = f0
 valueOf (Open g) = g
 
+-- whether a channel is closed
 abbrev pub closedOf : Channel → Bool
 closedOf Closed = true
 closedOf (Open g) = false

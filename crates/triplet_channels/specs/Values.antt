@@ -40,10 +40,11 @@ combined (suc (suc n)) x y = x ⊕ y
 unfoldable pub channelValues : ℕ → List Float → List Float → ℕ → List Float
 channelValues channel f1 f2 n = tabulate n (λ i. combined channel (getD f1 i nan) (getD f2 i nan))
 
--- the lesser and the greater of two values, the first where they are equal
+-- the lesser of two values, the first where they are equal
 abbrev pub lesser : Float → Float → Float
 lesser m v = cond (lt v m) v m
 
+-- the greater of two values, the first where they are equal
 abbrev pub greater : Float → Float → Float
 greater m v = cond (lt m v) v m
 

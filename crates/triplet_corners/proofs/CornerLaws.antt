@@ -1,17 +1,16 @@
 -- The second copy of the steps is small and whole as the first is, and each corner number is the number of an address. Assumes nothing.
 use mathlib.Core.Path.{_≡_, refl, sym, _∙_, ap}
-use mathlib.Core.Bool.{Bool, true, _&&_}
+use mathlib.Core.Bool.{true}
 use mathlib.Core.List.{List, map}
-use Prim.Native.Nat.{ℕ, zero, suc, _+_, _-_, _*_, _/_, _%_, _≤_, _<_}
-use native.Mathlib.Nat.{mul-le-mul-right, suc-mul}
+use Prim.Native.Nat.{ℕ, zero, suc, _-_, _*_, _%_, _<_}
 use native.Mathlib.Omega.{arith}
 use borrow.Author.Tests.{leb-true, lt-ltb, eq-eqb}
-use lib.IntN.{ℤ, pos, negsuc, natAbs, negℤ, _-ℤ_}
+use lib.IntN.{ℤ, pos, negsuc, negℤ, _-ℤ_}
 use lib.ListN.{getD, length, take, length-map, List·getD-map}
 use lib.Seq.{ext-getD}
 use mir.Syntax.{w64}
 use mir.Val.{SFits}
-use Rattle.list_laws.specs.Lists.{at, tabulate, area, allBelow}
+use Rattle.list_laws.specs.Lists.{at, tabulate}
 use Rattle.list_laws.specs.Signed.{within}
 use Rattle.list_laws.proofs.BoolLaws.{and-both}
 use Rattle.list_laws.proofs.BelowLaws.{below-all}

@@ -12,6 +12,7 @@ ghost use Rattle.triplet_corners.specs.Corners.{stepOf, secondArea, corn
 use bzgrid::BzGrid;
 use triplet_channels::TpType;
 
+// A tested component with its sign changed.
 fn negate(z: i64) -> i64
     requires { ⌜ within 4096 z ≡ true ⌝ }
     ensures { λ r. ⌜ r ≡ negℤ z ⌝ }
@@ -31,6 +32,7 @@ fn step_of(tp: TpType, z: i64) -> i64
     }
 }
 
+// Component `k` of the second copy.
 fn step_at(tp: TpType, steps: &[i64], k: usize) -> i64
     requires { ⌜ (k < length (now steps)) × (areTriples (now steps) ≡ true) ⌝ }
     ensures { λ r. ⌜ r ≡ stepOf tp (at (now (steps .entry)) k) ⌝ }

@@ -1,18 +1,18 @@
 -- The number of the first no of a call by the tests that it makes, and the study that its weights are made of. Assumes nothing.
-use mathlib.Core.Path.{_≡_, refl, sym, _∙_, ap}
+use mathlib.Core.Path.{_≡_, refl, sym, _∙_}
 use mathlib.Core.Bool.{Bool, true, false}
-use mathlib.Core.List.{List, [], _∷_, _++_}
+use mathlib.Core.List.{[], _∷_}
 use Prim.Native.Nat.{ℕ, zero, suc, _/_}
 use native.Mathlib.Omega.{arith}
 use lib.ListN.{length}
-use Rattle.questions.specs.Ask.{Question, asks, firstNo}
+use Rattle.questions.specs.Ask.{asks, firstNo}
 use Rattle.questions.proofs.AskLaws.{group-no, group-yes}
 use Rattle.bzgrid.specs.declared.BzGrid.{BzGrid}
 use Rattle.bzgrid.specs.Neighbours.{gridOf}
 use Rattle.triplet_channels.specs.declared.TpType.{TpType}
 use Rattle.triplet_channels.specs.Types.{tpTypeOf}
 use Rattle.triplet_piece.specs.declared.Sizes.{Sizes}
-use Rattle.triplet_piece.specs.Study.{Study, study, sizesOf, Ready}
+use Rattle.triplet_piece.specs.Study.{study, sizesOf, Ready}
 use Rattle.triplet_study.specs.Given.{Given, givenQuestions, studyOf, sizesBy, areLengths, FewSizes}
 use Rattle.triplet_study.proofs.GivenLaws.{given-numbered, sizes-same, few-sizes, given-ready, lengths-say}
 use Rattle.triplet_iw.specs.declared.WeightsAnswer.the-variants.{Filled, Refused}

@@ -18,7 +18,8 @@ use Rattle.triplet_corners.specs.Corners.{secondSteps}
 use Rattle.triplet_corners.proofs.CornerLaws.{corners-held, second-length}
 use Rattle.triplet_piece.specs.declared.Sizes.{Sizes}
 use Rattle.triplet_piece.specs.Layout.{pieceWeights, pieceFlags, Fitting}
-use Rattle.triplet_piece.specs.Study.{Study, rowsIn, outputsOfCorners, firstCorners, secondCorners, outputsOf, sizesOf, computedWeights, computedFlags, Ready}
+use Rattle.questions.specs.Tables.{rowsIn}
+use Rattle.triplet_piece.specs.Study.{Study, outputsOfCorners, firstCorners, secondCorners, outputsOf, sizesOf, computedWeights, computedFlags, Ready}
 use Rattle.triplet_piece.proofs.LayoutLaws.{weights-same, flags-same}
 use Rattle.triplet_piece.proofs.StudyLaws.{study-fits, piece-weights, piece-flags, weights-join, flags-join, weights-nothing, flags-nothing, weights-alike, flags-alike}
 
@@ -136,11 +137,11 @@ module _ {s : Study} {z : Sizes} {weights flags : ℕ} (r : Ready s z weights fl
 
   pub held-first : (t : ℕ) (numbers : List ℕ) → numbers ≡ firstCorners s t → (rows : ℕ) → rows ≡ rowsIn (s .steps) → (b : ℕ) → b < s .bands1 → Held numbers (rows * 4) (length (s .frequencies1)) (s .bands1) b
   held-first t numbers e rows q b h =
-      rw (e, q) (corners-held (s .grid) (s .addresses) (s .map) (r .grid) (s .steps) _ (rowsIn (s .steps)) (s .bands1) b (length (s .frequencies1)) (r .rows-whole) (r .held1) h)
+      rw (e, q) (corners-held (s .grid) (s .addresses) (s .gp-map) (r .grid) (s .steps) _ (rowsIn (s .steps)) (s .bands1) b (length (s .frequencies1)) (r .rows-whole) (r .held1) h)
 
   pub held-second : (t : ℕ) (numbers : List ℕ) → numbers ≡ secondCorners s t → (rows : ℕ) → rows ≡ rowsIn (s .steps) → (b : ℕ) → b < s .bands2 → Held numbers (rows * 4) (length (s .frequencies2)) (s .bands2) b
   held-second t numbers e rows q b h =
-      rw (e, q) (corners-held (s .grid) (s .addresses) (s .map) (r .grid) (secondSteps (s .tp) (s .steps)) _ (rowsIn (s .steps)) (s .bands2) b (length (s .frequencies2)) (second-length (s .tp) (s .steps) ∙ r .rows-whole) (r .held2) h)
+      rw (e, q) (corners-held (s .grid) (s .addresses) (s .gp-map) (r .grid) (secondSteps (s .tp) (s .steps)) _ (rowsIn (s .steps)) (s .bands2) b (length (s .frequencies2)) (second-length (s .tp) (s .steps) ∙ r .rows-whole) (r .held2) h)
 
   -- there are from 1 to 4,096 band pairs
   pairs-is : z .pairs ≡ s .bands1 * s .bands2

@@ -1,6 +1,6 @@
 -- All weights and all flags of a study.
 use mathlib.Core.List.{List}
-use Prim.Native.Nat.{ℕ, _*_}
+use Prim.Native.Nat.{_*_}
 use lib.Ieee.{Float}
 use lib.IntN.{ℤ}
 use Rattle.list_laws.specs.Lists.{tabulate}

@@ -1,11 +1,12 @@
 // For the crates above.
 ghost use mathlib.Core.Path.{_≡_};
-ghost use Prim.Native.Nat.{_*_, _/_, _<_, _≤_};
+ghost use Prim.Native.Nat.{_*_, _/_, _<_};
 ghost use lib.Dec.{eqb};
 ghost use lib.ListN.{length};
 ghost use Rattle.questions.specs.Ask.{firstNo, afterCall};
+ghost use Rattle.questions.specs.Tables.{rowsIn};
 ghost use Rattle.triplet_corners.specs.Corners.{secondSteps};
-ghost use Rattle.triplet_piece.specs.Study.{study, rowsIn, Ready, computedWeights, computedFlags};
+ghost use Rattle.triplet_piece.specs.Study.{study, Ready, computedWeights, computedFlags};
 ghost use Rattle.triplet_study.specs.Given.{given, studyOf};
 ghost use Rattle.triplet_iw.specs.Whole.{allWeights, allFlags};
 ghost use Rattle.triplet_iw.specs.Calls.{weightsQuestions, weightsAnswer};

@@ -1,5 +1,5 @@
 -- A piece that is written is one that is computed; computed pieces join. Assumes nothing.
-use mathlib.Core.Path.{_≡_, refl, sym, _∙_}
+use mathlib.Core.Path.{_≡_, refl, sym, ap, _∙_}
 use mathlib.Core.Bool.{Bool, true, false}
 use mathlib.Core.List.{List}
 use Prim.Native.Nat.{ℕ, _+_, _*_, _/_, _%_, _≤_, _<_}
@@ -12,9 +12,10 @@ use borrow.Author.Tests.{eqb-true}
 use Rattle.list_laws.specs.Patch.{pick}
 use Rattle.list_laws.proofs.PatchLaws.{length-patch, patch-none, patch-ext, patch-patch}
 use Rattle.list_laws.proofs.ProductLaws.{digit-lt}
-use Rattle.triplet_piece.specs.Layout.{pointAt, pieceAt, channelOf, pieceWeights, pieceFlags, Fitting}
+use Rattle.triplet_channels.specs.declared.Outputs.{Outputs}
+use Rattle.triplet_piece.specs.Layout.{pointAt, pieceAt, cellOf, channelOf, pieceWeights, pieceFlags, Fitting}
 use Rattle.triplet_piece.specs.Study.{Study, outputsOf, sizesOf, outputsAtCell, weightAt, flagAt, computedWeights, computedFlags}
-use Rattle.triplet_piece.proofs.LayoutLaws.{piece-is}
+use Rattle.triplet_piece.proofs.LayoutLaws.{piece-cell, point-cell, piece-is, cell-lt}
 
 -- the counts of a study fit
 pub study-fits : (s : Study) (weights flags : ℕ) → 1 ≤ length (s .points) → weights ≡ sizesOf s .channels * sizesOf s .cells → flags ≡ sizesOf s .cells
@@ -29,6 +30,30 @@ unfolding sizesOf outputsAtCell
 cell-outputs s t b1 b2 j h1 h2 e =
     let d : _ = piece-is (length (s .points)) (s .bands1 * s .bands2) t (b1 * s .bands2 + b2) j (digit-lt b1 (s .bands1) b2 (s .bands2) h1 h2) e in
     rw (d .0, d .1, digits-div b1 h2, digits-mod b1 h2)
+
+-- "Weights lie by channel, triplet, point, b1, b2; flags without the channel": the places of triplet t, point x, bands b1 and b2
+module _ (s : Study) (t b1 b2 x : ℕ) (h1 : b1 < s .bands1) (h2 : b2 < s .bands2) (hx : x < sizesOf s .points) where
+  abbrev pub cellAt : ℕ
+  cellAt = cellOf (sizesOf s .points) (sizesOf s .pairs) t (b1 * s .bands2 + b2) x
+
+  in-pairs : b1 * s .bands2 + b2 < sizesOf s .pairs
+  unfolding sizesOf
+  in-pairs = digit-lt b1 (s .bands1) b2 (s .bands2) h1 h2
+
+  in-cells : t < sizesOf s .triplets → cellAt < sizesOf s .cells
+  unfolding sizesOf
+  in-cells ht = cell-lt (length (s .points)) (s .bands1 * s .bands2) t (b1 * s .bands2 + b2) x in-pairs hx ht
+
+  outputs-placed : outputsAtCell s (sizesOf s) cellAt ≡ outputsOf s t b1 b2 x
+  outputs-placed =
+      cell-outputs s t b1 b2 cellAt h1 h2 (piece-cell (sizesOf s .points) (sizesOf s .pairs) t (b1 * s .bands2 + b2) x in-pairs hx)
+      ∙ ap (outputsOf s t b1 b2) (point-cell (sizesOf s .points) (sizesOf s .pairs) t (b1 * s .bands2 + b2) x in-pairs hx)
+
+  pub flag-placed : flagAt s cellAt ≡ outputsOf s t b1 b2 x .flag
+  flag-placed = ap (λ (o : Outputs). o .flag) outputs-placed
+
+  pub weight-placed : (c : ℕ) → t < sizesOf s .triplets → weightAt s (c * sizesOf s .cells + cellAt) ≡ channelOf (outputsOf s t b1 b2 x) c
+  weight-placed c ht = rw (digits-mod c (in-cells ht), digits-div c (in-cells ht), outputs-placed)
 
 -- a piece that is written by its outputs is computed
 module _ (s : Study) (t b1 b2 q : ℕ) (h1 : b1 < s .bands1) (h2 : b2 < s .bands2) (e : q ≡ t * sizesOf s .pairs + (b1 * s .bands2 + b2)) where

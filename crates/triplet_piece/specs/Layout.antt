@@ -1,7 +1,6 @@
 -- Where weights and flags lie. A cell is a place of the flags: triplet, point, b1, b2; a weight's place is a channel and a cell.
 -- A piece is a triplet, b1 and b2; its number is the place of its mark.
 use mathlib.Core.Path.{_≡_}
-use mathlib.Core.Bool.{Bool}
 use mathlib.Core.List.{List}
 use Prim.Native.Nat.{ℕ, _+_, _*_, _/_, _%_, _≤_}
 use lib.Dec.{eqb}
@@ -12,16 +11,19 @@ use Rattle.list_laws.specs.Patch.{pick, patch}
 use Rattle.triplet_channels.specs.declared.Outputs.{Outputs}
 use Rattle.triplet_piece.specs.declared.Sizes.{Sizes}
 
--- of cell j, with so many points and band pairs: its triplet, its point, its band pair, its piece
+-- of cell j, with so many points and band pairs: its triplet
 unfoldable pub tripletAt : ℕ → ℕ → ℕ → ℕ
 tripletAt points pairs j = j / pairs / points
 
+-- its point
 unfoldable pub pointAt : ℕ → ℕ → ℕ → ℕ
 pointAt points pairs j = j / pairs % points
 
+-- its band pair: b1 * bands2 + b2
 unfoldable pub pairAt : ℕ → ℕ → ℕ → ℕ
 pairAt points pairs j = j % pairs
 
+-- its piece
 unfoldable pub pieceAt : ℕ → ℕ → ℕ → ℕ
 pieceAt points pairs j = tripletAt points pairs j * pairs + pairAt points pairs j
 

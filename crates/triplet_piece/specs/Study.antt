@@ -10,6 +10,7 @@ use lib.Signed.{mag}
 use Rattle.list_laws.specs.Lists.{at}
 use Rattle.list_laws.specs.Patch.{patch}
 use Rattle.questions.specs.Grids.{areTriples, triplesIn}
+use Rattle.questions.specs.Tables.{rowsIn}
 use Rattle.bzgrid.specs.declared.BzGrid.{BzGrid}
 use Rattle.bzgrid.specs.Neighbours.{SoundGrid}
 use Rattle.triplet_channels.specs.declared.TpType.{TpType}
@@ -26,7 +27,7 @@ pub record Study : Type 0 where
   pub tp : TpType
   pub grid : BzGrid
   pub addresses : List ℤ
-  pub map : List ℤ
+  pub gp-map : List ℤ
   pub steps : List ℤ
   pub bands1 : ℕ
   pub bands2 : ℕ
@@ -35,12 +36,13 @@ pub record Study : Type 0 where
   pub points : List Float
   pub triplets : List ℤ
 
+-- a study from its parts
 abbrev pub study : TpType → BzGrid → List ℤ → List ℤ → List ℤ → ℕ → ℕ → List Float → List Float → List Float → List ℤ → Study
-study tp grid addresses map steps bands1 bands2 frequencies1 frequencies2 points triplets = record {
+study tp grid addresses gp-map steps bands1 bands2 frequencies1 frequencies2 points triplets = record {
   tp = tp;
   grid = grid;
   addresses = addresses;
-  map = map;
+  gp-map = gp-map;
   steps = steps;
   bands1 = bands1;
   bands2 = bands2;
@@ -49,10 +51,6 @@ study tp grid addresses map steps bands1 bands2 frequencies1 frequencies2 points
   points = points;
   triplets = triplets;
 }
-
--- the rows of a table: four corners of three numbers each
-abbrev pub rowsIn : List ℤ → ℕ
-rowsIn steps = length steps / 12
 
 -- the outputs of bands b1, b2 at point x, of a triplet with these corner numbers of its second and third point
 unfoldable pub outputsOfCorners : TpType → List Float → List ℕ → List ℕ → ℕ → List Float → ℕ → ℕ → List Float → ℕ → ℕ → ℕ → Outputs
@@ -67,11 +65,11 @@ pointOf triplets t i = mag (at triplets (3 * t + i))
 
 -- the corners of the second point of triplet t, by the first copy of the table
 abbrev pub firstCorners : Study → ℕ → List ℕ
-firstCorners s t = cornerNumbers (s .grid) (s .addresses) (s .map) (s .steps) (pointOf (s .triplets) t 1)
+firstCorners s t = cornerNumbers (s .grid) (s .addresses) (s .gp-map) (s .steps) (pointOf (s .triplets) t 1)
 
 -- the corners of its third point, by the second copy
 abbrev pub secondCorners : Study → ℕ → List ℕ
-secondCorners s t = cornerNumbers (s .grid) (s .addresses) (s .map) (secondSteps (s .tp) (s .steps)) (pointOf (s .triplets) t 2)
+secondCorners s t = cornerNumbers (s .grid) (s .addresses) (s .gp-map) (secondSteps (s .tp) (s .steps)) (pointOf (s .triplets) t 2)
 
 -- The weights and the flag of a study at triplet t, bands b1 and b2, point x.
 unfoldable pub outputsOf : Study → ℕ → ℕ → ℕ → ℕ → Outputs
@@ -113,7 +111,7 @@ computedFlags s own l = patch (λ j. own (pieceAt (sizesOf s .points) (sizesOf s
 
 -- what the questions have told of a study, of its counts z and of the lengths of weights and flags
 pub record Ready (s : Study) (z : Sizes) (weights flags : ℕ) : Type 0 where
-  pub grid : SoundGrid (s .grid) (s .addresses) (s .map)
+  pub grid : SoundGrid (s .grid) (s .addresses) (s .gp-map)
   pub table : areTriples (s .steps) ≡ true
   pub rows-low : 1 ≤ rowsIn (s .steps)
   pub rows-high : rowsIn (s .steps) ≤ 96

@@ -1,13 +1,10 @@
 -- What the questions say of a study as a caller gives it: its counts, and that its weights can be made. Assumes nothing.
-use mathlib.Core.Path.{_≡_, refl, sym, _∙_, ap}
-use mathlib.Core.Bool.{Bool, true, _&&_}
-use mathlib.Core.List.{List}
+use mathlib.Core.Path.{_≡_, refl}
+use mathlib.Core.Bool.{true}
 use Prim.Native.Nat.{ℕ, _*_, _/_, _≤_}
 use native.Mathlib.Nat.{mul-le-mul}
-use native.Mathlib.Omega.{arith}
 use borrow.Author.Tests.{eqb-true}
 use lib.Dec.{eqb}
-use lib.IntN.{ℤ}
 use lib.ListN.{length}
 use lib.Signed.{mag}
 use Rattle.list_laws.proofs.BoolLaws.{and-left, and-right}
@@ -16,18 +13,11 @@ use Rattle.questions.specs.Grids.{triplesIn}
 use Rattle.questions.proofs.StudyLaws.{SoundStudy, study-numbered, grid-yes, sound-study}
 use Rattle.bzgrid.specs.Neighbours.{gridOf, SoundGrid}
 use Rattle.bzgrid.proofs.CallLaws.{sound-grid}
-use Rattle.triplet_channels.specs.declared.TpType.{TpType}
-use Rattle.triplet_channels.specs.declared.TpType.the-variants.{Type2, Type3, Type4}
-use Rattle.triplet_channels.specs.Types.{tpTypeOf, channelCount}
+use Rattle.triplet_channels.specs.Types.{tpTypeOf}
+use Rattle.triplet_channels.proofs.ValueLaws.{channel-count-le}
 use Rattle.triplet_piece.specs.declared.Sizes.{Sizes}
-use Rattle.triplet_piece.specs.Study.{Study, sizesOf, Ready}
+use Rattle.triplet_piece.specs.Study.{sizesOf, Ready}
 use Rattle.triplet_study.specs.Given.{Given, givenQuestions, studyOf, sizesBy, areLengths, FewSizes}
-
--- a type has at most three channels
-pub channels-few : (tp : TpType) → channelCount tp ≤ 3
-channels-few Type2 = omega arith
-channels-few Type3 = omega arith
-channels-few Type4 = omega arith
 
 -- so many cells are few
 pub cells-few : (t p a b : ℕ) → t ≤ 65536 → p ≤ 1024 → a ≤ 64 → b ≤ 64 → t * p * (a * b) ≤ 274877906944
@@ -65,7 +55,7 @@ module _ (g : Given) where
   unfolding sizesOf studyOf
   few-sizes e =
       let k : _ = few-counts e in (
-        channels-few (tpTypeOf (g .shape .«tp_type»)),
+        channel-count-le (tpTypeOf (g .shape .«tp_type»)),
         cells-few (length (g .triplets) / 3) (length (g .points)) (mag (g .shape .«num_band1»)) (mag (g .shape .«num_band2»)) (k .1 .1 .1) (k .1 .1 .0) (k .0) (k .1 .0),
       )
 

@@ -5,12 +5,10 @@ use Prim.Native.Nat.{ℕ, _*_, _≤_}
 use lib.Dec.{eqb}
 use lib.IntN.{ℤ}
 use lib.Ieee.{Float}
-use lib.ListN.{length}
 use lib.Signed.{mag}
 use Rattle.questions.specs.Ask.{Question}
 use Rattle.questions.specs.Studies.{studyQuestions}
 use Rattle.bzgrid.specs.Neighbours.{gridOf}
-use Rattle.triplet_channels.specs.declared.TpType.{TpType}
 use Rattle.triplet_channels.specs.Types.{tpTypeOf, channelCount}
 use Rattle.triplet_piece.specs.declared.Sizes.{Sizes}
 use Rattle.triplet_piece.specs.Study.{Study, study}
@@ -27,6 +25,7 @@ pub record Given : Type 0 where
   pub points : List Float
   pub triplets : List ℤ
 
+-- a study as given, from its parts
 abbrev pub given : Shape → List ℤ → List ℤ → List ℤ → List Float → List Float → List Float → List ℤ → Given
 given shape addresses gp-map steps frequencies1 frequencies2 points triplets = record {
   shape = shape;

@@ -1,7 +1,6 @@
 // For the crates above.
 ghost use mathlib.Core.Path.{_≡_};
 ghost use Prim.Native.Nat.{_≤_};
-ghost use lib.ListN.{length};
 ghost use lib.Signed.{mag};
 ghost use Rattle.questions.specs.Ask.{firstNo};
 ghost use Rattle.triplet_study.specs.Given.{given, givenQuestions, sizesBy, areLengths, FewSizes};

@@ -39,11 +39,15 @@ same-length-3 c = search needs
 
 returns : tie.Need-returns
 returns c =
-    let r : no (c .before .before .before .before .before .before .before .before .before .before .before .before) ≡ 0 → ⊥ = λ z. c .if1 .taken (c .before .replay-no .ensures ∙ z) in (rw (c .before .replay-no .ensures) (answer-refused (no (c .before .before .before .before .before .before .before .before .before .before .before .before)) ((bookSheet (asked (c .before .before .before .before .before .before .before .before .before .before .before .before)) (start (c .before .before .before .before .before .before .before .before .before .before .before .before)) (calls (c .before .before .before .before .before .before .before .before .before .before .before .before))) .tally) r), (after-refused (no (c .before .before .before .before .before .before .before .before .before .before .before .before)) ((bookSheet (asked (c .before .before .before .before .before .before .before .before .before .before .before .before)) (start (c .before .before .before .before .before .before .before .before .before .before .before .before)) (calls (c .before .before .before .before .before .before .before .before .before .before .before .before))) .weights) (c .before .before .before .before .before .before .before .before .before .before .before .before .args .weights .now) r, (after-refused (no (c .before .before .before .before .before .before .before .before .before .before .before .before)) ((bookSheet (asked (c .before .before .before .before .before .before .before .before .before .before .before .before)) (start (c .before .before .before .before .before .before .before .before .before .before .before .before)) (calls (c .before .before .before .before .before .before .before .before .before .before .before .before))) .flags) (c .before .before .before .before .before .before .before .before .before .before .before .before .args .flags .now) r, (after-refused (no (c .before .before .before .before .before .before .before .before .before .before .before .before)) ((bookSheet (asked (c .before .before .before .before .before .before .before .before .before .before .before .before)) (start (c .before .before .before .before .before .before .before .before .before .before .before .before)) (calls (c .before .before .before .before .before .before .before .before .before .before .before .before))) .marks) (c .before .before .before .before .before .before .before .before .before .before .before .before .args .marks .now) r, (after-refused (no (c .before .before .before .before .before .before .before .before .before .before .before .before)) (bookNumbers (asked (c .before .before .before .before .before .before .before .before .before .before .before .before)) (start (c .before .before .before .before .before .before .before .before .before .before .before .before)) (calls (c .before .before .before .before .before .before .before .before .before .before .before .before))) (c .before .before .before .before .before .before .before .before .before .before .before .before .args .answers .now) r, (after-refused (no (c .before .before .before .before .before .before .before .before .before .before .before .before)) (bookTallies (asked (c .before .before .before .before .before .before .before .before .before .before .before .before)) (start (c .before .before .before .before .before .before .before .before .before .before .before .before)) (calls (c .before .before .before .before .before .before .before .before .before .before .before .before))) (c .before .before .before .before .before .before .before .before .before .before .before .before .args .tallies .now) r))))))
+    let s : _ = c .before .before .before .before .before .before .before .before .before .before .before .before in
+    let r : no s ≡ 0 → ⊥ = λ z. c .if1 .taken (c .before .replay-no .ensures ∙ z) in
+    (rw (c .before .replay-no .ensures) (answer-refused (no s) ((bookSheet (asked s) (start s) (calls s)) .tally) r), (after-refused (no s) ((bookSheet (asked s) (start s) (calls s)) .weights) (s .args .weights .now) r, (after-refused (no s) ((bookSheet (asked s) (start s) (calls s)) .flags) (s .args .flags .now) r, (after-refused (no s) ((bookSheet (asked s) (start s) (calls s)) .marks) (s .args .marks .now) r, (after-refused (no s) (bookNumbers (asked s) (start s) (calls s)) (s .args .answers .now) r, (after-refused (no s) (bookTallies (asked s) (start s) (calls s)) (s .args .tallies .now) r))))))
 
 play-requires : tie.Need-play-requires
 play-requires c κs =
-    let y : no (c .before .before .before .before .before .before .before .before .before .before .before .before .before .before .before .before .before) ≡ 0 = sym (c .before .before .before .before .before .before .replay-no .ensures) ∙ c .before .before .before .before .before .if1 .left in replay-yes (length (c .before .before .before .before .before .before .before .before .before .before .before .before .before .before .before .before .before .args .list .now)) (length (c .before .before .before .before .before .before .before .before .before .before .before .before .before .before .before .before .before .args .answers .now)) (length (c .before .before .before .before .before .before .before .before .before .before .before .before .before .before .before .before .before .args .tallies .now)) (c .before .before .before .before .before .before .before .before .before .before .before .before .before .before .before .before .before .args .marks .now) y
+    let s : _ = c .before .before .before .before .before .before .before .before .before .before .before .before .before .before .before .before .before in
+    let y : no s ≡ 0 = sym (c .before .before .before .before .before .before .replay-no .ensures) ∙ c .before .before .before .before .before .if1 .left in
+    replay-yes (length (s .args .list .now)) (length (s .args .answers .now)) (length (s .args .tallies .now)) (s .args .marks .now) y
 
 same-length-4 : tie.Need-same-length-4
 same-length-4 c = search needs
@@ -62,7 +66,9 @@ same-length-8 c = search needs
 
 returns-2 : tie.Need-returns-2
 returns-2 c =
-    let y : no (c .before .before .before .before .before .before .before .before .before .before .before .before .before .before .before .before .before .before .before .before .before .before .before .before .before .before .before) ≡ 0 = sym (c .before .before .before .before .before .before .before .before .before .before .before .before .before .before .before .before .replay-no .ensures) ∙ c .before .before .before .before .before .before .before .before .before .before .before .before .before .before .before .if1 .left in (answer-done (no (c .before .before .before .before .before .before .before .before .before .before .before .before .before .before .before .before .before .before .before .before .before .before .before .before .before .before .before)) ((bookSheet (asked (c .before .before .before .before .before .before .before .before .before .before .before .before .before .before .before .before .before .before .before .before .before .before .before .before .before .before .before)) (start (c .before .before .before .before .before .before .before .before .before .before .before .before .before .before .before .before .before .before .before .before .before .before .before .before .before .before .before)) (calls (c .before .before .before .before .before .before .before .before .before .before .before .before .before .before .before .before .before .before .before .before .before .before .before .before .before .before .before))) .tally) (c .before .before .before .before .before .before .before .before .before .play .result) y (c .before .before .before .before .before .before .before .before .before .play .ensures .0), (c .before .before .before .before .before .before .before .before .before .play .ensures .1 .0 ∙ after-done (no (c .before .before .before .before .before .before .before .before .before .before .before .before .before .before .before .before .before .before .before .before .before .before .before .before .before .before .before)) ((bookSheet (asked (c .before .before .before .before .before .before .before .before .before .before .before .before .before .before .before .before .before .before .before .before .before .before .before .before .before .before .before)) (start (c .before .before .before .before .before .before .before .before .before .before .before .before .before .before .before .before .before .before .before .before .before .before .before .before .before .before .before)) (calls (c .before .before .before .before .before .before .before .before .before .before .before .before .before .before .before .before .before .before .before .before .before .before .before .before .before .before .before))) .weights) (c .before .before .before .before .before .before .before .before .before .before .before .before .before .before .before .before .before .before .before .before .before .before .before .before .before .before .before .args .weights .now) y, (c .before .before .before .before .before .before .before .before .before .play .ensures .1 .1 .0 ∙ after-done (no (c .before .before .before .before .before .before .before .before .before .before .before .before .before .before .before .before .before .before .before .before .before .before .before .before .before .before .before)) ((bookSheet (asked (c .before .before .before .before .before .before .before .before .before .before .before .before .before .before .before .before .before .before .before .before .before .before .before .before .before .before .before)) (start (c .before .before .before .before .before .before .before .before .before .before .before .before .before .before .before .before .before .before .before .before .before .before .before .before .before .before .before)) (calls (c .before .before .before .before .before .before .before .before .before .before .before .before .before .before .before .before .before .before .before .before .before .before .before .before .before .before .before))) .flags) (c .before .before .before .before .before .before .before .before .before .before .before .before .before .before .before .before .before .before .before .before .before .before .before .before .before .before .before .args .flags .now) y, (c .before .before .before .before .before .before .before .before .before .play .ensures .1 .1 .1 .0 ∙ after-done (no (c .before .before .before .before .before .before .before .before .before .before .before .before .before .before .before .before .before .before .before .before .before .before .before .before .before .before .before)) ((bookSheet (asked (c .before .before .before .before .before .before .before .before .before .before .before .before .before .before .before .before .before .before .before .before .before .before .before .before .before .before .before)) (start (c .before .before .before .before .before .before .before .before .before .before .before .before .before .before .before .before .before .before .before .before .before .before .before .before .before .before .before)) (calls (c .before .before .before .before .before .before .before .before .before .before .before .before .before .before .before .before .before .before .before .before .before .before .before .before .before .before .before))) .marks) (c .before .before .before .before .before .before .before .before .before .before .before .before .before .before .before .before .before .before .before .before .before .before .before .before .before .before .before .args .marks .now) y, (c .before .before .before .before .before .before .before .before .before .play .ensures .1 .1 .1 .1 .0 ∙ after-done (no (c .before .before .before .before .before .before .before .before .before .before .before .before .before .before .before .before .before .before .before .before .before .before .before .before .before .before .before)) (bookNumbers (asked (c .before .before .before .before .before .before .before .before .before .before .before .before .before .before .before .before .before .before .before .before .before .before .before .before .before .before .before)) (start (c .before .before .before .before .before .before .before .before .before .before .before .before .before .before .before .before .before .before .before .before .before .before .before .before .before .before .before)) (calls (c .before .before .before .before .before .before .before .before .before .before .before .before .before .before .before .before .before .before .before .before .before .before .before .before .before .before .before))) (c .before .before .before .before .before .before .before .before .before .before .before .before .before .before .before .before .before .before .before .before .before .before .before .before .before .before .before .args .answers .now) y, (c .before .before .before .before .before .before .before .before .before .play .ensures .1 .1 .1 .1 .1 ∙ after-done (no (c .before .before .before .before .before .before .before .before .before .before .before .before .before .before .before .before .before .before .before .before .before .before .before .before .before .before .before)) (bookTallies (asked (c .before .before .before .before .before .before .before .before .before .before .before .before .before .before .before .before .before .before .before .before .before .before .before .before .before .before .before)) (start (c .before .before .before .before .before .before .before .before .before .before .before .before .before .before .before .before .before .before .before .before .before .before .before .before .before .before .before)) (calls (c .before .before .before .before .before .before .before .before .before .before .before .before .before .before .before .before .before .before .before .before .before .before .before .before .before .before .before))) (c .before .before .before .before .before .before .before .before .before .before .before .before .before .before .before .before .before .before .before .before .before .before .before .before .before .before .before .args .tallies .now) y))))))
+    let s : _ = c .before .before .before .before .before .before .before .before .before .before .before .before .before .before .before .before .before .before .before .before .before .before .before .before .before .before .before in
+    let y : no s ≡ 0 = sym (c .before .before .before .before .before .before .before .before .before .before .before .before .before .before .before .before .replay-no .ensures) ∙ c .before .before .before .before .before .before .before .before .before .before .before .before .before .before .before .if1 .left in
+    (answer-done (no s) ((bookSheet (asked s) (start s) (calls s)) .tally) (c .before .before .before .before .before .before .before .before .before .play .result) y (c .before .before .before .before .before .before .before .before .before .play .ensures .0), (c .before .before .before .before .before .before .before .before .before .play .ensures .1 .0 ∙ after-done (no s) ((bookSheet (asked s) (start s) (calls s)) .weights) (s .args .weights .now) y, (c .before .before .before .before .before .before .before .before .before .play .ensures .1 .1 .0 ∙ after-done (no s) ((bookSheet (asked s) (start s) (calls s)) .flags) (s .args .flags .now) y, (c .before .before .before .before .before .before .before .before .before .play .ensures .1 .1 .1 .0 ∙ after-done (no s) ((bookSheet (asked s) (start s) (calls s)) .marks) (s .args .marks .now) y, (c .before .before .before .before .before .before .before .before .before .play .ensures .1 .1 .1 .1 .0 ∙ after-done (no s) (bookNumbers (asked s) (start s) (calls s)) (s .args .answers .now) y, (c .before .before .before .before .before .before .before .before .before .play .ensures .1 .1 .1 .1 .1 ∙ after-done (no s) (bookTallies (asked s) (start s) (calls s)) (s .args .tallies .now) y))))))
 
 pub replay-spec : {M : Type 1} → statement M
 replay-spec =

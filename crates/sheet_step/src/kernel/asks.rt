@@ -1,10 +1,10 @@
 // The questions of the calls on a sheet, in their order: the number of the first that is answered no, or 0.
 ghost use mathlib.Core.Path.{_≡_};
 ghost use mathlib.Core.List.{_++_};
-ghost use Prim.Native.Nat.{_+_, _*_, _≤_, _<_};
+ghost use Prim.Native.Nat.{_+_, _*_, _<_};
 ghost use lib.ListN.{length};
 ghost use Rattle.questions.specs.Ask.{firstNo};
-ghost use Rattle.triplet_study.specs.Given.{given, givenQuestions, FewSizes};
+ghost use Rattle.triplet_study.specs.Given.{given, givenQuestions};
 ghost use Rattle.sheet_step.specs.Steps.{countsOf, sheetQuestions, pieceQuestions, averageQuestions, areTripletWeights, Counted};
 use crate::kernel::marks;
 use triplet_piece::Sizes;

@@ -2,14 +2,16 @@
 ghost use mathlib.Core.Path.{_≡_};
 ghost use Prim.Native.Nat.{_+_, _*_, _≤_, _<_};
 ghost use lib.ListN.{length, set};
-ghost use Rattle.list_laws.specs.Lists.{oneIf};
-ghost use Rattle.sheet_step.specs.Marks.{markAt, isOpenAt, isMark, areMarks, isNotAveraged, areComputed, openPieces, openIn, averagedMarks};
+ghost use Rattle.sheet_step.specs.Marks.{markAt, isMark, areMarks, isNotAveraged, areComputed, openPieces, openIn, averagedMarks};
+use sheet_marks::kernel::one_if;
 
-// Open, computed, averaged.
+// The mark of an open piece.
 pub const OPEN: u8 = 0;
 
+// The mark of a computed piece.
 pub const COMPUTED: u8 = 1;
 
+// The mark of an averaged piece.
 pub const AVERAGED: u8 = 2;
 
 // The mark of piece `q`.
@@ -74,12 +76,6 @@ pub fn all_computed(pairs: usize, marks: &[u8], t: usize) -> bool
         k += 1;
     }
     ok
-}
-
-fn one_if(yes: bool) -> u64
-    ensures { λ r. ⌜ r ≡ oneIf yes ⌝ }
-{
-    if yes { 1 } else { 0 }
 }
 
 // How many pieces are open.

@@ -53,6 +53,7 @@ fn further_channel_at(
     }
 }
 
+// The weight of a channel: 0 when closed.
 fn value_of(c: Channel) -> f64
     ensures { λ r. ⌜ r ≡ valueOf c ⌝ }
 {
@@ -62,6 +63,7 @@ fn value_of(c: Channel) -> f64
     }
 }
 
+// Whether a channel is closed.
 fn is_closed(c: Channel) -> bool
     ensures { λ r. ⌜ r ≡ closedOf c ⌝ }
 {

@@ -6,6 +6,7 @@ ghost use Rattle.triplet_channels.specs.Values.{clamped, cornerFrequency
 use crate::TpType;
 use crate::ValueBox;
 
+// A value below 0 replaced by 0.
 fn clamp(f: f64) -> f64
     ensures { λ r. ⌜ r ≡ clamped f ⌝ }
 {
@@ -63,12 +64,14 @@ pub fn fill_channel(a: &mut [f64; 384], channel: usize, f1: &[f64; 384], f2: &[f
     }
 }
 
+// The lesser of two values.
 fn lesser_of(fmin: f64, v: f64) -> f64
     ensures { λ r. ⌜ r ≡ lesser fmin v ⌝ }
 {
     if fmin > v { v } else { fmin }
 }
 
+// The greater of two values.
 fn greater_of(fmax: f64, v: f64) -> f64
     ensures { λ r. ⌜ r ≡ greater fmax v ⌝ }
 {

@@ -17,7 +17,9 @@ mul-if1 c = search needs
 returns : tie.Need-returns
 unfolding replayNo firstNo areReplayLengths
 returns c =
-    let l : (eqb (length (c .before .before .before .before .args .list .now)) (length (c .before .before .before .before .args .answers .now) * 6) && eqb (length (c .before .before .before .before .args .tallies .now)) (length (c .before .before .before .before .args .answers .now))) ≡ areReplayLengths (length (c .before .before .before .before .args .list .now)) (length (c .before .before .before .before .args .answers .now)) (length (c .before .before .before .before .args .tallies .now)) = refl in rw (no-of l (c .if1 .taken))
+    let s : _ = c .before .before .before .before in
+    let l : (eqb (length (s .args .list .now)) (length (s .args .answers .now) * 6) && eqb (length (s .args .tallies .now)) (length (s .args .answers .now))) ≡ areReplayLengths (length (s .args .list .now)) (length (s .args .answers .now)) (length (s .args .tallies .now)) = refl in
+    rw (no-of l (c .if1 .taken))
 
 all-open-requires : tie.Need-all-open-requires
 all-open-requires c κs = search needs
@@ -25,12 +27,16 @@ all-open-requires c κs = search needs
 returns-2 : tie.Need-returns-2
 unfolding replayNo firstNo areReplayLengths
 returns-2 c =
-    let l : (eqb (length (c .before .before .before .before .before .before .args .list .now)) (length (c .before .before .before .before .before .before .args .answers .now) * 6) && eqb (length (c .before .before .before .before .before .before .args .tallies .now)) (length (c .before .before .before .before .before .before .args .answers .now))) ≡ areReplayLengths (length (c .before .before .before .before .before .before .args .list .now)) (length (c .before .before .before .before .before .before .args .answers .now)) (length (c .before .before .before .before .before .before .args .tallies .now)) = refl in rw (yes-of l (c .before .before .if1 .left), no-of (c .before .all-open .ensures) (c .if2 .taken))
+    let s : _ = c .before .before .before .before .before .before in
+    let l : (eqb (length (s .args .list .now)) (length (s .args .answers .now) * 6) && eqb (length (s .args .tallies .now)) (length (s .args .answers .now))) ≡ areReplayLengths (length (s .args .list .now)) (length (s .args .answers .now)) (length (s .args .tallies .now)) = refl in
+    rw (yes-of l (c .before .before .if1 .left), no-of (c .before .all-open .ensures) (c .if2 .taken))
 
 returns-3 : tie.Need-returns-3
 unfolding replayNo firstNo areReplayLengths
 returns-3 c =
-    let l : (eqb (length (c .before .before .before .before .before .before .args .list .now)) (length (c .before .before .before .before .before .before .args .answers .now) * 6) && eqb (length (c .before .before .before .before .before .before .args .tallies .now)) (length (c .before .before .before .before .before .before .args .answers .now))) ≡ areReplayLengths (length (c .before .before .before .before .before .before .args .list .now)) (length (c .before .before .before .before .before .before .args .answers .now)) (length (c .before .before .before .before .before .before .args .tallies .now)) = refl in rw (yes-of l (c .before .before .if1 .left), yes-of (c .before .all-open .ensures) (c .if2 .left))
+    let s : _ = c .before .before .before .before .before .before in
+    let l : (eqb (length (s .args .list .now)) (length (s .args .answers .now) * 6) && eqb (length (s .args .tallies .now)) (length (s .args .answers .now))) ≡ areReplayLengths (length (s .args .list .now)) (length (s .args .answers .now)) (length (s .args .tallies .now)) = refl in
+    rw (yes-of l (c .before .before .if1 .left), yes-of (c .before .all-open .ensures) (c .if2 .left))
 
 pub replay-no-spec : {M : Type 1} → statement M
 replay-no-spec = tie.close (tie.spec mul-if1 returns all-open-requires returns-2 returns-3)

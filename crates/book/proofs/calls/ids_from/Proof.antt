@@ -23,23 +23,48 @@ magnitude-requires-2 c κs = search needs
 
 mul-result : tie.Need-mul-result
 mul-result c =
-    let h : isPart (c .before .before .before .before .args .ids .now) (c .before .before .before .before .args .start) (c .before .before .before .before .args .end) ≡ true = rw (toZ-ofZ w64 (c .before .before .before .before .args .start) (c .before .before .before .before .fits .start), toZ-ofZ w64 (c .before .before .before .before .args .end) (c .before .before .before .before .fits .end)) at (sym (c .before .before .before .part-ok .ensures) ∙ c .before .before .if1 .taken) in let w : _ = part-within (c .before .before .before .before .args .ids .now) (c .before .before .before .before .args .start) (c .before .before .before .before .args .end) h in let ms : c .before .magnitude .result ≡ mag (c .before .before .before .before .args .start) = c .before .magnitude .ensures ∙ ap mag (toZ-ofZ w64 (c .before .before .before .before .args .start) (c .before .before .before .before .fits .start)) in let me : c .magnitude2 .result ≡ mag (c .before .before .before .before .args .end) = c .magnitude2 .ensures ∙ ap mag (toZ-ofZ w64 (c .before .before .before .before .args .end) (c .before .before .before .before .fits .end)) in omega (arith, w .0, w .1, ms, me, c .before .before .before .before .good)
+    let s : _ = c .before .before .before .before in
+    let h : isPart (s .args .ids .now) (s .args .start) (s .args .end) ≡ true = rw (toZ-ofZ w64 (s .args .start) (s .fits .start), toZ-ofZ w64 (s .args .end) (s .fits .end)) at (sym (c .before .before .before .part-ok .ensures) ∙ c .before .before .if1 .taken) in
+    let w : _ = part-within (s .args .ids .now) (s .args .start) (s .args .end) h in
+    let ms : c .before .magnitude .result ≡ mag (s .args .start) = c .before .magnitude .ensures ∙ ap mag (toZ-ofZ w64 (s .args .start) (s .fits .start)) in
+    let me : c .magnitude2 .result ≡ mag (s .args .end) = c .magnitude2 .ensures ∙ ap mag (toZ-ofZ w64 (s .args .end) (s .fits .end)) in
+    omega (arith, w .0, w .1, ms, me, s .good)
 
 sub-result : tie.Need-sub-result
 sub-result c =
-    let h : isPart (c .before .before .before .before .args .ids .now) (c .before .before .before .before .args .start) (c .before .before .before .before .args .end) ≡ true = rw (toZ-ofZ w64 (c .before .before .before .before .args .start) (c .before .before .before .before .fits .start), toZ-ofZ w64 (c .before .before .before .before .args .end) (c .before .before .before .before .fits .end)) at (sym (c .before .before .before .part-ok .ensures) ∙ c .before .before .if1 .taken) in let w : _ = part-within (c .before .before .before .before .args .ids .now) (c .before .before .before .before .args .start) (c .before .before .before .before .args .end) h in let ms : c .before .magnitude .result ≡ mag (c .before .before .before .before .args .start) = c .before .magnitude .ensures ∙ ap mag (toZ-ofZ w64 (c .before .before .before .before .args .start) (c .before .before .before .before .fits .start)) in let me : c .magnitude2 .result ≡ mag (c .before .before .before .before .args .end) = c .magnitude2 .ensures ∙ ap mag (toZ-ofZ w64 (c .before .before .before .before .args .end) (c .before .before .before .before .fits .end)) in omega (arith, w .0, w .1, ms, me)
+    let s : _ = c .before .before .before .before in
+    let h : isPart (s .args .ids .now) (s .args .start) (s .args .end) ≡ true = rw (toZ-ofZ w64 (s .args .start) (s .fits .start), toZ-ofZ w64 (s .args .end) (s .fits .end)) at (sym (c .before .before .before .part-ok .ensures) ∙ c .before .before .if1 .taken) in
+    let w : _ = part-within (s .args .ids .now) (s .args .start) (s .args .end) h in
+    let ms : c .before .magnitude .result ≡ mag (s .args .start) = c .before .magnitude .ensures ∙ ap mag (toZ-ofZ w64 (s .args .start) (s .fits .start)) in
+    let me : c .magnitude2 .result ≡ mag (s .args .end) = c .magnitude2 .ensures ∙ ap mag (toZ-ofZ w64 (s .args .end) (s .fits .end)) in
+    omega (arith, w .0, w .1, ms, me)
 
 part-result-start : tie.Need-part-result-start
 part-result-start c =
-    let h : isPart (c .before .before .before .before .args .ids .now) (c .before .before .before .before .args .start) (c .before .before .before .before .args .end) ≡ true = rw (toZ-ofZ w64 (c .before .before .before .before .args .start) (c .before .before .before .before .fits .start), toZ-ofZ w64 (c .before .before .before .before .args .end) (c .before .before .before .before .fits .end)) at (sym (c .before .before .before .part-ok .ensures) ∙ c .before .before .if1 .taken) in let w : _ = part-within (c .before .before .before .before .args .ids .now) (c .before .before .before .before .args .start) (c .before .before .before .before .args .end) h in let ms : c .before .magnitude .result ≡ mag (c .before .before .before .before .args .start) = c .before .magnitude .ensures ∙ ap mag (toZ-ofZ w64 (c .before .before .before .before .args .start) (c .before .before .before .before .fits .start)) in let me : c .magnitude2 .result ≡ mag (c .before .before .before .before .args .end) = c .magnitude2 .ensures ∙ ap mag (toZ-ofZ w64 (c .before .before .before .before .args .end) (c .before .before .before .before .fits .end)) in omega (arith, w .0, w .1, ms, me)
+    let s : _ = c .before .before .before .before in
+    let h : isPart (s .args .ids .now) (s .args .start) (s .args .end) ≡ true = rw (toZ-ofZ w64 (s .args .start) (s .fits .start), toZ-ofZ w64 (s .args .end) (s .fits .end)) at (sym (c .before .before .before .part-ok .ensures) ∙ c .before .before .if1 .taken) in
+    let w : _ = part-within (s .args .ids .now) (s .args .start) (s .args .end) h in
+    let ms : c .before .magnitude .result ≡ mag (s .args .start) = c .before .magnitude .ensures ∙ ap mag (toZ-ofZ w64 (s .args .start) (s .fits .start)) in
+    let me : c .magnitude2 .result ≡ mag (s .args .end) = c .magnitude2 .ensures ∙ ap mag (toZ-ofZ w64 (s .args .end) (s .fits .end)) in
+    omega (arith, w .0, w .1, ms, me)
 
 part-result-end : tie.Need-part-result-end
 part-result-end c =
-    let h : isPart (c .before .before .before .before .args .ids .now) (c .before .before .before .before .args .start) (c .before .before .before .before .args .end) ≡ true = rw (toZ-ofZ w64 (c .before .before .before .before .args .start) (c .before .before .before .before .fits .start), toZ-ofZ w64 (c .before .before .before .before .args .end) (c .before .before .before .before .fits .end)) at (sym (c .before .before .before .part-ok .ensures) ∙ c .before .before .if1 .taken) in let w : _ = part-within (c .before .before .before .before .args .ids .now) (c .before .before .before .before .args .start) (c .before .before .before .before .args .end) h in let ms : c .before .magnitude .result ≡ mag (c .before .before .before .before .args .start) = c .before .magnitude .ensures ∙ ap mag (toZ-ofZ w64 (c .before .before .before .before .args .start) (c .before .before .before .before .fits .start)) in let me : c .magnitude2 .result ≡ mag (c .before .before .before .before .args .end) = c .magnitude2 .ensures ∙ ap mag (toZ-ofZ w64 (c .before .before .before .before .args .end) (c .before .before .before .before .fits .end)) in omega (arith, w .0, w .1, ms, me)
+    let s : _ = c .before .before .before .before in
+    let h : isPart (s .args .ids .now) (s .args .start) (s .args .end) ≡ true = rw (toZ-ofZ w64 (s .args .start) (s .fits .start), toZ-ofZ w64 (s .args .end) (s .fits .end)) at (sym (c .before .before .before .part-ok .ensures) ∙ c .before .before .if1 .taken) in
+    let w : _ = part-within (s .args .ids .now) (s .args .start) (s .args .end) h in
+    let ms : c .before .magnitude .result ≡ mag (s .args .start) = c .before .magnitude .ensures ∙ ap mag (toZ-ofZ w64 (s .args .start) (s .fits .start)) in
+    let me : c .magnitude2 .result ≡ mag (s .args .end) = c .magnitude2 .ensures ∙ ap mag (toZ-ofZ w64 (s .args .end) (s .fits .end)) in
+    omega (arith, w .0, w .1, ms, me)
 
 returns : tie.Need-returns
 returns c =
-    let h : isPart (c .before .before .before .before .before .args .ids .now) (c .before .before .before .before .before .args .start) (c .before .before .before .before .before .args .end) ≡ true = rw (toZ-ofZ w64 (c .before .before .before .before .before .args .start) (c .before .before .before .before .before .fits .start), toZ-ofZ w64 (c .before .before .before .before .before .args .end) (c .before .before .before .before .before .fits .end)) at (sym (c .before .before .before .before .part-ok .ensures) ∙ c .before .before .before .if1 .taken) in let w : _ = part-within (c .before .before .before .before .before .args .ids .now) (c .before .before .before .before .before .args .start) (c .before .before .before .before .before .args .end) h in let ms : c .before .before .magnitude .result ≡ mag (c .before .before .before .before .before .args .start) = c .before .before .magnitude .ensures ∙ ap mag (toZ-ofZ w64 (c .before .before .before .before .before .args .start) (c .before .before .before .before .before .fits .start)) in let me : c .before .magnitude2 .result ≡ mag (c .before .before .before .before .before .args .end) = c .before .magnitude2 .ensures ∙ ap mag (toZ-ofZ w64 (c .before .before .before .before .before .args .end) (c .before .before .before .before .before .fits .end)) in rw (ms, me) (ids-part (c .before .before .before .before .before .args .ids .now) (c .before .before .before .before .before .args .start) (c .before .before .before .before .before .args .end) h)
+    let s : _ = c .before .before .before .before .before in
+    let h : isPart (s .args .ids .now) (s .args .start) (s .args .end) ≡ true = rw (toZ-ofZ w64 (s .args .start) (s .fits .start), toZ-ofZ w64 (s .args .end) (s .fits .end)) at (sym (c .before .before .before .before .part-ok .ensures) ∙ c .before .before .before .if1 .taken) in
+    let w : _ = part-within (s .args .ids .now) (s .args .start) (s .args .end) h in
+    let ms : c .before .before .magnitude .result ≡ mag (s .args .start) = c .before .before .magnitude .ensures ∙ ap mag (toZ-ofZ w64 (s .args .start) (s .fits .start)) in
+    let me : c .before .magnitude2 .result ≡ mag (s .args .end) = c .before .magnitude2 .ensures ∙ ap mag (toZ-ofZ w64 (s .args .end) (s .fits .end)) in
+    rw (ms, me) (ids-part (s .args .ids .now) (s .args .start) (s .args .end) h)
 
 sub-result-2 : tie.Need-sub-result-2
 sub-result-2 c = search needs
@@ -52,7 +77,8 @@ part-result-end-2 c = search needs
 
 returns-2 : tie.Need-returns-2
 returns-2 c =
-    ids-none (c .before .before .before .args .ids .now) (c .before .before .before .args .start) (c .before .before .before .args .end) (rw (toZ-ofZ w64 (c .before .before .before .args .start) (c .before .before .before .fits .start), toZ-ofZ w64 (c .before .before .before .args .end) (c .before .before .before .fits .end)) at (sym (c .before .before .part-ok .ensures) ∙ c .before .if1 .left))
+    let s : _ = c .before .before .before in
+    ids-none (s .args .ids .now) (s .args .start) (s .args .end) (rw (toZ-ofZ w64 (s .args .start) (s .fits .start), toZ-ofZ w64 (s .args .end) (s .fits .end)) at (sym (c .before .before .part-ok .ensures) ∙ c .before .if1 .left))
 
 pub ids-from-spec : {M : Type 1} → statement M
 ids-from-spec =

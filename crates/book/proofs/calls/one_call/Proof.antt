@@ -41,7 +41,9 @@ same-length-3 c = search needs
 
 returns : tie.Need-returns
 returns c =
-    let h0 : isNat (numberAt (c .before .before .before .before .before .before .before .before .before .before .before .before .before .before .before .before .before .before .before .before .args .list .now) (c .before .before .before .before .before .before .before .before .before .before .before .before .before .before .before .before .before .before .before .before .args .i) 0) 0 ≡ true = rw (back (c .before .before .before .before .before .before .before .before .before .before .before .before .before .before .number .result) (c .before .before .before .before .before .before .before .before .before .before .before .before .before .before .number .ok), c .before .before .before .before .before .before .before .before .before .before .before .before .before .before .number .ensures) at (sym (c .before .before .before .before .before .before .before .before .before .before .is-nat .ensures) ∙ c .before .before .before .before .before .before .before .before .before .if1 .taken) in rw (call-run (c .before .before .before .before .before .before .before .before .before .before .before .before .before .before .before .before .before .before .before .before .args .list .now) (c .before .before .before .before .before .before .before .before .before .before .before .before .before .before .before .before .before .before .before .before .args .ids .now) (c .before .before .before .before .before .before .before .before .before .before .before .before .before .before .before .before .before .before .before .before .args .i) h0) (rw (back (c .before .before .before .before .before .before .before .before .before .before .before .before .before .number2 .result) (c .before .before .before .before .before .before .before .before .before .before .before .before .before .number2 .ok), back (c .before .before .before .before .before .before .before .before .before .before .before .before .number3 .result) (c .before .before .before .before .before .before .before .before .before .before .before .before .number3 .ok), back (c .before .before .before .before .before .before .before .before .before .before .before .number4 .result) (c .before .before .before .before .before .before .before .before .before .before .before .number4 .ok), c .before .before .before .before .before .before .before .before .before .before .before .before .before .number2 .ensures, c .before .before .before .before .before .before .before .before .before .before .before .before .number3 .ensures, c .before .before .before .before .before .before .before .before .before .before .before .number4 .ensures) at (c .before .before .before .before .before .run-piece .ensures))
+    let s : _ = c .before .before .before .before .before .before .before .before .before .before .before .before .before .before .before .before .before .before .before .before in
+    let h0 : isNat (numberAt (s .args .list .now) (s .args .i) 0) 0 ≡ true = rw (back (c .before .before .before .before .before .before .before .before .before .before .before .before .before .before .number .result) (c .before .before .before .before .before .before .before .before .before .before .before .before .before .before .number .ok), c .before .before .before .before .before .before .before .before .before .before .before .before .before .before .number .ensures) at (sym (c .before .before .before .before .before .before .before .before .before .before .is-nat .ensures) ∙ c .before .before .before .before .before .before .before .before .before .if1 .taken) in
+    rw (call-run (s .args .list .now) (s .args .ids .now) (s .args .i) h0) (rw (back (c .before .before .before .before .before .before .before .before .before .before .before .before .before .number2 .result) (c .before .before .before .before .before .before .before .before .before .before .before .before .before .number2 .ok), back (c .before .before .before .before .before .before .before .before .before .before .before .before .number3 .result) (c .before .before .before .before .before .before .before .before .before .before .before .before .number3 .ok), back (c .before .before .before .before .before .before .before .before .before .before .before .number4 .result) (c .before .before .before .before .before .before .before .before .before .before .before .number4 .ok), c .before .before .before .before .before .before .before .before .before .before .before .before .before .number2 .ensures, c .before .before .before .before .before .before .before .before .before .before .before .before .number3 .ensures, c .before .before .before .before .before .before .before .before .before .before .before .number4 .ensures) at (c .before .before .before .before .before .run-piece .ensures))
 
 is-nat-requires-2 : tie.Need-is-nat-requires-2
 is-nat-requires-2 c κs = search needs
@@ -60,7 +62,10 @@ same-length-6 c = search needs
 
 returns-2 : tie.Need-returns-2
 returns-2 c =
-    let h0 : isNat (numberAt (c .before .before .before .before .before .before .before .before .before .before .before .before .before .before .before .before .before .before .before .before .before .before .args .list .now) (c .before .before .before .before .before .before .before .before .before .before .before .before .before .before .before .before .before .before .before .before .before .before .args .i) 0) 0 ≡ false = rw (back (c .before .before .before .before .before .before .before .before .before .before .before .before .before .before .before .before .number .result) (c .before .before .before .before .before .before .before .before .before .before .before .before .before .before .before .before .number .ok), c .before .before .before .before .before .before .before .before .before .before .before .before .before .before .before .before .number .ensures) at (sym (c .before .before .before .before .before .before .before .before .before .before .before .before .is-nat .ensures) ∙ c .before .before .before .before .before .before .before .before .before .before .before .if1 .left) in let h1 : isNat (numberAt (c .before .before .before .before .before .before .before .before .before .before .before .before .before .before .before .before .before .before .before .before .before .before .args .list .now) (c .before .before .before .before .before .before .before .before .before .before .before .before .before .before .before .before .before .before .before .before .before .before .args .i) 0) 1 ≡ true = rw (back (c .before .before .before .before .before .before .before .before .before .before .before .before .before .before .before .before .number .result) (c .before .before .before .before .before .before .before .before .before .before .before .before .before .before .before .before .number .ok), c .before .before .before .before .before .before .before .before .before .before .before .before .before .before .before .before .number .ensures) at (sym (c .before .before .before .before .before .before .before .before .before .before .is-nat2 .ensures) ∙ c .before .before .before .before .before .before .before .before .before .if2 .taken) in rw (call-carry (c .before .before .before .before .before .before .before .before .before .before .before .before .before .before .before .before .before .before .before .before .before .before .args .list .now) (c .before .before .before .before .before .before .before .before .before .before .before .before .before .before .before .before .before .before .before .before .before .before .args .ids .now) (c .before .before .before .before .before .before .before .before .before .before .before .before .before .before .before .before .before .before .before .before .before .before .args .i) h0 h1) (c .before .before .before .before .before .carry-on .ensures)
+    let s : _ = c .before .before .before .before .before .before .before .before .before .before .before .before .before .before .before .before .before .before .before .before .before .before in
+    let h0 : isNat (numberAt (s .args .list .now) (s .args .i) 0) 0 ≡ false = rw (back (c .before .before .before .before .before .before .before .before .before .before .before .before .before .before .before .before .number .result) (c .before .before .before .before .before .before .before .before .before .before .before .before .before .before .before .before .number .ok), c .before .before .before .before .before .before .before .before .before .before .before .before .before .before .before .before .number .ensures) at (sym (c .before .before .before .before .before .before .before .before .before .before .before .before .is-nat .ensures) ∙ c .before .before .before .before .before .before .before .before .before .before .before .if1 .left) in
+    let h1 : isNat (numberAt (s .args .list .now) (s .args .i) 0) 1 ≡ true = rw (back (c .before .before .before .before .before .before .before .before .before .before .before .before .before .before .before .before .number .result) (c .before .before .before .before .before .before .before .before .before .before .before .before .before .before .before .before .number .ok), c .before .before .before .before .before .before .before .before .before .before .before .before .before .before .before .before .number .ensures) at (sym (c .before .before .before .before .before .before .before .before .before .before .is-nat2 .ensures) ∙ c .before .before .before .before .before .before .before .before .before .if2 .taken) in
+    rw (call-carry (s .args .list .now) (s .args .ids .now) (s .args .i) h0 h1) (c .before .before .before .before .before .carry-on .ensures)
 
 number-requires-5 : tie.Need-number-requires-5
 number-requires-5 c κs = search needs
@@ -88,7 +93,16 @@ same-length-9 c = search needs
 
 returns-3 : tie.Need-returns-3
 returns-3 c =
-    let h0 : isNat (numberAt (c .before .before .before .before .before .before .before .before .before .before .before .before .before .before .before .before .before .before .before .before .before .before .before .before .before .before .args .list .now) (c .before .before .before .before .before .before .before .before .before .before .before .before .before .before .before .before .before .before .before .before .before .before .before .before .before .before .args .i) 0) 0 ≡ false = rw (back (c .before .before .before .before .before .before .before .before .before .before .before .before .before .before .before .before .before .before .before .before .number .result) (c .before .before .before .before .before .before .before .before .before .before .before .before .before .before .before .before .before .before .before .before .number .ok), c .before .before .before .before .before .before .before .before .before .before .before .before .before .before .before .before .before .before .before .before .number .ensures) at (sym (c .before .before .before .before .before .before .before .before .before .before .before .before .before .before .before .before .is-nat .ensures) ∙ c .before .before .before .before .before .before .before .before .before .before .before .before .before .before .before .if1 .left) in let h1 : isNat (numberAt (c .before .before .before .before .before .before .before .before .before .before .before .before .before .before .before .before .before .before .before .before .before .before .before .before .before .before .args .list .now) (c .before .before .before .before .before .before .before .before .before .before .before .before .before .before .before .before .before .before .before .before .before .before .before .before .before .before .args .i) 0) 1 ≡ false = rw (back (c .before .before .before .before .before .before .before .before .before .before .before .before .before .before .before .before .before .before .before .before .number .result) (c .before .before .before .before .before .before .before .before .before .before .before .before .before .before .before .before .before .before .before .before .number .ok), c .before .before .before .before .before .before .before .before .before .before .before .before .before .before .before .before .before .before .before .before .number .ensures) at (sym (c .before .before .before .before .before .before .before .before .before .before .before .before .before .before .is-nat2 .ensures) ∙ c .before .before .before .before .before .before .before .before .before .before .before .before .before .if2 .left) in let n3 : toZ w64 (ofZ w64 (c .before .before .before .before .before .before .before .before .before .before .before .before .before .before .before .before .before .before .number3 .result)) ≡ (numberAt (c .before .before .before .before .before .before .before .before .before .before .before .before .before .before .before .before .before .before .before .before .before .before .before .before .before .before .args .list .now) (c .before .before .before .before .before .before .before .before .before .before .before .before .before .before .before .before .before .before .before .before .before .before .before .before .before .before .args .i) 2) = back (c .before .before .before .before .before .before .before .before .before .before .before .before .before .before .before .before .before .before .number3 .result) (c .before .before .before .before .before .before .before .before .before .before .before .before .before .before .before .before .before .before .number3 .ok) ∙ c .before .before .before .before .before .before .before .before .before .before .before .before .before .before .before .before .before .before .number3 .ensures in let n4 : toZ w64 (ofZ w64 (c .before .before .before .before .before .before .before .before .before .before .before .before .before .before .before .before .before .number4 .result)) ≡ (numberAt (c .before .before .before .before .before .before .before .before .before .before .before .before .before .before .before .before .before .before .before .before .before .before .before .before .before .before .args .list .now) (c .before .before .before .before .before .before .before .before .before .before .before .before .before .before .before .before .before .before .before .before .before .before .before .before .before .before .args .i) 3) = back (c .before .before .before .before .before .before .before .before .before .before .before .before .before .before .before .before .before .number4 .result) (c .before .before .before .before .before .before .before .before .before .before .before .before .before .before .before .before .before .number4 .ok) ∙ c .before .before .before .before .before .before .before .before .before .before .before .before .before .before .before .before .before .number4 .ensures in let i1 : c .before .before .before .before .before .before .before .before .before .before .ids-from .result .now ≡ idsFrom (c .before .before .before .before .before .before .before .before .before .before .before .before .before .before .before .before .before .before .before .before .before .before .before .before .before .before .args .ids .now) (numberAt (c .before .before .before .before .before .before .before .before .before .before .before .before .before .before .before .before .before .before .before .before .before .before .before .before .before .before .args .list .now) (c .before .before .before .before .before .before .before .before .before .before .before .before .before .before .before .before .before .before .before .before .before .before .before .before .before .before .args .i) 2) (numberAt (c .before .before .before .before .before .before .before .before .before .before .before .before .before .before .before .before .before .before .before .before .before .before .before .before .before .before .args .list .now) (c .before .before .before .before .before .before .before .before .before .before .before .before .before .before .before .before .before .before .before .before .before .before .before .before .before .before .args .i) 3) = c .before .before .before .before .before .before .before .before .before .before .ids-from .ensures ∙ (λ k. idsFrom (c .before .before .before .before .before .before .before .before .before .before .before .before .before .before .before .before .before .before .before .before .before .before .before .before .before .before .args .ids .now) (n3 k) (n4 k)) in let n5 : toZ w64 (ofZ w64 (c .before .before .before .before .before .before .before .before .before .before .before .before .number5 .result)) ≡ (numberAt (c .before .before .before .before .before .before .before .before .before .before .before .before .before .before .before .before .before .before .before .before .before .before .before .before .before .before .args .list .now) (c .before .before .before .before .before .before .before .before .before .before .before .before .before .before .before .before .before .before .before .before .before .before .before .before .before .before .args .i) 4) = back (c .before .before .before .before .before .before .before .before .before .before .before .before .number5 .result) (c .before .before .before .before .before .before .before .before .before .before .before .before .number5 .ok) ∙ c .before .before .before .before .before .before .before .before .before .before .before .before .number5 .ensures in let n6 : toZ w64 (ofZ w64 (c .before .before .before .before .before .before .before .before .before .before .before .number6 .result)) ≡ (numberAt (c .before .before .before .before .before .before .before .before .before .before .before .before .before .before .before .before .before .before .before .before .before .before .before .before .before .before .args .list .now) (c .before .before .before .before .before .before .before .before .before .before .before .before .before .before .before .before .before .before .before .before .before .before .before .before .before .before .args .i) 5) = back (c .before .before .before .before .before .before .before .before .before .before .before .number6 .result) (c .before .before .before .before .before .before .before .before .before .before .before .number6 .ok) ∙ c .before .before .before .before .before .before .before .before .before .before .before .number6 .ensures in let i2 : c .before .before .before .before .before .before .before .before .before .ids-from2 .result .now ≡ idsFrom (c .before .before .before .before .before .before .before .before .before .before .before .before .before .before .before .before .before .before .before .before .before .before .before .before .before .before .args .ids .now) (numberAt (c .before .before .before .before .before .before .before .before .before .before .before .before .before .before .before .before .before .before .before .before .before .before .before .before .before .before .args .list .now) (c .before .before .before .before .before .before .before .before .before .before .before .before .before .before .before .before .before .before .before .before .before .before .before .before .before .before .args .i) 4) (numberAt (c .before .before .before .before .before .before .before .before .before .before .before .before .before .before .before .before .before .before .before .before .before .before .before .before .before .before .args .list .now) (c .before .before .before .before .before .before .before .before .before .before .before .before .before .before .before .before .before .before .before .before .before .before .before .before .before .before .args .i) 5) = c .before .before .before .before .before .before .before .before .before .ids-from2 .ensures ∙ (λ k. idsFrom (c .before .before .before .before .before .before .before .before .before .before .before .before .before .before .before .before .before .before .before .before .before .before .before .before .before .before .args .ids .now) (n5 k) (n6 k)) in rw (call-average (c .before .before .before .before .before .before .before .before .before .before .before .before .before .before .before .before .before .before .before .before .before .before .before .before .before .before .args .list .now) (c .before .before .before .before .before .before .before .before .before .before .before .before .before .before .before .before .before .before .before .before .before .before .before .before .before .before .args .ids .now) (c .before .before .before .before .before .before .before .before .before .before .before .before .before .before .before .before .before .before .before .before .before .before .before .before .before .before .args .i) h0 h1) (rw (back (c .before .before .before .before .before .before .before .before .before .before .before .before .before .before .before .before .before .before .before .number2 .result) (c .before .before .before .before .before .before .before .before .before .before .before .before .before .before .before .before .before .before .before .number2 .ok), c .before .before .before .before .before .before .before .before .before .before .before .before .before .before .before .before .before .before .before .number2 .ensures, i1, i2) at (c .before .before .before .before .before .average-triplet .ensures))
+    let s : _ = c .before .before .before .before .before .before .before .before .before .before .before .before .before .before .before .before .before .before .before .before .before .before .before .before .before .before in
+    let h0 : isNat (numberAt (s .args .list .now) (s .args .i) 0) 0 ≡ false = rw (back (c .before .before .before .before .before .before .before .before .before .before .before .before .before .before .before .before .before .before .before .before .number .result) (c .before .before .before .before .before .before .before .before .before .before .before .before .before .before .before .before .before .before .before .before .number .ok), c .before .before .before .before .before .before .before .before .before .before .before .before .before .before .before .before .before .before .before .before .number .ensures) at (sym (c .before .before .before .before .before .before .before .before .before .before .before .before .before .before .before .before .is-nat .ensures) ∙ c .before .before .before .before .before .before .before .before .before .before .before .before .before .before .before .if1 .left) in
+    let h1 : isNat (numberAt (s .args .list .now) (s .args .i) 0) 1 ≡ false = rw (back (c .before .before .before .before .before .before .before .before .before .before .before .before .before .before .before .before .before .before .before .before .number .result) (c .before .before .before .before .before .before .before .before .before .before .before .before .before .before .before .before .before .before .before .before .number .ok), c .before .before .before .before .before .before .before .before .before .before .before .before .before .before .before .before .before .before .before .before .number .ensures) at (sym (c .before .before .before .before .before .before .before .before .before .before .before .before .before .before .is-nat2 .ensures) ∙ c .before .before .before .before .before .before .before .before .before .before .before .before .before .if2 .left) in
+    let n3 : toZ w64 (ofZ w64 (c .before .before .before .before .before .before .before .before .before .before .before .before .before .before .before .before .before .before .number3 .result)) ≡ (numberAt (s .args .list .now) (s .args .i) 2) = back (c .before .before .before .before .before .before .before .before .before .before .before .before .before .before .before .before .before .before .number3 .result) (c .before .before .before .before .before .before .before .before .before .before .before .before .before .before .before .before .before .before .number3 .ok) ∙ c .before .before .before .before .before .before .before .before .before .before .before .before .before .before .before .before .before .before .number3 .ensures in
+    let n4 : toZ w64 (ofZ w64 (c .before .before .before .before .before .before .before .before .before .before .before .before .before .before .before .before .before .number4 .result)) ≡ (numberAt (s .args .list .now) (s .args .i) 3) = back (c .before .before .before .before .before .before .before .before .before .before .before .before .before .before .before .before .before .number4 .result) (c .before .before .before .before .before .before .before .before .before .before .before .before .before .before .before .before .before .number4 .ok) ∙ c .before .before .before .before .before .before .before .before .before .before .before .before .before .before .before .before .before .number4 .ensures in
+    let i1 : c .before .before .before .before .before .before .before .before .before .before .ids-from .result .now ≡ idsFrom (s .args .ids .now) (numberAt (s .args .list .now) (s .args .i) 2) (numberAt (s .args .list .now) (s .args .i) 3) = c .before .before .before .before .before .before .before .before .before .before .ids-from .ensures ∙ (λ k. idsFrom (s .args .ids .now) (n3 k) (n4 k)) in
+    let n5 : toZ w64 (ofZ w64 (c .before .before .before .before .before .before .before .before .before .before .before .before .number5 .result)) ≡ (numberAt (s .args .list .now) (s .args .i) 4) = back (c .before .before .before .before .before .before .before .before .before .before .before .before .number5 .result) (c .before .before .before .before .before .before .before .before .before .before .before .before .number5 .ok) ∙ c .before .before .before .before .before .before .before .before .before .before .before .before .number5 .ensures in
+    let n6 : toZ w64 (ofZ w64 (c .before .before .before .before .before .before .before .before .before .before .before .number6 .result)) ≡ (numberAt (s .args .list .now) (s .args .i) 5) = back (c .before .before .before .before .before .before .before .before .before .before .before .number6 .result) (c .before .before .before .before .before .before .before .before .before .before .before .number6 .ok) ∙ c .before .before .before .before .before .before .before .before .before .before .before .number6 .ensures in
+    let i2 : c .before .before .before .before .before .before .before .before .before .ids-from2 .result .now ≡ idsFrom (s .args .ids .now) (numberAt (s .args .list .now) (s .args .i) 4) (numberAt (s .args .list .now) (s .args .i) 5) = c .before .before .before .before .before .before .before .before .before .ids-from2 .ensures ∙ (λ k. idsFrom (s .args .ids .now) (n5 k) (n6 k)) in
+    rw (call-average (s .args .list .now) (s .args .ids .now) (s .args .i) h0 h1) (rw (back (c .before .before .before .before .before .before .before .before .before .before .before .before .before .before .before .before .before .before .before .number2 .result) (c .before .before .before .before .before .before .before .before .before .before .before .before .before .before .before .before .before .before .before .number2 .ok), c .before .before .before .before .before .before .before .before .before .before .before .before .before .before .before .before .before .before .before .number2 .ensures, i1, i2) at (c .before .before .before .before .before .average-triplet .ensures))
 
 pub one-call-spec : {M : Type 1} → statement M
 one-call-spec =

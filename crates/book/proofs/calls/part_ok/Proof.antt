@@ -21,7 +21,8 @@ nonneg-requires-2 c κs = search needs
 returns : tie.Need-returns
 unfolding isPart
 returns c =
-    rw (c .before .nonneg .ensures, c .nonneg2 .ensures, c .before .before .before .magnitude .ensures, c .before .before .magnitude2 .ensures, toZ-ofZ w64 (c .before .before .before .before .args .start) (c .before .before .before .before .fits .start), toZ-ofZ w64 (c .before .before .before .before .args .end) (c .before .before .before .before .fits .end))
+    let s : _ = c .before .before .before .before in
+    rw (c .before .nonneg .ensures, c .nonneg2 .ensures, c .before .before .before .magnitude .ensures, c .before .before .magnitude2 .ensures, toZ-ofZ w64 (s .args .start) (s .fits .start), toZ-ofZ w64 (s .args .end) (s .fits .end))
 
 pub part-ok-spec : {M : Type 1} → statement M
 part-ok-spec =

@@ -36,11 +36,15 @@ call s = callAt (s .args .list .now) (s .args .ids .now)
 
 loop-holds : tie.Need-loop-holds Inv-loop μ-loop
 loop-holds c =
-    (omega arith, refl, refl, refl, refl, refl, after-none (asked (c .before .before .before .before .before .before .before)) (start (c .before .before .before .before .before .before .before)) (call (c .before .before .before .before .before .before .before)), front-none (numberAfter (asked (c .before .before .before .before .before .before .before)) (start (c .before .before .before .before .before .before .before)) (call (c .before .before .before .before .before .before .before))) (c .before .before .before .before .before .before .before .args .answers .now), front-none (tallyAfter (asked (c .before .before .before .before .before .before .before)) (start (c .before .before .before .before .before .before .before)) (call (c .before .before .before .before .before .before .before))) (c .before .before .before .before .before .before .before .args .tallies .now))
+    let s : _ = c .before .before .before .before .before .before .before in
+    (omega arith, refl, refl, refl, refl, refl, after-none (asked s) (start s) (call s), front-none (numberAfter (asked s) (start s) (call s)) (s .args .answers .now), front-none (tallyAfter (asked s) (start s) (call s)) (s .args .tallies .now))
 
 one-call-requires : tie.Need-one-call-requires Inv-loop μ-loop
 one-call-requires c κs =
-    let v = c .before .before .before .before .loop .inv in let at-i : c .before .before .before .before .loop .i < length (c .before .before .before .before .before .before .before .before .before .before .before .before .args .answers .now) = omega (arith, v .4, c .before .before .before .loop-test .taken) in omega (arith, at-i, c .before .before .before .before .before .before .before .before .before .before .before .before .pre .0)
+    let s : _ = c .before .before .before .before .before .before .before .before .before .before .before .before in
+    let v = c .before .before .before .before .loop .inv in
+    let at-i : c .before .before .before .before .loop .i < length (s .args .answers .now) = omega (arith, v .4, c .before .before .before .loop-test .taken) in
+    omega (arith, at-i, s .pre .0)
 
 tally-after-requires : tie.Need-tally-after-requires Inv-loop μ-loop
 tally-after-requires c κs =
@@ -52,27 +56,43 @@ number-of-requires c κs =
 
 mul-answers : tie.Need-mul-answers Inv-loop μ-loop
 mul-answers c =
-    let v = c .before .before .before .before .before .before .before .before .before .before .before .before .loop .inv in let at-i : c .before .before .before .before .before .before .before .before .before .before .before .before .loop .i < length (c .before .before .before .before .before .before .before .before .before .before .before .before .before .before .before .before .before .before .before .before .args .answers .now) = omega (arith, v .4, c .before .before .before .before .before .before .before .before .before .before .before .loop-test .taken) in omega (arith, at-i, c .before .before .before .before .before .before .before .before .before .before .before .before .before .before .before .before .before .before .before .before .good .1 .1 .1 .1 .1 .1 .1 .1 .1 .1 .1 .1 .1 .1 .0)
+    let s : _ = c .before .before .before .before .before .before .before .before .before .before .before .before .before .before .before .before .before .before .before .before in
+    let v = c .before .before .before .before .before .before .before .before .before .before .before .before .loop .inv in
+    let at-i : c .before .before .before .before .before .before .before .before .before .before .before .before .loop .i < length (s .args .answers .now) = omega (arith, v .4, c .before .before .before .before .before .before .before .before .before .before .before .loop-test .taken) in
+    omega (arith, at-i, s .good .1 .1 .1 .1 .1 .1 .1 .1 .1 .1 .1 .1 .1 .1 .0)
 
 slice-write-answers : tie.Need-slice-write-answers Inv-loop μ-loop
 slice-write-answers c =
-    let v = c .before .before .before .before .before .before .before .before .before .before .before .before .loop .inv in let at-i : c .before .before .before .before .before .before .before .before .before .before .before .before .loop .i < length (c .before .before .before .before .before .before .before .before .before .before .before .before .before .before .before .before .before .before .before .before .args .answers .now) = omega (arith, v .4, c .before .before .before .before .before .before .before .before .before .before .before .loop-test .taken) in omega (arith, at-i, v .4)
+    let v = c .before .before .before .before .before .before .before .before .before .before .before .before .loop .inv in
+    let at-i : c .before .before .before .before .before .before .before .before .before .before .before .before .loop .i < length (c .before .before .before .before .before .before .before .before .before .before .before .before .before .before .before .before .before .before .before .before .args .answers .now) = omega (arith, v .4, c .before .before .before .before .before .before .before .before .before .before .before .loop-test .taken) in
+    omega (arith, at-i, v .4)
 
 mul-tallies : tie.Need-mul-tallies Inv-loop μ-loop
 mul-tallies c =
-    let v = c .before .before .before .before .before .before .before .before .before .before .before .before .loop .inv in let at-i : c .before .before .before .before .before .before .before .before .before .before .before .before .loop .i < length (c .before .before .before .before .before .before .before .before .before .before .before .before .before .before .before .before .before .before .before .before .args .answers .now) = omega (arith, v .4, c .before .before .before .before .before .before .before .before .before .before .before .loop-test .taken) in omega (arith, at-i, c .before .before .before .before .before .before .before .before .before .before .before .before .before .before .before .before .before .before .before .before .good .1 .1 .1 .1 .1 .1 .1 .1 .1 .1 .1 .1 .1 .1 .0)
+    let s : _ = c .before .before .before .before .before .before .before .before .before .before .before .before .before .before .before .before .before .before .before .before in
+    let v = c .before .before .before .before .before .before .before .before .before .before .before .before .loop .inv in
+    let at-i : c .before .before .before .before .before .before .before .before .before .before .before .before .loop .i < length (s .args .answers .now) = omega (arith, v .4, c .before .before .before .before .before .before .before .before .before .before .before .loop-test .taken) in
+    omega (arith, at-i, s .good .1 .1 .1 .1 .1 .1 .1 .1 .1 .1 .1 .1 .1 .1 .0)
 
 slice-write-tallies : tie.Need-slice-write-tallies Inv-loop μ-loop
 slice-write-tallies c =
-    let v = c .before .before .before .before .before .before .before .before .before .before .before .before .loop .inv in let at-i : c .before .before .before .before .before .before .before .before .before .before .before .before .loop .i < length (c .before .before .before .before .before .before .before .before .before .before .before .before .before .before .before .before .before .before .before .before .args .answers .now) = omega (arith, v .4, c .before .before .before .before .before .before .before .before .before .before .before .loop-test .taken) in omega (arith, at-i, v .5, c .before .before .before .before .before .before .before .before .before .before .before .before .before .before .before .before .before .before .before .before .pre .1 .0)
+    let s : _ = c .before .before .before .before .before .before .before .before .before .before .before .before .before .before .before .before .before .before .before .before in
+    let v = c .before .before .before .before .before .before .before .before .before .before .before .before .loop .inv in
+    let at-i : c .before .before .before .before .before .before .before .before .before .before .before .before .loop .i < length (s .args .answers .now) = omega (arith, v .4, c .before .before .before .before .before .before .before .before .before .before .before .loop-test .taken) in
+    omega (arith, at-i, v .5, s .pre .1 .0)
 
 add-i : tie.Need-add-i Inv-loop μ-loop
 add-i c =
-    let v = c .before .before .before .before .before .before .before .before .before .before .before .before .loop .inv in let at-i : c .before .before .before .before .before .before .before .before .before .before .before .before .loop .i < length (c .before .before .before .before .before .before .before .before .before .before .before .before .before .before .before .before .before .before .before .before .args .answers .now) = omega (arith, v .4, c .before .before .before .before .before .before .before .before .before .before .before .loop-test .taken) in omega (arith, at-i, c .before .before .before .before .before .before .before .before .before .before .before .before .before .before .before .before .before .before .before .before .good .1 .1 .1 .1 .1 .1 .1 .1 .1 .1 .1 .1 .1 .1 .0)
+    let s : _ = c .before .before .before .before .before .before .before .before .before .before .before .before .before .before .before .before .before .before .before .before in
+    let v = c .before .before .before .before .before .before .before .before .before .before .before .before .loop .inv in
+    let at-i : c .before .before .before .before .before .before .before .before .before .before .before .before .loop .i < length (s .args .answers .now) = omega (arith, v .4, c .before .before .before .before .before .before .before .before .before .before .before .loop-test .taken) in
+    omega (arith, at-i, s .good .1 .1 .1 .1 .1 .1 .1 .1 .1 .1 .1 .1 .1 .1 .0)
 
 loop-less : tie.Need-loop-less Inv-loop μ-loop
 loop-less c =
-    let v = c .before .before .before .before .before .before .before .before .before .before .before .before .loop .inv in let at-i : c .before .before .before .before .before .before .before .before .before .before .before .before .loop .i < length (c .before .before .before .before .before .before .before .before .before .before .before .before .before .before .before .before .before .before .before .before .args .answers .now) = omega (arith, v .4, c .before .before .before .before .before .before .before .before .before .before .before .loop-test .taken) in omega (arith, at-i)
+    let v = c .before .before .before .before .before .before .before .before .before .before .before .before .loop .inv in
+    let at-i : c .before .before .before .before .before .before .before .before .before .before .before .before .loop .i < length (c .before .before .before .before .before .before .before .before .before .before .before .before .before .before .before .before .before .before .before .before .args .answers .now) = omega (arith, v .4, c .before .before .before .before .before .before .before .before .before .before .before .loop-test .taken) in
+    omega (arith, at-i)
 
 loop-again : tie.Need-loop-again Inv-loop μ-loop
 loop-again c =

@@ -1,6 +1,7 @@
 -- `sheet_marks::kernel::counts_ok` meets its contract. Assumes nothing.
 use borrow.Author.Needs.{needs}
 use Rattle.list_laws.proofs.SignedLaws.{back}
+use Rattle.questions.specs.Counts.{isBandCount}
 use Rattle.sheet_marks.specs.OpenCount.{areCounts}
 use Rattle.sheet_marks.proofs.kernel.counts_ok.Statement.{statement}
 use Rattle.sheet_marks.proofs.kernel.counts_ok.Tie as tie
@@ -18,7 +19,7 @@ is-between-requires-4 : tie.Need-is-between-requires-4
 is-between-requires-4 c κs = search needs
 
 returns : tie.Need-returns
-unfolding areCounts
+unfolding areCounts isBandCount
 returns c =
     cc (back (c .before .before .before .before .before .before .before .before .args .counts .«num_band1») (c .before .before .before .before .before .before .before .struct-told .given .1 .1 .0 .1), back (c .before .before .before .before .before .before .before .before .args .counts .«num_band2») (c .before .before .before .before .before .struct-told2 .given .1 .1 .1 .0 .1), back (c .before .before .before .before .before .before .before .before .args .counts .«num_band0») (c .before .before .before .struct-told3 .given .1 .0 .1), back (c .before .before .before .before .before .before .before .before .args .counts .«num_triplets») (c .before .struct-told4 .given .0 .1))
 

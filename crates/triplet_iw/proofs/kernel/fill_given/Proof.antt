@@ -23,7 +23,12 @@ given-no-requires c κs = search needs
 
 returns : tie.Need-returns
 returns c =
-    let s : _ = c .before .before .before .before .before .before in let g : Given = asked s in let w : ℕ = length (s .args .weights .now) in let f : ℕ = length (s .args .flags .now) in let e : _ = refused-before g w f (c .before .given-no .result) (c .before .given-no .ensures) (c .if1 .taken) in (refused-is _ _ e (c .if1 .taken), (kept _ _ _ _ e (c .if1 .taken), kept _ _ _ _ e (c .if1 .taken)))
+    let s : _ = c .before .before .before .before .before .before in
+    let g : Given = asked s in
+    let w : ℕ = length (s .args .weights .now) in
+    let f : ℕ = length (s .args .flags .now) in
+    let e : _ = refused-before g w f (c .before .given-no .result) (c .before .given-no .ensures) (c .if1 .taken) in
+    (refused-is _ _ e (c .if1 .taken), (kept _ _ _ _ e (c .if1 .taken), kept _ _ _ _ e (c .if1 .taken)))
 
 sizes-of-requires : tie.Need-sizes-of-requires
 sizes-of-requires c κs =
@@ -31,11 +36,20 @@ sizes-of-requires c κs =
 
 lengths-ok-requires : tie.Need-lengths-ok-requires
 lengths-ok-requires c κs =
-    let s : _ = c .before .before .before .before .before .before .before in let g : Given = asked s in let w : ℕ = length (s .args .weights .now) in let f : ℕ = length (s .args .flags .now) in counts-few g w f (c .before .before .given-no .result) (c .before .before .given-no .ensures) (c .before .if1 .left) (c .sizes-of .result) (c .sizes-of .ensures)
+    let s : _ = c .before .before .before .before .before .before .before in
+    let g : Given = asked s in
+    let w : ℕ = length (s .args .weights .now) in
+    let f : ℕ = length (s .args .flags .now) in
+    counts-few g w f (c .before .before .given-no .result) (c .before .before .given-no .ensures) (c .before .if1 .left) (c .sizes-of .result) (c .sizes-of .ensures)
 
 returns-2 : tie.Need-returns-2
 returns-2 c =
-    let s : _ = c .before .before .before .before .before .before .before .before .before in let g : Given = asked s in let w : ℕ = length (s .args .weights .now) in let f : ℕ = length (s .args .flags .now) in let e : _ = refused-length g w f (c .before .before .before .before .given-no .result) (c .before .before .before .before .given-no .ensures) (c .before .before .before .if1 .left) (c .before .before .sizes-of .result) (c .before .before .sizes-of .ensures) (no-of (c .before .lengths-ok .ensures) (c .if2 .taken)) in (refused-is _ _ e length-some, (kept _ _ _ _ e length-some, kept _ _ _ _ e length-some))
+    let s : _ = c .before .before .before .before .before .before .before .before .before in
+    let g : Given = asked s in
+    let w : ℕ = length (s .args .weights .now) in
+    let f : ℕ = length (s .args .flags .now) in
+    let e : _ = refused-length g w f (c .before .before .before .before .given-no .result) (c .before .before .before .before .given-no .ensures) (c .before .before .before .if1 .left) (c .before .before .sizes-of .result) (c .before .before .sizes-of .ensures) (no-of (c .before .lengths-ok .ensures) (c .if2 .taken)) in
+    (refused-is _ _ e length-some, (kept _ _ _ _ e length-some, kept _ _ _ _ e length-some))
 
 tp-type-of-requires : tie.Need-tp-type-of-requires
 tp-type-of-requires c κs = search needs
@@ -45,7 +59,13 @@ grid-of-requires c κs = search needs
 
 fill-triplets-requires : tie.Need-fill-triplets-requires
 fill-triplets-requires c κs =
-    let s : _ = c .before .before .before .before .before .before .before .before .before .before .before .before .before .before .before .before in let g : Given = asked s in let w : ℕ = length (s .args .weights .now) in let f : ℕ = length (s .args .flags .now) in let et : _ = rw (back (s .args .shape .«tp_type») (c .before .before .before .before .struct-told2 .given .1 .1 .0 .1)) at (c .before .before .before .tp-type-of .ensures) in let eg : _ = rw (back (s .args .shape .«bz_grid_type») (c .before .before .before .before .before .before .struct-told .given .0 .1)) at (c .before .before .grid-of .ensures) in study-ready g w f (c .before .before .before .before .before .before .before .before .before .before .before .given-no .result) (c .before .before .before .before .before .before .before .before .before .before .before .given-no .ensures) (c .before .before .before .before .before .before .before .before .before .before .if1 .left) (c .before .before .before .before .before .before .before .before .before .sizes-of .result) (c .before .before .before .before .before .before .before .before .before .sizes-of .ensures) (yes-of (c .before .before .before .before .before .before .before .before .lengths-ok .ensures) (c .before .before .before .before .before .before .before .if2 .left)) (c .before .before .before .tp-type-of .result) (c .before .before .grid-of .result) et eg
+    let s : _ = c .before .before .before .before .before .before .before .before .before .before .before .before .before .before .before .before in
+    let g : Given = asked s in
+    let w : ℕ = length (s .args .weights .now) in
+    let f : ℕ = length (s .args .flags .now) in
+    let et : _ = rw (back (s .args .shape .«tp_type») (c .before .before .before .before .struct-told2 .given .1 .1 .0 .1)) at (c .before .before .before .tp-type-of .ensures) in
+    let eg : _ = rw (back (s .args .shape .«bz_grid_type») (c .before .before .before .before .before .before .struct-told .given .0 .1)) at (c .before .before .grid-of .ensures) in
+    study-ready g w f (c .before .before .before .before .before .before .before .before .before .before .before .given-no .result) (c .before .before .before .before .before .before .before .before .before .before .before .given-no .ensures) (c .before .before .before .before .before .before .before .before .before .before .if1 .left) (c .before .before .before .before .before .before .before .before .before .sizes-of .result) (c .before .before .before .before .before .before .before .before .before .sizes-of .ensures) (yes-of (c .before .before .before .before .before .before .before .before .lengths-ok .ensures) (c .before .before .before .before .before .before .before .if2 .left)) (c .before .before .before .tp-type-of .result) (c .before .before .grid-of .result) et eg
 
 same-length : tie.Need-same-length
 same-length c = search needs
@@ -55,7 +75,15 @@ same-length-2 c = search needs
 
 returns-3 : tie.Need-returns-3
 returns-3 c =
-    let s : _ = c .before .before .before .before .before .before .before .before .before .before .before .before .before .before .before .before .before .before .before .before in let g : Given = asked s in let w : ℕ = length (s .args .weights .now) in let f : ℕ = length (s .args .flags .now) in let et : _ = rw (back (s .args .shape .«tp_type») (c .before .before .before .before .before .before .before .before .struct-told2 .given .1 .1 .0 .1)) at (c .before .before .before .before .before .before .before .tp-type-of .ensures) in let eg : _ = rw (back (s .args .shape .«bz_grid_type») (c .before .before .before .before .before .before .before .before .before .before .struct-told .given .0 .1)) at (c .before .before .before .before .before .before .grid-of .ensures) in let e : _ = all-yes-12 g w f (c .before .before .before .before .before .before .before .before .before .before .before .before .before .before .before .given-no .result) (c .before .before .before .before .before .before .before .before .before .before .before .before .before .before .before .given-no .ensures) (c .before .before .before .before .before .before .before .before .before .before .before .before .before .before .if1 .left) (c .before .before .before .before .before .before .before .before .before .before .before .before .before .sizes-of .result) (c .before .before .before .before .before .before .before .before .before .before .before .before .before .sizes-of .ensures) (yes-of (c .before .before .before .before .before .before .before .before .before .before .before .before .lengths-ok .ensures) (c .before .before .before .before .before .before .before .before .before .before .before .if2 .left)) (c .before .before .before .before .before .before .before .tp-type-of .result) (c .before .before .before .before .before .before .grid-of .result) et eg in let q : _ = study-made g w f (c .before .before .before .before .before .before .before .before .before .before .before .before .before .before .before .given-no .result) (c .before .before .before .before .before .before .before .before .before .before .before .before .before .before .before .given-no .ensures) (c .before .before .before .before .before .before .before .before .before .before .before .before .before .before .if1 .left) (c .before .before .before .before .before .before .before .before .before .before .before .before .before .sizes-of .result) (c .before .before .before .before .before .before .before .before .before .before .before .before .before .sizes-of .ensures) (yes-of (c .before .before .before .before .before .before .before .before .before .before .before .before .lengths-ok .ensures) (c .before .before .before .before .before .before .before .before .before .before .before .if2 .left)) (c .before .before .before .before .before .before .before .tp-type-of .result) (c .before .before .before .before .before .before .grid-of .result) et eg in (filled-is _ e, (c .before .before .before .fill-triplets .ensures .0 ∙ ap allWeights q ∙ after-done _ _ _ e, c .before .before .before .fill-triplets .ensures .1 ∙ ap allFlags q ∙ after-done _ _ _ e))
+    let s : _ = c .before .before .before .before .before .before .before .before .before .before .before .before .before .before .before .before .before .before .before .before in
+    let g : Given = asked s in
+    let w : ℕ = length (s .args .weights .now) in
+    let f : ℕ = length (s .args .flags .now) in
+    let et : _ = rw (back (s .args .shape .«tp_type») (c .before .before .before .before .before .before .before .before .struct-told2 .given .1 .1 .0 .1)) at (c .before .before .before .before .before .before .before .tp-type-of .ensures) in
+    let eg : _ = rw (back (s .args .shape .«bz_grid_type») (c .before .before .before .before .before .before .before .before .before .before .struct-told .given .0 .1)) at (c .before .before .before .before .before .before .grid-of .ensures) in
+    let e : _ = all-yes-12 g w f (c .before .before .before .before .before .before .before .before .before .before .before .before .before .before .before .given-no .result) (c .before .before .before .before .before .before .before .before .before .before .before .before .before .before .before .given-no .ensures) (c .before .before .before .before .before .before .before .before .before .before .before .before .before .before .if1 .left) (c .before .before .before .before .before .before .before .before .before .before .before .before .before .sizes-of .result) (c .before .before .before .before .before .before .before .before .before .before .before .before .before .sizes-of .ensures) (yes-of (c .before .before .before .before .before .before .before .before .before .before .before .before .lengths-ok .ensures) (c .before .before .before .before .before .before .before .before .before .before .before .if2 .left)) (c .before .before .before .before .before .before .before .tp-type-of .result) (c .before .before .before .before .before .before .grid-of .result) et eg in
+    let q : _ = study-made g w f (c .before .before .before .before .before .before .before .before .before .before .before .before .before .before .before .given-no .result) (c .before .before .before .before .before .before .before .before .before .before .before .before .before .before .before .given-no .ensures) (c .before .before .before .before .before .before .before .before .before .before .before .before .before .before .if1 .left) (c .before .before .before .before .before .before .before .before .before .before .before .before .before .sizes-of .result) (c .before .before .before .before .before .before .before .before .before .before .before .before .before .sizes-of .ensures) (yes-of (c .before .before .before .before .before .before .before .before .before .before .before .before .lengths-ok .ensures) (c .before .before .before .before .before .before .before .before .before .before .before .if2 .left)) (c .before .before .before .before .before .before .before .tp-type-of .result) (c .before .before .before .before .before .before .grid-of .result) et eg in
+    (filled-is _ e, (c .before .before .before .fill-triplets .ensures .0 ∙ ap allWeights q ∙ after-done _ _ _ e, c .before .before .before .fill-triplets .ensures .1 ∙ ap allFlags q ∙ after-done _ _ _ e))
 
 pub fill-given-spec : {M : Type 1} → statement M
 fill-given-spec =

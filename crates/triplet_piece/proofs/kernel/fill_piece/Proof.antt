@@ -17,11 +17,17 @@ mul-n c = search needs
 
 mul-pair : tie.Need-mul-pair
 mul-pair c =
-    let s : _ = c .before .before .before .before in let hk : s .args .b1 * s .args .z .bands2 + s .args .b2 < s .args .z .pairs = rw (s .pre .0 .1 .0 .pairs) (digit-lt (s .args .b1) (s .args .z .bands1) (s .args .b2) (s .args .z .bands2) (s .pre .0 .1 .1 .1 .0) (s .pre .0 .1 .1 .1 .1)) in let ci : _ = cell-in (s .args .z) (s .pre .0 .1 .0) (s .args .t) (s .args .b1 * s .args .z .bands2 + s .args .b2) 0 (s .pre .0 .1 .1 .0) hk (s .pre .0 .1 .0 .some) in omega (arith, s .pre .0 .1 .0 .flagged, s .good)
+    let s : _ = c .before .before .before .before in
+    let hk : s .args .b1 * s .args .z .bands2 + s .args .b2 < s .args .z .pairs = rw (s .pre .0 .1 .0 .pairs) (digit-lt (s .args .b1) (s .args .z .bands1) (s .args .b2) (s .args .z .bands2) (s .pre .0 .1 .1 .1 .0) (s .pre .0 .1 .1 .1 .1)) in
+    let ci : _ = cell-in (s .args .z) (s .pre .0 .1 .0) (s .args .t) (s .args .b1 * s .args .z .bands2 + s .args .b2) 0 (s .pre .0 .1 .1 .0) hk (s .pre .0 .1 .0 .some) in
+    omega (arith, s .pre .0 .1 .0 .flagged, s .good)
 
 add-pair : tie.Need-add-pair
 add-pair c =
-    let s : _ = c .before .before .before .before in let hk : s .args .b1 * s .args .z .bands2 + s .args .b2 < s .args .z .pairs = rw (s .pre .0 .1 .0 .pairs) (digit-lt (s .args .b1) (s .args .z .bands1) (s .args .b2) (s .args .z .bands2) (s .pre .0 .1 .1 .1 .0) (s .pre .0 .1 .1 .1 .1)) in let ci : _ = cell-in (s .args .z) (s .pre .0 .1 .0) (s .args .t) (s .args .b1 * s .args .z .bands2 + s .args .b2) 0 (s .pre .0 .1 .1 .0) hk (s .pre .0 .1 .0 .some) in omega (arith, s .pre .0 .1 .0 .flagged, s .good)
+    let s : _ = c .before .before .before .before in
+    let hk : s .args .b1 * s .args .z .bands2 + s .args .b2 < s .args .z .pairs = rw (s .pre .0 .1 .0 .pairs) (digit-lt (s .args .b1) (s .args .z .bands1) (s .args .b2) (s .args .z .bands2) (s .pre .0 .1 .1 .1 .0) (s .pre .0 .1 .1 .1 .1)) in
+    let ci : _ = cell-in (s .args .z) (s .pre .0 .1 .0) (s .args .t) (s .args .b1 * s .args .z .bands2 + s .args .b2) 0 (s .pre .0 .1 .1 .0) hk (s .pre .0 .1 .0 .some) in
+    omega (arith, s .pre .0 .1 .0 .flagged, s .good)
 
 fill-frequencies-requires : tie.Need-fill-frequencies-requires
 fill-frequencies-requires c κs =
@@ -37,39 +43,63 @@ fill-channel-requires c κs =
 
 fill-channel-requires-2 : tie.Need-fill-channel-requires-2
 fill-channel-requires-2 c κs =
-    let s : _ = c .before .before .before .before .before .before .before .before .before .before .before .before .before .before .before in let le : s .args .rows ≤ 96 = s .pre .0 .0 .1 in (omega arith, s .pre .1 .1 .channel1)
+    let s : _ = c .before .before .before .before .before .before .before .before .before .before .before .before .before .before .before in
+    let le : s .args .rows ≤ 96 = s .pre .0 .0 .1 in
+    (omega arith, s .pre .1 .1 .channel1)
 
 fill-channel-requires-3 : tie.Need-fill-channel-requires-3
 fill-channel-requires-3 c κs =
-    let s : _ = c .before .before .before .before .before .before .before .before .before .before .before .before .before .before .before .before .before .before .before in let le : s .args .rows ≤ 96 = s .pre .0 .0 .1 in (omega arith, s .pre .1 .1 .channel2)
+    let s : _ = c .before .before .before .before .before .before .before .before .before .before .before .before .before .before .before .before .before .before .before in
+    let le : s .args .rows ≤ 96 = s .pre .0 .0 .1 in
+    (omega arith, s .pre .1 .1 .channel2)
 
 box-of-requires : tie.Need-box-of-requires
 box-of-requires c κs =
-    let s : _ = c .before .before .before .before .before .before .before .before .before .before .before .before .before .before .before .before .before .before .before .before .before in let le : s .args .rows ≤ 96 = s .pre .0 .0 .1 in omega arith
+    let s : _ = c .before .before .before .before .before .before .before .before .before .before .before .before .before .before .before .before .before .before .before .before .before in
+    let le : s .args .rows ≤ 96 = s .pre .0 .0 .1 in
+    omega arith
 
 box-of-requires-2 : tie.Need-box-of-requires-2
 box-of-requires-2 c κs =
-    let s : _ = c .before .before .before .before .before .before .before .before .before .before .before .before .before .before .before .before .before .before .before .before .before .before .before in let le : s .args .rows ≤ 96 = s .pre .0 .0 .1 in omega arith
+    let s : _ = c .before .before .before .before .before .before .before .before .before .before .before .before .before .before .before .before .before .before .before .before .before .before .before in
+    let le : s .args .rows ≤ 96 = s .pre .0 .0 .1 in
+    omega arith
 
 box-of-requires-3 : tie.Need-box-of-requires-3
 box-of-requires-3 c κs =
-    let s : _ = c .before .before .before .before .before .before .before .before .before .before .before .before .before .before .before .before .before .before .before .before .before .before .before .before .before in let le : s .args .rows ≤ 96 = s .pre .0 .0 .1 in omega arith
+    let s : _ = c .before .before .before .before .before .before .before .before .before .before .before .before .before .before .before .before .before .before .before .before .before .before .before .before .before in
+    let le : s .args .rows ≤ 96 = s .pre .0 .0 .1 in
+    omega arith
 
 sort-rows-requires : tie.Need-sort-rows-requires
 sort-rows-requires c κs =
-    let s : _ = c .before .before .before .before .before .before .before .before .before .before .before .before .before .before .before .before .before .before .before .before .before .before .before .before .before .before .before .before in (s .pre .0 .0 .1, c .before .before .before .before .before .before .before .before .before .before .before .before .before .before .before .before .fill-channel .ensures .size, s .pre .1 .1 .places0)
+    let s : _ = c .before .before .before .before .before .before .before .before .before .before .before .before .before .before .before .before .before .before .before .before .before .before .before .before .before .before .before .before in (
+      s .pre .0 .0 .1,
+      c .before .before .before .before .before .before .before .before .before .before .before .before .before .before .before .before .fill-channel .ensures .size,
+      s .pre .1 .1 .places0,
+    )
 
 sort-rows-requires-2 : tie.Need-sort-rows-requires-2
 sort-rows-requires-2 c κs =
-    let s : _ = c .before .before .before .before .before .before .before .before .before .before .before .before .before .before .before .before .before .before .before .before .before .before .before .before .before .before .before .before .before .before .before in (s .pre .0 .0 .1, c .before .before .before .before .before .before .before .before .before .before .before .before .before .before .before .fill-channel2 .ensures .size, s .pre .1 .1 .places1)
+    let s : _ = c .before .before .before .before .before .before .before .before .before .before .before .before .before .before .before .before .before .before .before .before .before .before .before .before .before .before .before .before .before .before .before in (
+      s .pre .0 .0 .1,
+      c .before .before .before .before .before .before .before .before .before .before .before .before .before .before .before .fill-channel2 .ensures .size,
+      s .pre .1 .1 .places1,
+    )
 
 sort-rows-requires-3 : tie.Need-sort-rows-requires-3
 sort-rows-requires-3 c κs =
-    let s : _ = c .before .before .before .before .before .before .before .before .before .before .before .before .before .before .before .before .before .before .before .before .before .before .before .before .before .before .before .before .before .before .before .before .before .before in (s .pre .0 .0 .1, c .before .before .before .before .before .before .before .before .before .before .before .before .before .before .fill-channel3 .ensures .size, s .pre .1 .1 .places2)
+    let s : _ = c .before .before .before .before .before .before .before .before .before .before .before .before .before .before .before .before .before .before .before .before .before .before .before .before .before .before .before .before .before .before .before .before .before .before in (
+      s .pre .0 .0 .1,
+      c .before .before .before .before .before .before .before .before .before .before .before .before .before .before .fill-channel3 .ensures .size,
+      s .pre .1 .1 .places2,
+    )
 
 fill-points-requires : tie.Need-fill-points-requires
 fill-points-requires c κs =
-    let s : _ = c .before .before .before .before .before .before .before .before .before .before .before .before .before .before .before .before .before .before .before .before .before .before .before .before .before .before .before .before .before .before .before .before .before .before .before .before .before .before .before .before .before .before .before in let hk : s .args .b1 * s .args .z .bands2 + s .args .b2 < s .args .z .pairs = rw (s .pre .0 .1 .0 .pairs) (digit-lt (s .args .b1) (s .args .z .bands1) (s .args .b2) (s .args .z .bands2) (s .pre .0 .1 .1 .1 .0) (s .pre .0 .1 .1 .1 .1)) in (s .pre .0 .0 .1, (s .pre .0 .1 .0, (s .pre .0 .1 .1 .0, hk)))
+    let s : _ = c .before .before .before .before .before .before .before .before .before .before .before .before .before .before .before .before .before .before .before .before .before .before .before .before .before .before .before .before .before .before .before .before .before .before .before .before .before .before .before .before .before .before .before in
+    let hk : s .args .b1 * s .args .z .bands2 + s .args .b2 < s .args .z .pairs = rw (s .pre .0 .1 .0 .pairs) (digit-lt (s .args .b1) (s .args .z .bands1) (s .args .b2) (s .args .z .bands2) (s .pre .0 .1 .1 .1 .0) (s .pre .0 .1 .1 .1 .1)) in
+    (s .pre .0 .0 .1, (s .pre .0 .1 .0, (s .pre .0 .1 .1 .0, hk)))
 
 same-length : tie.Need-same-length
 same-length c = search needs
@@ -80,7 +110,25 @@ same-length-2 c = search needs
 returns : tie.Need-returns
 unfolding outputsOfCorners
 returns c =
-    let s : _ = c .before .before .before .before .before .before .before .before .before .before .before .before .before .before .before .before .before .before .before .before .before .before .before .before .before .before .before .before .before .before .before .before .before .before .before .before .before .before .before .before .before .before .before .before .before .before .before in (record { size1 = c .before .before .before .before .before .before .before .before .before .before .before .before .before .before .before .before .before .before .before .before .before .before .before .before .before .before .before .before .before .before .before .before .before .before .before .before .before .before .before .before .before .fill-frequencies .ensures .size; size2 = c .before .before .before .before .before .before .before .before .before .before .before .before .before .before .before .before .before .before .before .before .before .before .before .before .before .before .before .before .before .before .before .before .before .before .before .before .before .before .before .fill-frequencies2 .ensures .size; channel0 = c .before .before .before .before .before .before .before .before .before .before .before .before .before .before .before .before .before .before .sort-rows .ensures .size; places0 = c .before .before .before .before .before .before .before .before .before .before .before .before .before .before .before .before .before .before .sort-rows .ensures .count; channel1 = c .before .before .before .before .before .before .before .before .before .before .before .before .before .before .before .sort-rows2 .ensures .size; places1 = c .before .before .before .before .before .before .before .before .before .before .before .before .before .before .before .sort-rows2 .ensures .count; channel2 = c .before .before .before .before .before .before .before .before .before .before .before .before .sort-rows3 .ensures .size; places2 = c .before .before .before .before .before .before .before .before .before .before .before .before .sort-rows3 .ensures .count }, (c .before .before .before .fill-points .ensures .0 ∙ weights-same (s .args .z) _ _ _ (λ x. outputs-is (s .args .tp) (getD (s .args .points .now) x nan) (s .args .rows) (s .pre .0 .0 .0) (prepare 0 (s .args .rows) (c .before .before .before .before .before .before .before .before .before .before .before .before .before .before .before .before .before .before .before .before .before .before .before .before .before .before .before .before .before .before .before .before .before .before .before .before .before .before .before .before .before .fill-frequencies .ensures) (c .before .before .before .before .before .before .before .before .before .before .before .before .before .before .before .before .before .before .before .before .before .before .before .before .before .before .before .before .before .before .before .before .before .before .before .before .before .before .before .fill-frequencies2 .ensures) (c .before .before .before .before .before .before .before .before .before .before .before .before .before .before .before .before .before .before .before .before .before .before .before .before .before .before .before .before .before .before .before .before .before .before .before .fill-channel .ensures) (c .before .before .before .before .before .before .before .before .before .before .before .before .before .before .before .before .before .before .sort-rows .ensures .sorted) (c .before .before .before .before .before .before .before .before .before .before .before .before .before .before .before .before .before .before .before .before .before .before .before .before .before .box-of .ensures)) (prepare 1 (s .args .rows) (c .before .before .before .before .before .before .before .before .before .before .before .before .before .before .before .before .before .before .before .before .before .before .before .before .before .before .before .before .before .before .before .before .before .before .before .before .before .before .before .before .before .fill-frequencies .ensures) (c .before .before .before .before .before .before .before .before .before .before .before .before .before .before .before .before .before .before .before .before .before .before .before .before .before .before .before .before .before .before .before .before .before .before .before .before .before .before .before .fill-frequencies2 .ensures) (c .before .before .before .before .before .before .before .before .before .before .before .before .before .before .before .before .before .before .before .before .before .before .before .before .before .before .before .before .before .before .before .fill-channel2 .ensures) (c .before .before .before .before .before .before .before .before .before .before .before .before .before .before .before .sort-rows2 .ensures .sorted) (c .before .before .before .before .before .before .before .before .before .before .before .before .before .before .before .before .before .before .before .before .before .before .before .box-of2 .ensures)) (prepare 2 (s .args .rows) (c .before .before .before .before .before .before .before .before .before .before .before .before .before .before .before .before .before .before .before .before .before .before .before .before .before .before .before .before .before .before .before .before .before .before .before .before .before .before .before .before .before .fill-frequencies .ensures) (c .before .before .before .before .before .before .before .before .before .before .before .before .before .before .before .before .before .before .before .before .before .before .before .before .before .before .before .before .before .before .before .before .before .before .before .before .before .before .before .fill-frequencies2 .ensures) (c .before .before .before .before .before .before .before .before .before .before .before .before .before .before .before .before .before .before .before .before .before .before .before .before .before .before .before .fill-channel3 .ensures) (c .before .before .before .before .before .before .before .before .before .before .before .before .sort-rows3 .ensures .sorted) (c .before .before .before .before .before .before .before .before .before .before .before .before .before .before .before .before .before .before .before .before .before .box-of3 .ensures))) (s .args .weights .now), c .before .before .before .fill-points .ensures .1 ∙ flags-same (s .args .z) _ _ _ (λ x. outputs-is (s .args .tp) (getD (s .args .points .now) x nan) (s .args .rows) (s .pre .0 .0 .0) (prepare 0 (s .args .rows) (c .before .before .before .before .before .before .before .before .before .before .before .before .before .before .before .before .before .before .before .before .before .before .before .before .before .before .before .before .before .before .before .before .before .before .before .before .before .before .before .before .before .fill-frequencies .ensures) (c .before .before .before .before .before .before .before .before .before .before .before .before .before .before .before .before .before .before .before .before .before .before .before .before .before .before .before .before .before .before .before .before .before .before .before .before .before .before .before .fill-frequencies2 .ensures) (c .before .before .before .before .before .before .before .before .before .before .before .before .before .before .before .before .before .before .before .before .before .before .before .before .before .before .before .before .before .before .before .before .before .before .before .fill-channel .ensures) (c .before .before .before .before .before .before .before .before .before .before .before .before .before .before .before .before .before .before .sort-rows .ensures .sorted) (c .before .before .before .before .before .before .before .before .before .before .before .before .before .before .before .before .before .before .before .before .before .before .before .before .before .box-of .ensures)) (prepare 1 (s .args .rows) (c .before .before .before .before .before .before .before .before .before .before .before .before .before .before .before .before .before .before .before .before .before .before .before .before .before .before .before .before .before .before .before .before .before .before .before .before .before .before .before .before .before .fill-frequencies .ensures) (c .before .before .before .before .before .before .before .before .before .before .before .before .before .before .before .before .before .before .before .before .before .before .before .before .before .before .before .before .before .before .before .before .before .before .before .before .before .before .before .fill-frequencies2 .ensures) (c .before .before .before .before .before .before .before .before .before .before .before .before .before .before .before .before .before .before .before .before .before .before .before .before .before .before .before .before .before .before .before .fill-channel2 .ensures) (c .before .before .before .before .before .before .before .before .before .before .before .before .before .before .before .sort-rows2 .ensures .sorted) (c .before .before .before .before .before .before .before .before .before .before .before .before .before .before .before .before .before .before .before .before .before .before .before .box-of2 .ensures)) (prepare 2 (s .args .rows) (c .before .before .before .before .before .before .before .before .before .before .before .before .before .before .before .before .before .before .before .before .before .before .before .before .before .before .before .before .before .before .before .before .before .before .before .before .before .before .before .before .before .fill-frequencies .ensures) (c .before .before .before .before .before .before .before .before .before .before .before .before .before .before .before .before .before .before .before .before .before .before .before .before .before .before .before .before .before .before .before .before .before .before .before .before .before .before .before .fill-frequencies2 .ensures) (c .before .before .before .before .before .before .before .before .before .before .before .before .before .before .before .before .before .before .before .before .before .before .before .before .before .before .before .fill-channel3 .ensures) (c .before .before .before .before .before .before .before .before .before .before .before .before .sort-rows3 .ensures .sorted) (c .before .before .before .before .before .before .before .before .before .before .before .before .before .before .before .before .before .before .before .before .before .box-of3 .ensures))) (s .args .flags .now)))
+    let s : _ = c .before .before .before .before .before .before .before .before .before .before .before .before .before .before .before .before .before .before .before .before .before .before .before .before .before .before .before .before .before .before .before .before .before .before .before .before .before .before .before .before .before .before .before .before .before .before .before in
+    let p0 : _ = prepare 0 (s .args .rows) (c .before .before .before .before .before .before .before .before .before .before .before .before .before .before .before .before .before .before .before .before .before .before .before .before .before .before .before .before .before .before .before .before .before .before .before .before .before .before .before .before .before .fill-frequencies .ensures) (c .before .before .before .before .before .before .before .before .before .before .before .before .before .before .before .before .before .before .before .before .before .before .before .before .before .before .before .before .before .before .before .before .before .before .before .before .before .before .before .fill-frequencies2 .ensures) (c .before .before .before .before .before .before .before .before .before .before .before .before .before .before .before .before .before .before .before .before .before .before .before .before .before .before .before .before .before .before .before .before .before .before .before .fill-channel .ensures) (c .before .before .before .before .before .before .before .before .before .before .before .before .before .before .before .before .before .before .sort-rows .ensures .sorted) (c .before .before .before .before .before .before .before .before .before .before .before .before .before .before .before .before .before .before .before .before .before .before .before .before .before .box-of .ensures) in
+    let p1 : _ = prepare 1 (s .args .rows) (c .before .before .before .before .before .before .before .before .before .before .before .before .before .before .before .before .before .before .before .before .before .before .before .before .before .before .before .before .before .before .before .before .before .before .before .before .before .before .before .before .before .fill-frequencies .ensures) (c .before .before .before .before .before .before .before .before .before .before .before .before .before .before .before .before .before .before .before .before .before .before .before .before .before .before .before .before .before .before .before .before .before .before .before .before .before .before .before .fill-frequencies2 .ensures) (c .before .before .before .before .before .before .before .before .before .before .before .before .before .before .before .before .before .before .before .before .before .before .before .before .before .before .before .before .before .before .before .fill-channel2 .ensures) (c .before .before .before .before .before .before .before .before .before .before .before .before .before .before .before .sort-rows2 .ensures .sorted) (c .before .before .before .before .before .before .before .before .before .before .before .before .before .before .before .before .before .before .before .before .before .before .before .box-of2 .ensures) in
+    let p2 : _ = prepare 2 (s .args .rows) (c .before .before .before .before .before .before .before .before .before .before .before .before .before .before .before .before .before .before .before .before .before .before .before .before .before .before .before .before .before .before .before .before .before .before .before .before .before .before .before .before .before .fill-frequencies .ensures) (c .before .before .before .before .before .before .before .before .before .before .before .before .before .before .before .before .before .before .before .before .before .before .before .before .before .before .before .before .before .before .before .before .before .before .before .before .before .before .before .fill-frequencies2 .ensures) (c .before .before .before .before .before .before .before .before .before .before .before .before .before .before .before .before .before .before .before .before .before .before .before .before .before .before .before .fill-channel3 .ensures) (c .before .before .before .before .before .before .before .before .before .before .before .before .sort-rows3 .ensures .sorted) (c .before .before .before .before .before .before .before .before .before .before .before .before .before .before .before .before .before .before .before .before .before .box-of3 .ensures) in (
+      record {
+        size1 = c .before .before .before .before .before .before .before .before .before .before .before .before .before .before .before .before .before .before .before .before .before .before .before .before .before .before .before .before .before .before .before .before .before .before .before .before .before .before .before .before .before .fill-frequencies .ensures .size;
+        size2 = c .before .before .before .before .before .before .before .before .before .before .before .before .before .before .before .before .before .before .before .before .before .before .before .before .before .before .before .before .before .before .before .before .before .before .before .before .before .before .before .fill-frequencies2 .ensures .size;
+        channel0 = c .before .before .before .before .before .before .before .before .before .before .before .before .before .before .before .before .before .before .sort-rows .ensures .size;
+        places0 = c .before .before .before .before .before .before .before .before .before .before .before .before .before .before .before .before .before .before .sort-rows .ensures .count;
+        channel1 = c .before .before .before .before .before .before .before .before .before .before .before .before .before .before .before .sort-rows2 .ensures .size;
+        places1 = c .before .before .before .before .before .before .before .before .before .before .before .before .before .before .before .sort-rows2 .ensures .count;
+        channel2 = c .before .before .before .before .before .before .before .before .before .before .before .before .sort-rows3 .ensures .size;
+        places2 = c .before .before .before .before .before .before .before .before .before .before .before .before .sort-rows3 .ensures .count;
+      },
+      (
+        c .before .before .before .fill-points .ensures .0 ∙ weights-same (s .args .z) _ _ _ (λ x. outputs-is (s .args .tp) (getD (s .args .points .now) x nan) (s .args .rows) (s .pre .0 .0 .0) p0 p1 p2) (s .args .weights .now),
+        c .before .before .before .fill-points .ensures .1 ∙ flags-same (s .args .z) _ _ _ (λ x. outputs-is (s .args .tp) (getD (s .args .points .now) x nan) (s .args .rows) (s .pre .0 .0 .0) p0 p1 p2) (s .args .flags .now),
+      ),
+    )
 
 pub fill-piece-spec : {M : Type 1} → statement M
 fill-piece-spec =

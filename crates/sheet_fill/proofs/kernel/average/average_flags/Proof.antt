@@ -23,27 +23,40 @@ add-end c =
 
 sub-average-points : tie.Need-sub-average-points
 sub-average-points c =
-    let p : _ = triplet-place (c .before .args .z) (c .before .pre .0 .0) (c .before .args .t) (c .before .pre .0 .1 .0) in omega (arith, p, few (c .before .args .z) (c .before .pre .0 .0), c .before .pre .1 .0)
+    let p : _ = triplet-place (c .before .args .z) (c .before .pre .0 .0) (c .before .args .t) (c .before .pre .0 .1 .0) in
+    omega (arith, p, few (c .before .args .z) (c .before .pre .0 .0), c .before .pre .1 .0)
 
 part-average-points-start : tie.Need-part-average-points-start
 part-average-points-start c =
-    let p : _ = triplet-place (c .before .args .z) (c .before .pre .0 .0) (c .before .args .t) (c .before .pre .0 .1 .0) in omega (arith, p, few (c .before .args .z) (c .before .pre .0 .0), c .before .pre .1 .0)
+    let p : _ = triplet-place (c .before .args .z) (c .before .pre .0 .0) (c .before .args .t) (c .before .pre .0 .1 .0) in
+    omega (arith, p, few (c .before .args .z) (c .before .pre .0 .0), c .before .pre .1 .0)
 
 part-average-points-end : tie.Need-part-average-points-end
 part-average-points-end c =
-    let p : _ = triplet-place (c .before .args .z) (c .before .pre .0 .0) (c .before .args .t) (c .before .pre .0 .1 .0) in omega (arith, p, few (c .before .args .z) (c .before .pre .0 .0), c .before .pre .1 .0)
+    let p : _ = triplet-place (c .before .args .z) (c .before .pre .0 .0) (c .before .args .t) (c .before .pre .0 .1 .0) in
+    omega (arith, p, few (c .before .args .z) (c .before .pre .0 .0), c .before .pre .1 .0)
 
 average-points-requires : tie.Need-average-points-requires
 average-points-requires c κs =
-    let p : _ = triplet-place (c .before .before .args .z) (c .before .before .pre .0 .0) (c .before .before .args .t) (c .before .before .pre .0 .1 .0) in let sq : c .before .before .args .z .pairs ≡ c .before .before .args .z .bands1 * c .before .before .args .z .bands1 = (c .before .before .pre .0 .0) .pairs-are ∙ ap (λ (n : ℕ). c .before .before .args .z .bands1 * n) (sym (c .before .before .pre .0 .1 .1 .0)) in let f : (c .before .before .args .t * (c .before .before .args .z .points * c .before .before .args .z .pairs)) + (c .before .before .args .z .points * c .before .before .args .z .pairs) ≤ length (c .before .before .args .flags .now) = omega (arith, p, c .before .before .pre .1 .0) in ((part-length (c .before .before .args .flags .now) (c .before .before .args .t * (c .before .before .args .z .points * c .before .before .args .z .pairs)) (c .before .before .args .z .points * c .before .before .args .z .pairs) f ∙ ap (λ (n : ℕ). c .before .before .args .z .points * n) sq, c .before .before .pre .0 .1 .1 .1), (c .before .before .pre .1 .1 .0, c .before .before .pre .1 .1 .1))
+    let s : _ = c .before .before in
+    let p : _ = triplet-place (s .args .z) (s .pre .0 .0) (s .args .t) (s .pre .0 .1 .0) in
+    let sq : s .args .z .pairs ≡ s .args .z .bands1 * s .args .z .bands1 = (s .pre .0 .0) .pairs-are ∙ ap (λ (n : ℕ). s .args .z .bands1 * n) (sym (s .pre .0 .1 .1 .0)) in
+    let f : (s .args .t * (s .args .z .points * s .args .z .pairs)) + (s .args .z .points * s .args .z .pairs) ≤ length (s .args .flags .now) = omega (arith, p, s .pre .1 .0) in
+    ((part-length (s .args .flags .now) (s .args .t * (s .args .z .points * s .args .z .pairs)) (s .args .z .points * s .args .z .pairs) f ∙ ap (λ (n : ℕ). s .args .z .points * n) sq, s .pre .0 .1 .1 .1), (s .pre .1 .1 .0, s .pre .1 .1 .1))
 
 same-length : tie.Need-same-length
 same-length c =
-    let p : _ = triplet-place (c .before .before .before .before .args .z) (c .before .before .before .before .pre .0 .0) (c .before .before .before .before .args .t) (c .before .before .before .before .pre .0 .1 .0) in let f : (c .before .before .before .before .args .t * (c .before .before .before .before .args .z .points * c .before .before .before .before .args .z .pairs)) + (c .before .before .before .before .args .z .points * c .before .before .before .before .args .z .pairs) ≤ length (c .before .before .before .before .args .flags .now) = omega (arith, p, c .before .before .before .before .pre .1 .0) in ap length (flags-back (c .before .before .before .before .args .z) (c .before .before .before .before .pre .0 .0) (c .before .before .before .before .args .degenerate-ids1 .now) (c .before .before .before .before .args .degenerate-ids2 .now) (c .before .before .before .before .pre .0 .1 .1 .0) (c .before .before .before .before .args .t) (c .before .before .before .before .args .flags .now) _ (c .before .before .before .before .pre .0 .1 .0) f (c .before .average-points .ensures)) ∙ length-averaged (c .before .before .before .before .args .z) (c .before .before .before .before .pre .0 .0) (c .before .before .before .before .args .degenerate-ids1 .now) (c .before .before .before .before .args .degenerate-ids2 .now) (c .before .before .before .before .pre .0 .1 .1 .0) (c .before .before .before .before .args .t) (c .before .before .before .before .args .flags .now)
+    let s : _ = c .before .before .before .before in
+    let p : _ = triplet-place (s .args .z) (s .pre .0 .0) (s .args .t) (s .pre .0 .1 .0) in
+    let f : (s .args .t * (s .args .z .points * s .args .z .pairs)) + (s .args .z .points * s .args .z .pairs) ≤ length (s .args .flags .now) = omega (arith, p, s .pre .1 .0) in
+    ap length (flags-back (s .args .z) (s .pre .0 .0) (s .args .degenerate-ids1 .now) (s .args .degenerate-ids2 .now) (s .pre .0 .1 .1 .0) (s .args .t) (s .args .flags .now) _ (s .pre .0 .1 .0) f (c .before .average-points .ensures)) ∙ length-averaged (s .args .z) (s .pre .0 .0) (s .args .degenerate-ids1 .now) (s .args .degenerate-ids2 .now) (s .pre .0 .1 .1 .0) (s .args .t) (s .args .flags .now)
 
 returns : tie.Need-returns
 returns c =
-    let p : _ = triplet-place (c .before .before .before .before .args .z) (c .before .before .before .before .pre .0 .0) (c .before .before .before .before .args .t) (c .before .before .before .before .pre .0 .1 .0) in let f : (c .before .before .before .before .args .t * (c .before .before .before .before .args .z .points * c .before .before .before .before .args .z .pairs)) + (c .before .before .before .before .args .z .points * c .before .before .before .before .args .z .pairs) ≤ length (c .before .before .before .before .args .flags .now) = omega (arith, p, c .before .before .before .before .pre .1 .0) in flags-back (c .before .before .before .before .args .z) (c .before .before .before .before .pre .0 .0) (c .before .before .before .before .args .degenerate-ids1 .now) (c .before .before .before .before .args .degenerate-ids2 .now) (c .before .before .before .before .pre .0 .1 .1 .0) (c .before .before .before .before .args .t) (c .before .before .before .before .args .flags .now) _ (c .before .before .before .before .pre .0 .1 .0) f (c .before .average-points .ensures)
+    let s : _ = c .before .before .before .before in
+    let p : _ = triplet-place (s .args .z) (s .pre .0 .0) (s .args .t) (s .pre .0 .1 .0) in
+    let f : (s .args .t * (s .args .z .points * s .args .z .pairs)) + (s .args .z .points * s .args .z .pairs) ≤ length (s .args .flags .now) = omega (arith, p, s .pre .1 .0) in
+    flags-back (s .args .z) (s .pre .0 .0) (s .args .degenerate-ids1 .now) (s .args .degenerate-ids2 .now) (s .pre .0 .1 .1 .0) (s .args .t) (s .args .flags .now) _ (s .pre .0 .1 .0) f (c .before .average-points .ensures)
 
 pub average-flags-spec : {M : Type 1} → statement M
 average-flags-spec =

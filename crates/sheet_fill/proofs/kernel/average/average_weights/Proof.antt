@@ -25,7 +25,9 @@ loop-holds c =
 
 average-channel-requires : tie.Need-average-channel-requires Inv-loop μ-loop
 average-channel-requires c κs =
-    let lw : length (c .before .before .loop .weights) ≡ length (c .before .before .before .before .args .weights .now) = ap length (c .before .before .loop .inv .1) ∙ groups-length nan (c .before .before .before .before .args .z .points) (c .before .before .before .before .args .z .pairs) (averaged (c .before .before .before .before .args .z .bands1) (c .before .before .before .before .args .degenerate-ids1 .now) (c .before .before .before .before .args .degenerate-ids2 .now)) (c .before .before .before .before .args .z .triplets) (c .before .before .before .before .args .t) ((c .before .before .before .before .pre .0 .0) .pairs-some) (c .before .before .before .before .pre .0 .1 .0) (c .before .before .loop .c) (c .before .before .before .before .args .weights .now) in (((c .before .before .before .before .pre .0 .0), (((c .before .before .before .before .pre .0 .1 .0), omega (arith, c .before .loop-test .taken)), c .before .before .before .before .pre .0 .1 .1)), (lw ∙ c .before .before .before .before .pre .1 .0, c .before .before .before .before .pre .1 .1))
+    let s : _ = c .before .before .before .before in
+    let lw : length (c .before .before .loop .weights) ≡ length (s .args .weights .now) = ap length (c .before .before .loop .inv .1) ∙ groups-length nan (s .args .z .points) (s .args .z .pairs) (averaged (s .args .z .bands1) (s .args .degenerate-ids1 .now) (s .args .degenerate-ids2 .now)) (s .args .z .triplets) (s .args .t) ((s .pre .0 .0) .pairs-some) (s .pre .0 .1 .0) (c .before .before .loop .c) (s .args .weights .now) in
+    (((s .pre .0 .0), (((s .pre .0 .1 .0), omega (arith, c .before .loop-test .taken)), s .pre .0 .1 .1)), (lw ∙ s .pre .1 .0, s .pre .1 .1))
 
 add-c : tie.Need-add-c Inv-loop μ-loop
 add-c c =
@@ -37,15 +39,19 @@ loop-less c =
 
 loop-again : tie.Need-loop-again Inv-loop μ-loop
 loop-again c =
-    (search needs, c .before .before .average-channel .ensures ∙ channel-turn (c .before .before .before .before .before .before .before .args .z) (c .before .before .before .before .before .before .before .pre .0 .0) (c .before .before .before .before .before .before .before .args .degenerate-ids1 .now) (c .before .before .before .before .before .before .before .args .degenerate-ids2 .now) (c .before .before .before .before .before .before .before .pre .0 .1 .1 .0) (c .before .before .before .before .before .before .before .args .t) (c .before .before .before .before .before .loop .c) (c .before .before .before .before .before .before .before .args .weights .now) (c .before .before .before .before .before .loop .weights) (c .before .before .before .before .before .before .before .pre .0 .1 .0) (c .before .before .before .before .before .before .before .pre .1 .0) (c .before .before .before .before .before .loop .inv .1))
+    let s : _ = c .before .before .before .before .before .before .before in
+    (search needs, c .before .before .average-channel .ensures ∙ channel-turn (s .args .z) (s .pre .0 .0) (s .args .degenerate-ids1 .now) (s .args .degenerate-ids2 .now) (s .pre .0 .1 .1 .0) (s .args .t) (c .before .before .before .before .before .loop .c) (s .args .weights .now) (c .before .before .before .before .before .loop .weights) (s .pre .0 .1 .0) (s .pre .1 .0) (c .before .before .before .before .before .loop .inv .1))
 
 same-length : tie.Need-same-length Inv-loop μ-loop
 same-length c =
-    let lw : length (c .before .loop .weights) ≡ length (c .before .before .before .args .weights .now) = ap length (c .before .loop .inv .1) ∙ groups-length nan (c .before .before .before .args .z .points) (c .before .before .before .args .z .pairs) (averaged (c .before .before .before .args .z .bands1) (c .before .before .before .args .degenerate-ids1 .now) (c .before .before .before .args .degenerate-ids2 .now)) (c .before .before .before .args .z .triplets) (c .before .before .before .args .t) ((c .before .before .before .pre .0 .0) .pairs-some) (c .before .before .before .pre .0 .1 .0) (c .before .loop .c) (c .before .before .before .args .weights .now) in lw
+    let s : _ = c .before .before .before in
+    let lw : length (c .before .loop .weights) ≡ length (s .args .weights .now) = ap length (c .before .loop .inv .1) ∙ groups-length nan (s .args .z .points) (s .args .z .pairs) (averaged (s .args .z .bands1) (s .args .degenerate-ids1 .now) (s .args .degenerate-ids2 .now)) (s .args .z .triplets) (s .args .t) ((s .pre .0 .0) .pairs-some) (s .pre .0 .1 .0) (c .before .loop .c) (s .args .weights .now) in
+    lw
 
 returns : tie.Need-returns Inv-loop μ-loop
 returns c =
-    c .before .loop .inv .1 ∙ channels-all (c .before .before .before .args .z) (c .before .before .before .pre .0 .0) (c .before .before .before .args .degenerate-ids1 .now) (c .before .before .before .args .degenerate-ids2 .now) (c .before .before .before .pre .0 .1 .1 .0) (c .before .before .before .args .t) (c .before .loop .c) (c .before .before .before .args .weights .now) (omega arith) (c .before .before .before .pre .0 .1 .0) (c .before .before .before .pre .1 .0)
+    let s : _ = c .before .before .before in
+    c .before .loop .inv .1 ∙ channels-all (s .args .z) (s .pre .0 .0) (s .args .degenerate-ids1 .now) (s .args .degenerate-ids2 .now) (s .pre .0 .1 .1 .0) (s .args .t) (c .before .loop .c) (s .args .weights .now) (omega arith) (s .pre .0 .1 .0) (s .pre .1 .0)
 
 pub average-weights-spec : {M : Type 1} → statement M
 average-weights-spec =

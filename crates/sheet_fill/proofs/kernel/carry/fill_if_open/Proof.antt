@@ -31,7 +31,9 @@ same-length c =
 returns : tie.Need-returns
 unfolding isOpenAt
 returns c =
-    let o : isOpenAt (c .before .before .before .before .before .before .before .before .args .marks .now) (c .before .before .before .before .before .before .before .before .args .t * c .before .before .before .before .before .before .before .before .args .z .pairs + c .before .before .before .before .before .before .before .before .args .k) ≡ false = ne-eqb _ 0 (λ e. c .if1 .taken (c .before .mark-at .ensures ∙ e)) in (c .before .before .before .before .before .before .before .before .pre .1 .1, rw o (refl, (refl, refl)))
+    let s : _ = c .before .before .before .before .before .before .before .before in
+    let o : isOpenAt (s .args .marks .now) (s .args .t * s .args .z .pairs + s .args .k) ≡ false = ne-eqb _ 0 (λ e. c .if1 .taken (c .before .mark-at .ensures ∙ e)) in
+    (s .pre .1 .1, rw o (refl, (refl, refl)))
 
 div-fill-piece : tie.Need-div-fill-piece
 div-fill-piece c =
@@ -43,7 +45,9 @@ rem-fill-piece c =
 
 fill-piece-requires : tie.Need-fill-piece-requires
 fill-piece-requires c κs =
-    let bk : (c .before .before .before .before .before .before .before .before .before .before .before .before .before .before .before .before .before .before .args .k) < c .before .before .before .before .before .before .before .before .before .before .before .before .before .before .before .before .before .before .args .z .bands1 * c .before .before .before .before .before .before .before .before .before .before .before .before .before .before .before .before .before .before .args .z .bands2 = rw (← c .before .before .before .before .before .before .before .before .before .before .before .before .before .before .before .before .before .before .pre .0 .1 .0 .pairs) (c .before .before .before .before .before .before .before .before .before .before .before .before .before .before .before .before .before .before .pre .0 .1 .1 .1 .1 .0) in ((c .before .before .before .before .before .before .before .before .before .before .before .before .before .before .before .before .before .before .pre .0 .0, (c .before .before .before .before .before .before .before .before .before .before .before .before .before .before .before .before .before .before .pre .0 .1 .0, (c .before .before .before .before .before .before .before .before .before .before .before .before .before .before .before .before .before .before .pre .0 .1 .1 .0, (band-lt (c .before .before .before .before .before .before .before .before .before .before .before .before .before .before .before .before .before .before .args .k) (c .before .before .before .before .before .before .before .before .before .before .before .before .before .before .before .before .before .before .args .z .bands1) (c .before .before .before .before .before .before .before .before .before .before .before .before .before .before .before .before .before .before .args .z .bands2) (c .before .before .before .before .before .before .before .before .before .before .before .before .before .before .before .before .before .before .pre .0 .1 .1 .1 .0) bk, mod-lt (c .before .before .before .before .before .before .before .before .before .before .before .before .before .before .before .before .before .before .args .k) (c .before .before .before .before .before .before .before .before .before .before .before .before .before .before .before .before .before .before .pre .0 .1 .1 .1 .0))))), ((c .before .before .before .before .before .before .before .before .before .before .before .before .before .before .before .before .before .before .pre .1 .0 .0 _ (band-lt (c .before .before .before .before .before .before .before .before .before .before .before .before .before .before .before .before .before .before .args .k) (c .before .before .before .before .before .before .before .before .before .before .before .before .before .before .before .before .before .before .args .z .bands1) (c .before .before .before .before .before .before .before .before .before .before .before .before .before .before .before .before .before .before .args .z .bands2) (c .before .before .before .before .before .before .before .before .before .before .before .before .before .before .before .before .before .before .pre .0 .1 .1 .1 .0) bk), c .before .before .before .before .before .before .before .before .before .before .before .before .before .before .before .before .before .before .pre .1 .0 .1 _ (mod-lt (c .before .before .before .before .before .before .before .before .before .before .before .before .before .before .before .before .before .before .args .k) (c .before .before .before .before .before .before .before .before .before .before .before .before .before .before .before .before .before .before .pre .0 .1 .1 .1 .0))), c .before .before .before .before .before .before .before .before .before .before .before .before .before .before .before .before .before .before .pre .1 .1))
+    let s : _ = c .before .before .before .before .before .before .before .before .before .before .before .before .before .before .before .before .before .before in
+    let bk : (s .args .k) < s .args .z .bands1 * s .args .z .bands2 = rw (← s .pre .0 .1 .0 .pairs) (s .pre .0 .1 .1 .1 .1 .0) in
+    ((s .pre .0 .0, (s .pre .0 .1 .0, (s .pre .0 .1 .1 .0, (band-lt (s .args .k) (s .args .z .bands1) (s .args .z .bands2) (s .pre .0 .1 .1 .1 .0) bk, mod-lt (s .args .k) (s .pre .0 .1 .1 .1 .0))))), ((s .pre .1 .0 .0 _ (band-lt (s .args .k) (s .args .z .bands1) (s .args .z .bands2) (s .pre .0 .1 .1 .1 .0) bk), s .pre .1 .0 .1 _ (mod-lt (s .args .k) (s .pre .0 .1 .1 .1 .0))), s .pre .1 .1))
 
 set-mark-requires : tie.Need-set-mark-requires
 set-mark-requires c κs =
@@ -59,12 +63,15 @@ same-length-3 c =
 
 same-length-4 : tie.Need-same-length-4
 same-length-4 c =
-    ap length (c .before .before .set-mark .ensures) ∙ length-set (c .before .before .before .before .before .before .before .before .before .before .before .before .before .before .before .before .before .before .before .before .before .before .before .before .before .before .args .marks .now) (c .before .before .before .before .before .before .before .before .before .before .before .before .before .before .before .before .before .before .before .before .before .before .before .before .before .before .args .t * c .before .before .before .before .before .before .before .before .before .before .before .before .before .before .before .before .before .before .before .before .before .before .before .before .before .before .args .z .pairs + c .before .before .before .before .before .before .before .before .before .before .before .before .before .before .before .before .before .before .before .before .before .before .before .before .before .before .args .k) 1
+    let s : _ = c .before .before .before .before .before .before .before .before .before .before .before .before .before .before .before .before .before .before .before .before .before .before .before .before .before .before in
+    ap length (c .before .before .set-mark .ensures) ∙ length-set (s .args .marks .now) (s .args .t * s .args .z .pairs + s .args .k) 1
 
 returns-2 : tie.Need-returns-2
 unfolding isOpenAt
 returns-2 c =
-    let o : isOpenAt (c .before .before .before .before .before .before .before .before .before .before .before .before .before .before .before .before .before .before .before .before .before .before .before .before .before .before .args .marks .now) (c .before .before .before .before .before .before .before .before .before .before .before .before .before .before .before .before .before .before .before .before .before .before .before .before .before .before .args .t * c .before .before .before .before .before .before .before .before .before .before .before .before .before .before .before .before .before .before .before .before .before .before .before .before .before .before .args .z .pairs + c .before .before .before .before .before .before .before .before .before .before .before .before .before .before .before .before .before .before .before .before .before .before .before .before .before .before .args .k) ≡ true = eq-eqb _ 0 (sym (c .before .before .before .before .before .before .before .before .before .before .before .before .before .before .before .before .before .before .before .mark-at .ensures) ∙ c .before .before .before .before .before .before .before .before .before .before .before .before .before .before .before .before .before .before .if1 .left) in (c .before .before .before .before .before .before .before .fill-piece .ensures .0, rw o (c .before .before .before .before .before .before .before .fill-piece .ensures .1 .0, (c .before .before .before .before .before .before .before .fill-piece .ensures .1 .1, c .before .before .set-mark .ensures)))
+    let s : _ = c .before .before .before .before .before .before .before .before .before .before .before .before .before .before .before .before .before .before .before .before .before .before .before .before .before .before in
+    let o : isOpenAt (s .args .marks .now) (s .args .t * s .args .z .pairs + s .args .k) ≡ true = eq-eqb _ 0 (sym (c .before .before .before .before .before .before .before .before .before .before .before .before .before .before .before .before .before .before .before .mark-at .ensures) ∙ c .before .before .before .before .before .before .before .before .before .before .before .before .before .before .before .before .before .before .if1 .left) in
+    (c .before .before .before .before .before .before .before .fill-piece .ensures .0, rw o (c .before .before .before .before .before .before .before .fill-piece .ensures .1 .0, (c .before .before .before .before .before .before .before .fill-piece .ensures .1 .1, c .before .before .set-mark .ensures)))
 
 pub fill-if-open-spec : {M : Type 1} → statement M
 fill-if-open-spec =

@@ -8,13 +8,19 @@ use Rattle.sheet_fill.proofs.WithinLaws.{length-closed}
 use Rattle.sheet_fill.specs.Within.{openWithin}
 use Rattle.sheet_step.specs.Marks.{openIn}
 use Rattle.triplet_piece.proofs.StudyLaws.{length-computed, length-computed-flags}
-use Rattle.triplet_piece.specs.Study.{study}
+use Rattle.bzgrid.specs.declared.BzGrid.{BzGrid}
+use Rattle.triplet_piece.specs.Study.{Study, study}
 use Rattle.sheet_fill.proofs.kernel.carry.fill_triplet_if_open.Statement.{statement}
 use Rattle.sheet_fill.proofs.kernel.carry.fill_triplet_if_open.Tie as tie
 
+-- the study that the arguments make, on a grid
+abbrev studied : tie.Start → BzGrid → Study
+studied s g = study (s .args .tp) g (s .args .addresses .now) (s .args .gp-map .now) (s .args .steps .now) (s .args .z .bands1) (s .args .z .bands2) (s .args .frequencies1 .now) (s .args .frequencies2 .now) (s .args .points .now) (s .args .triplets .now)
+
 open-in-requires : tie.Need-open-in-requires
 open-in-requires c κs =
-    rw (c .before .before .before .before .before .before .pre .1 .1 .1 .1) (row-le (c .before .before .before .before .before .before .args .z .pairs) (c .before .before .before .before .before .before .pre .1 .1 .1 .0))
+    let s : _ = c .before .before .before .before .before .before in
+    rw (s .pre .1 .1 .1 .1) (row-le (s .args .z .pairs) (s .pre .1 .1 .1 .0))
 
 same-length : tie.Need-same-length
 same-length c =
@@ -22,7 +28,14 @@ same-length c =
 
 returns : tie.Need-returns
 returns c =
-    let z0 : openIn (c .before .before .before .before .before .before .before .before .args .z .pairs) (c .before .before .before .before .before .before .before .before .args .marks .now) (c .before .before .before .before .before .before .before .before .args .t) ≡ 0 = sym (c .before .open-in .ensures) ∙ c .if1 .taken in (weights-shut (c .before .before .before .before .before .before .before .before .args .marks .now) (c .before .before .before .before .before .before .before .before .args .z .pairs) (c .before .before .before .before .before .before .before .before .args .t) z0 (study (c .before .before .before .before .before .before .before .before .args .tp) (c .before .before .before .before .before .before .before .before .args .grid) (c .before .before .before .before .before .before .before .before .args .addresses .now) (c .before .before .before .before .before .before .before .before .args .gp-map .now) (c .before .before .before .before .before .before .before .before .args .steps .now) (c .before .before .before .before .before .before .before .before .args .z .bands1) (c .before .before .before .before .before .before .before .before .args .z .bands2) (c .before .before .before .before .before .before .before .before .args .frequencies1 .now) (c .before .before .before .before .before .before .before .before .args .frequencies2 .now) (c .before .before .before .before .before .before .before .before .args .points .now) (c .before .before .before .before .before .before .before .before .args .triplets .now)) (c .before .before .before .before .before .before .before .before .args .weights .now), (flags-shut (c .before .before .before .before .before .before .before .before .args .marks .now) (c .before .before .before .before .before .before .before .before .args .z .pairs) (c .before .before .before .before .before .before .before .before .args .t) z0 (study (c .before .before .before .before .before .before .before .before .args .tp) (c .before .before .before .before .before .before .before .before .args .grid) (c .before .before .before .before .before .before .before .before .args .addresses .now) (c .before .before .before .before .before .before .before .before .args .gp-map .now) (c .before .before .before .before .before .before .before .before .args .steps .now) (c .before .before .before .before .before .before .before .before .args .z .bands1) (c .before .before .before .before .before .before .before .before .args .z .bands2) (c .before .before .before .before .before .before .before .before .args .frequencies1 .now) (c .before .before .before .before .before .before .before .before .args .frequencies2 .now) (c .before .before .before .before .before .before .before .before .args .points .now) (c .before .before .before .before .before .before .before .before .args .triplets .now)) (c .before .before .before .before .before .before .before .before .args .flags .now), marks-shut (c .before .before .before .before .before .before .before .before .args .marks .now) (c .before .before .before .before .before .before .before .before .args .z .pairs) (c .before .before .before .before .before .before .before .before .args .t) z0))
+    let s : _ = c .before .before .before .before .before .before .before .before in
+    let z0 : openIn (s .args .z .pairs) (s .args .marks .now) (s .args .t) ≡ 0 = sym (c .before .open-in .ensures) ∙ c .if1 .taken in (
+      weights-shut (s .args .marks .now) (s .args .z .pairs) (s .args .t) z0 (studied s (s .args .grid)) (s .args .weights .now),
+      (
+        flags-shut (s .args .marks .now) (s .args .z .pairs) (s .args .t) z0 (studied s (s .args .grid)) (s .args .flags .now),
+        marks-shut (s .args .marks .now) (s .args .z .pairs) (s .args .t) z0,
+      ),
+    )
 
 fill-open-triplet-requires : tie.Need-fill-open-triplet-requires
 fill-open-triplet-requires c κs =
@@ -30,15 +43,18 @@ fill-open-triplet-requires c κs =
 
 same-length-2 : tie.Need-same-length-2
 same-length-2 c =
-    ap length (c .before .before .before .before .before .fill-open-triplet .ensures .0) ∙ length-computed (study (c .before .before .before .before .before .before .before .before .before .before .before .before .before .before .before .before .before .args .tp) (c .before .before .before .before .before .before .before .before .before .before .before .before .before .before .before .before .before .args .grid) (c .before .before .before .before .before .before .before .before .before .before .before .before .before .before .before .before .before .args .addresses .now) (c .before .before .before .before .before .before .before .before .before .before .before .before .before .before .before .before .before .args .gp-map .now) (c .before .before .before .before .before .before .before .before .before .before .before .before .before .before .before .before .before .args .steps .now) (c .before .before .before .before .before .before .before .before .before .before .before .before .before .before .before .before .before .args .z .bands1) (c .before .before .before .before .before .before .before .before .before .before .before .before .before .before .before .before .before .args .z .bands2) (c .before .before .before .before .before .before .before .before .before .before .before .before .before .before .before .before .before .args .frequencies1 .now) (c .before .before .before .before .before .before .before .before .before .before .before .before .before .before .before .before .before .args .frequencies2 .now) (c .before .before .before .before .before .before .before .before .before .before .before .before .before .before .before .before .before .args .points .now) (c .before .before .before .before .before .before .before .before .before .before .before .before .before .before .before .before .before .args .triplets .now)) (openWithin (c .before .before .before .before .before .before .before .before .before .before .before .before .before .before .before .before .before .args .marks .now) (c .before .before .before .before .before .before .before .before .before .before .before .before .before .before .before .before .before .args .t * c .before .before .before .before .before .before .before .before .before .before .before .before .before .before .before .before .before .args .z .pairs) ((c .before .before .before .before .before .before .before .before .before .before .before .before .before .before .before .before .before .args .t * c .before .before .before .before .before .before .before .before .before .before .before .before .before .before .before .before .before .args .z .pairs) + c .before .before .before .before .before .before .before .before .before .before .before .before .before .before .before .before .before .args .z .pairs)) (c .before .before .before .before .before .before .before .before .before .before .before .before .before .before .before .before .before .args .weights .now)
+    let s : _ = c .before .before .before .before .before .before .before .before .before .before .before .before .before .before .before .before .before in
+    ap length (c .before .before .before .before .before .fill-open-triplet .ensures .0) ∙ length-computed (studied s (s .args .grid)) (openWithin (s .args .marks .now) (s .args .t * s .args .z .pairs) ((s .args .t * s .args .z .pairs) + s .args .z .pairs)) (s .args .weights .now)
 
 same-length-3 : tie.Need-same-length-3
 same-length-3 c =
-    ap length (c .before .before .before .before .before .fill-open-triplet .ensures .1 .0) ∙ length-computed-flags (study (c .before .before .before .before .before .before .before .before .before .before .before .before .before .before .before .before .before .args .tp) (c .before .before .before .before .before .before .before .before .before .before .before .before .before .before .before .before .before .args .grid) (c .before .before .before .before .before .before .before .before .before .before .before .before .before .before .before .before .before .args .addresses .now) (c .before .before .before .before .before .before .before .before .before .before .before .before .before .before .before .before .before .args .gp-map .now) (c .before .before .before .before .before .before .before .before .before .before .before .before .before .before .before .before .before .args .steps .now) (c .before .before .before .before .before .before .before .before .before .before .before .before .before .before .before .before .before .args .z .bands1) (c .before .before .before .before .before .before .before .before .before .before .before .before .before .before .before .before .before .args .z .bands2) (c .before .before .before .before .before .before .before .before .before .before .before .before .before .before .before .before .before .args .frequencies1 .now) (c .before .before .before .before .before .before .before .before .before .before .before .before .before .before .before .before .before .args .frequencies2 .now) (c .before .before .before .before .before .before .before .before .before .before .before .before .before .before .before .before .before .args .points .now) (c .before .before .before .before .before .before .before .before .before .before .before .before .before .before .before .before .before .args .triplets .now)) (openWithin (c .before .before .before .before .before .before .before .before .before .before .before .before .before .before .before .before .before .args .marks .now) (c .before .before .before .before .before .before .before .before .before .before .before .before .before .before .before .before .before .args .t * c .before .before .before .before .before .before .before .before .before .before .before .before .before .before .before .before .before .args .z .pairs) ((c .before .before .before .before .before .before .before .before .before .before .before .before .before .before .before .before .before .args .t * c .before .before .before .before .before .before .before .before .before .before .before .before .before .before .before .before .before .args .z .pairs) + c .before .before .before .before .before .before .before .before .before .before .before .before .before .before .before .before .before .args .z .pairs)) (c .before .before .before .before .before .before .before .before .before .before .before .before .before .before .before .before .before .args .flags .now)
+    let s : _ = c .before .before .before .before .before .before .before .before .before .before .before .before .before .before .before .before .before in
+    ap length (c .before .before .before .before .before .fill-open-triplet .ensures .1 .0) ∙ length-computed-flags (studied s (s .args .grid)) (openWithin (s .args .marks .now) (s .args .t * s .args .z .pairs) ((s .args .t * s .args .z .pairs) + s .args .z .pairs)) (s .args .flags .now)
 
 same-length-4 : tie.Need-same-length-4
 same-length-4 c =
-    ap length (c .before .before .before .before .before .fill-open-triplet .ensures .1 .1) ∙ length-closed (c .before .before .before .before .before .before .before .before .before .before .before .before .before .before .before .before .before .args .marks .now) (c .before .before .before .before .before .before .before .before .before .before .before .before .before .before .before .before .before .args .t * c .before .before .before .before .before .before .before .before .before .before .before .before .before .before .before .before .before .args .z .pairs) ((c .before .before .before .before .before .before .before .before .before .before .before .before .before .before .before .before .before .args .t * c .before .before .before .before .before .before .before .before .before .before .before .before .before .before .before .before .before .args .z .pairs) + c .before .before .before .before .before .before .before .before .before .before .before .before .before .before .before .before .before .args .z .pairs)
+    let s : _ = c .before .before .before .before .before .before .before .before .before .before .before .before .before .before .before .before .before in
+    ap length (c .before .before .before .before .before .fill-open-triplet .ensures .1 .1) ∙ length-closed (s .args .marks .now) (s .args .t * s .args .z .pairs) ((s .args .t * s .args .z .pairs) + s .args .z .pairs)
 
 returns-2 : tie.Need-returns-2
 returns-2 c =

@@ -8,41 +8,70 @@ use Rattle.triplet_corners.proofs.CornerLaws.{second-length, second-lent, secon
 use Rattle.triplet_corners.specs.Corners.{cornerNumbers}
 use Rattle.triplet_iw.proofs.TripletLaws.{fitting, held-first, held-second, triplet-in}
 use Rattle.triplet_piece.proofs.StudyLaws.{length-computed, length-computed-flags}
-use Rattle.triplet_piece.specs.Study.{study}
+use Rattle.bzgrid.specs.declared.BzGrid.{BzGrid}
+use Rattle.triplet_piece.specs.Study.{Study, study}
 use Rattle.sheet_fill.proofs.kernel.run.fill_named.Statement.{statement}
 use Rattle.sheet_fill.proofs.kernel.run.fill_named.Tie as tie
 
+-- the study that the arguments make, on a grid
+abbrev studied : tie.Start → BzGrid → Study
+studied s g = study (s .args .tp) g (s .args .addresses .now) (s .args .gp-map .now) (s .args .steps .now) (s .args .z .bands1) (s .args .z .bands2) (s .args .frequencies1 .now) (s .args .frequencies2 .now) (s .args .points .now) (s .args .triplets .now)
+
 second-steps-requires : tie.Need-second-steps-requires
-second-steps-requires c κs =
-    (omega (arith, (c .before .before .before .before .pre .0) .rows-whole, (c .before .before .before .before .pre .0) .rows-high), (c .before .before .before .before .pre .0) .table)
+second-steps-requires c κs = (
+  omega (arith, (c .before .before .before .before .pre .0) .rows-whole, (c .before .before .before .before .pre .0) .rows-high),
+  (c .before .before .before .before .pre .0) .table,
+)
 
 mul-magnitude-at : tie.Need-mul-magnitude-at
 mul-magnitude-at c =
-    let tb : 3 * c .before .before .before .before .before .args .t + 2 < length (c .before .before .before .before .before .args .triplets .now) = triplet-in (c .before .before .before .before .before .pre .0) (c .before .before .before .before .before .args .t) (c .before .before .before .before .before .pre .1 .0) in omega (arith, c .before .before .before .before .before .good)
+    let s : _ = c .before .before .before .before .before in
+    let tb : 3 * s .args .t + 2 < length (s .args .triplets .now) = triplet-in (s .pre .0) (s .args .t) (s .pre .1 .0) in
+    omega (arith, s .good)
 
 add-magnitude-at : tie.Need-add-magnitude-at
 add-magnitude-at c =
-    let tb : 3 * c .before .before .before .before .before .args .t + 2 < length (c .before .before .before .before .before .args .triplets .now) = triplet-in (c .before .before .before .before .before .pre .0) (c .before .before .before .before .before .args .t) (c .before .before .before .before .before .pre .1 .0) in omega (arith, c .before .before .before .before .before .good)
+    let s : _ = c .before .before .before .before .before in
+    let tb : 3 * s .args .t + 2 < length (s .args .triplets .now) = triplet-in (s .pre .0) (s .args .t) (s .pre .1 .0) in
+    omega (arith, s .good)
 
 magnitude-at-requires : tie.Need-magnitude-at-requires
 magnitude-at-requires c κs =
-    let tb : 3 * c .before .before .before .before .before .args .t + 2 < length (c .before .before .before .before .before .args .triplets .now) = triplet-in (c .before .before .before .before .before .pre .0) (c .before .before .before .before .before .args .t) (c .before .before .before .before .before .pre .1 .0) in omega arith
+    let s : _ = c .before .before .before .before .before in
+    let tb : 3 * s .args .t + 2 < length (s .args .triplets .now) = triplet-in (s .pre .0) (s .args .t) (s .pre .1 .0) in
+    omega arith
 
 mul-magnitude-at-2 : tie.Need-mul-magnitude-at-2
 mul-magnitude-at-2 c =
-    let tb : 3 * c .before .before .before .before .before .before .args .t + 2 < length (c .before .before .before .before .before .before .args .triplets .now) = triplet-in (c .before .before .before .before .before .before .pre .0) (c .before .before .before .before .before .before .args .t) (c .before .before .before .before .before .before .pre .1 .0) in omega (arith, c .before .before .before .before .before .before .good)
+    let s : _ = c .before .before .before .before .before .before in
+    let tb : 3 * s .args .t + 2 < length (s .args .triplets .now) = triplet-in (s .pre .0) (s .args .t) (s .pre .1 .0) in
+    omega (arith, s .good)
 
 add-magnitude-at-2 : tie.Need-add-magnitude-at-2
 add-magnitude-at-2 c =
-    let tb : 3 * c .before .before .before .before .before .before .args .t + 2 < length (c .before .before .before .before .before .before .args .triplets .now) = triplet-in (c .before .before .before .before .before .before .pre .0) (c .before .before .before .before .before .before .args .t) (c .before .before .before .before .before .before .pre .1 .0) in omega (arith, c .before .before .before .before .before .before .good)
+    let s : _ = c .before .before .before .before .before .before in
+    let tb : 3 * s .args .t + 2 < length (s .args .triplets .now) = triplet-in (s .pre .0) (s .args .t) (s .pre .1 .0) in
+    omega (arith, s .good)
 
 magnitude-at-requires-2 : tie.Need-magnitude-at-requires-2
 magnitude-at-requires-2 c κs =
-    let tb : 3 * c .before .before .before .before .before .before .args .t + 2 < length (c .before .before .before .before .before .before .args .triplets .now) = triplet-in (c .before .before .before .before .before .before .pre .0) (c .before .before .before .before .before .before .args .t) (c .before .before .before .before .before .before .pre .1 .0) in tb
+    let s : _ = c .before .before .before .before .before .before in
+    let tb : 3 * s .args .t + 2 < length (s .args .triplets .now) = triplet-in (s .pre .0) (s .args .t) (s .pre .1 .0) in
+    tb
 
 corner-numbers-requires : tie.Need-corner-numbers-requires
 corner-numbers-requires c κs =
-    let tb : 3 * c .before .before .before .before .before .before .before .args .t + 2 < length (c .before .before .before .before .before .before .before .args .triplets .now) = triplet-in (c .before .before .before .before .before .before .before .pre .0) (c .before .before .before .before .before .before .before .args .t) (c .before .before .before .before .before .before .before .pre .1 .0) in ((c .before .before .before .before .before .before .before .pre .0) .grid, ((c .before .before .before .before .before .before .before .pre .0) .table, (rw (c .before .magnitude-at .ensures) ((c .before .before .before .before .before .before .before .pre .0) .triplets-at (3 * c .before .before .before .before .before .before .before .args .t + 1) (omega arith)), omega (arith, (c .before .before .before .before .before .before .before .pre .0) .rows-whole, (c .before .before .before .before .before .before .before .pre .0) .rows-high))))
+    let s : _ = c .before .before .before .before .before .before .before in
+    let tb : 3 * s .args .t + 2 < length (s .args .triplets .now) = triplet-in (s .pre .0) (s .args .t) (s .pre .1 .0) in (
+      (s .pre .0) .grid,
+      (
+        (s .pre .0) .table,
+        (
+          rw (c .before .magnitude-at .ensures) ((s .pre .0) .triplets-at (3 * s .args .t + 1) (omega arith)),
+          omega (arith, (s .pre .0) .rows-whole, (s .pre .0) .rows-high),
+        ),
+      ),
+    )
 
 array-share-prefix-second : tie.Need-array-share-prefix-second
 array-share-prefix-second c =
@@ -50,27 +79,52 @@ array-share-prefix-second c =
 
 slice-aggregate-corner-numbers : tie.Need-slice-aggregate-corner-numbers
 slice-aggregate-corner-numbers c =
-    sym (ap length (second-lent (c .before .before .before .before .before .before .before .before .before .args .tp) (c .before .before .before .before .before .before .before .before .before .args .steps .now) (c .before .before .before .before .second-steps .result) (c .before .before .before .before .second-steps .ensures)) ∙ second-length (c .before .before .before .before .before .before .before .before .before .args .tp) (c .before .before .before .before .before .before .before .before .before .args .steps .now))
+    let s : _ = c .before .before .before .before .before .before .before .before .before in
+    sym (ap length (second-lent (s .args .tp) (s .args .steps .now) (c .before .before .before .before .second-steps .result) (c .before .before .before .before .second-steps .ensures)) ∙ second-length (s .args .tp) (s .args .steps .now))
 
 corner-numbers-requires-2 : tie.Need-corner-numbers-requires-2
 corner-numbers-requires-2 c κs =
-    let tb : 3 * c .before .before .before .before .before .before .before .before .before .args .t + 2 < length (c .before .before .before .before .before .before .before .before .before .args .triplets .now) = triplet-in (c .before .before .before .before .before .before .before .before .before .pre .0) (c .before .before .before .before .before .before .before .before .before .args .t) (c .before .before .before .before .before .before .before .before .before .pre .1 .0) in ((c .before .before .before .before .before .before .before .before .before .pre .0) .grid, (rw (second-lent (c .before .before .before .before .before .before .before .before .before .args .tp) (c .before .before .before .before .before .before .before .before .before .args .steps .now) (c .before .before .before .before .second-steps .result) (c .before .before .before .before .second-steps .ensures)) (second-triples (c .before .before .before .before .before .before .before .before .before .args .tp) (c .before .before .before .before .before .before .before .before .before .args .steps .now) ((c .before .before .before .before .before .before .before .before .before .pre .0) .table)), (rw (c .before .before .magnitude-at2 .ensures) ((c .before .before .before .before .before .before .before .before .before .pre .0) .triplets-at (3 * c .before .before .before .before .before .before .before .before .before .args .t + 2) tb), rw (second-lent (c .before .before .before .before .before .before .before .before .before .args .tp) (c .before .before .before .before .before .before .before .before .before .args .steps .now) (c .before .before .before .before .second-steps .result) (c .before .before .before .before .second-steps .ensures)) (omega (arith, second-length (c .before .before .before .before .before .before .before .before .before .args .tp) (c .before .before .before .before .before .before .before .before .before .args .steps .now), (c .before .before .before .before .before .before .before .before .before .pre .0) .rows-whole, (c .before .before .before .before .before .before .before .before .before .pre .0) .rows-high)))))
+    let s : _ = c .before .before .before .before .before .before .before .before .before in
+    let tb : 3 * s .args .t + 2 < length (s .args .triplets .now) = triplet-in (s .pre .0) (s .args .t) (s .pre .1 .0) in (
+      (s .pre .0) .grid,
+      (
+        rw (second-lent (s .args .tp) (s .args .steps .now) (c .before .before .before .before .second-steps .result) (c .before .before .before .before .second-steps .ensures)) (second-triples (s .args .tp) (s .args .steps .now) ((s .pre .0) .table)),
+        (
+          rw (c .before .before .magnitude-at2 .ensures) ((s .pre .0) .triplets-at (3 * s .args .t + 2) tb),
+          rw (second-lent (s .args .tp) (s .args .steps .now) (c .before .before .before .before .second-steps .result) (c .before .before .before .before .second-steps .ensures)) (omega (arith, second-length (s .args .tp) (s .args .steps .now), (s .pre .0) .rows-whole, (s .pre .0) .rows-high)),
+        ),
+      ),
+    )
 
 fill-piece-requires : tie.Need-fill-piece-requires
 fill-piece-requires c κs =
-    ((((c .before .before .before .before .before .before .before .before .before .before .before .before .before .before .before .before .before .before .before .before .before .before .pre .0) .rows-low, (c .before .before .before .before .before .before .before .before .before .before .before .before .before .before .before .before .before .before .before .before .before .before .pre .0) .rows-high), (fitting (c .before .before .before .before .before .before .before .before .before .before .before .before .before .before .before .before .before .before .before .before .before .before .pre .0), c .before .before .before .before .before .before .before .before .before .before .before .before .before .before .before .before .before .before .before .before .before .before .pre .1)), ((held-first (c .before .before .before .before .before .before .before .before .before .before .before .before .before .before .before .before .before .before .before .before .before .before .pre .0) (c .before .before .before .before .before .before .before .before .before .before .before .before .before .before .before .before .before .before .before .before .before .before .args .t) _ (c .before .before .before .before .before .before .before .before .before .before .before .before .before .before .corner-numbers .ensures ∙ ap (λ (g : ℕ). cornerNumbers (c .before .before .before .before .before .before .before .before .before .before .before .before .before .before .before .before .before .before .before .before .before .before .args .grid) (c .before .before .before .before .before .before .before .before .before .before .before .before .before .before .before .before .before .before .before .before .before .before .args .addresses .now) (c .before .before .before .before .before .before .before .before .before .before .before .before .before .before .before .before .before .before .before .before .before .before .args .gp-map .now) (c .before .before .before .before .before .before .before .before .before .before .before .before .before .before .before .before .before .before .before .before .before .before .args .steps .now) g) (c .before .before .before .before .before .before .before .before .before .before .before .before .before .before .before .before .magnitude-at .ensures)) (length (c .before .before .before .before .before .before .before .before .before .before .before .before .before .before .before .before .before .before .before .before .before .before .args .steps .now) / 12) refl _ (c .before .before .before .before .before .before .before .before .before .before .before .before .before .before .before .before .before .before .before .before .before .before .pre .1 .1 .0), held-second (c .before .before .before .before .before .before .before .before .before .before .before .before .before .before .before .before .before .before .before .before .before .before .pre .0) (c .before .before .before .before .before .before .before .before .before .before .before .before .before .before .before .before .before .before .before .before .before .before .args .t) _ (c .before .before .before .before .before .before .before .before .before .before .before .before .corner-numbers2 .ensures ∙ rw (second-lent (c .before .before .before .before .before .before .before .before .before .before .before .before .before .before .before .before .before .before .before .before .before .before .args .tp) (c .before .before .before .before .before .before .before .before .before .before .before .before .before .before .before .before .before .before .before .before .before .before .args .steps .now) (c .before .before .before .before .before .before .before .before .before .before .before .before .before .before .before .before .before .second-steps .result) (c .before .before .before .before .before .before .before .before .before .before .before .before .before .before .before .before .before .second-steps .ensures), c .before .before .before .before .before .before .before .before .before .before .before .before .before .before .before .magnitude-at2 .ensures)) (length (c .before .before .before .before .before .before .before .before .before .before .before .before .before .before .before .before .before .before .before .before .before .before .args .steps .now) / 12) refl _ (c .before .before .before .before .before .before .before .before .before .before .before .before .before .before .before .before .before .before .before .before .before .before .pre .1 .1 .1)), record { size1 = refl; size2 = refl; channel0 = refl; channel1 = refl; channel2 = refl; places0 = refl; places1 = refl; places2 = refl }))
+    let s : _ = c .before .before .before .before .before .before .before .before .before .before .before .before .before .before .before .before .before .before .before .before .before .before in (
+      (((s .pre .0) .rows-low, (s .pre .0) .rows-high), (fitting (s .pre .0), s .pre .1)),
+      (
+        (
+          held-first (s .pre .0) (s .args .t) _ (c .before .before .before .before .before .before .before .before .before .before .before .before .before .before .corner-numbers .ensures ∙ ap (λ (g : ℕ). cornerNumbers (s .args .grid) (s .args .addresses .now) (s .args .gp-map .now) (s .args .steps .now) g) (c .before .before .before .before .before .before .before .before .before .before .before .before .before .before .before .before .magnitude-at .ensures)) (length (s .args .steps .now) / 12) refl _ (s .pre .1 .1 .0),
+          held-second (s .pre .0) (s .args .t) _ (c .before .before .before .before .before .before .before .before .before .before .before .before .corner-numbers2 .ensures ∙ rw (second-lent (s .args .tp) (s .args .steps .now) (c .before .before .before .before .before .before .before .before .before .before .before .before .before .before .before .before .before .second-steps .result) (c .before .before .before .before .before .before .before .before .before .before .before .before .before .before .before .before .before .second-steps .ensures), c .before .before .before .before .before .before .before .before .before .before .before .before .before .before .before .magnitude-at2 .ensures)) (length (s .args .steps .now) / 12) refl _ (s .pre .1 .1 .1),
+        ),
+        record { size1 = refl; size2 = refl; channel0 = refl; channel1 = refl; channel2 = refl; places0 = refl; places1 = refl; places2 = refl },
+      ),
+    )
 
 same-length : tie.Need-same-length
 same-length c =
-    ap length (c .before .before .before .fill-piece .ensures .1 .0 ∙ named-weights (study (c .before .before .before .before .before .before .before .before .before .before .before .before .before .before .before .before .before .before .before .before .before .before .before .before .before .before .args .tp) (c .before .before .before .before .before .before .before .before .before .before .before .before .before .before .before .before .before .before .before .before .before .before .before .before .before .before .args .grid) (c .before .before .before .before .before .before .before .before .before .before .before .before .before .before .before .before .before .before .before .before .before .before .before .before .before .before .args .addresses .now) (c .before .before .before .before .before .before .before .before .before .before .before .before .before .before .before .before .before .before .before .before .before .before .before .before .before .before .args .gp-map .now) (c .before .before .before .before .before .before .before .before .before .before .before .before .before .before .before .before .before .before .before .before .before .before .before .before .before .before .args .steps .now) (c .before .before .before .before .before .before .before .before .before .before .before .before .before .before .before .before .before .before .before .before .before .before .before .before .before .before .args .z .bands1) (c .before .before .before .before .before .before .before .before .before .before .before .before .before .before .before .before .before .before .before .before .before .before .before .before .before .before .args .z .bands2) (c .before .before .before .before .before .before .before .before .before .before .before .before .before .before .before .before .before .before .before .before .before .before .before .before .before .before .args .frequencies1 .now) (c .before .before .before .before .before .before .before .before .before .before .before .before .before .before .before .before .before .before .before .before .before .before .before .before .before .before .args .frequencies2 .now) (c .before .before .before .before .before .before .before .before .before .before .before .before .before .before .before .before .before .before .before .before .before .before .before .before .before .before .args .points .now) (c .before .before .before .before .before .before .before .before .before .before .before .before .before .before .before .before .before .before .before .before .before .before .before .before .before .before .args .triplets .now)) (c .before .before .before .before .before .before .before .before .before .before .before .before .before .before .before .before .before .before .before .before .before .before .before .before .before .before .args .z) ((c .before .before .before .before .before .before .before .before .before .before .before .before .before .before .before .before .before .before .before .before .before .before .before .before .before .before .pre .0) .counts) (c .before .before .before .before .before .before .before .before .before .before .before .before .before .before .before .before .before .before .before .before .before .before .before .before .before .before .args .t) (c .before .before .before .before .before .before .before .before .before .before .before .before .before .before .before .before .before .before .before .before .before .before .before .before .before .before .args .b1) (c .before .before .before .before .before .before .before .before .before .before .before .before .before .before .before .before .before .before .before .before .before .before .before .before .before .before .args .b2) _ _ (length (c .before .before .before .before .before .before .before .before .before .before .before .before .before .before .before .before .before .before .before .before .before .before .before .before .before .before .args .steps .now) / 12) (c .before .before .before .before .before .before .before .before .before .before .before .before .before .before .before .before .before .before .corner-numbers .ensures ∙ ap (λ (g : ℕ). cornerNumbers (c .before .before .before .before .before .before .before .before .before .before .before .before .before .before .before .before .before .before .before .before .before .before .before .before .before .before .args .grid) (c .before .before .before .before .before .before .before .before .before .before .before .before .before .before .before .before .before .before .before .before .before .before .before .before .before .before .args .addresses .now) (c .before .before .before .before .before .before .before .before .before .before .before .before .before .before .before .before .before .before .before .before .before .before .before .before .before .before .args .gp-map .now) (c .before .before .before .before .before .before .before .before .before .before .before .before .before .before .before .before .before .before .before .before .before .before .before .before .before .before .args .steps .now) g) (c .before .before .before .before .before .before .before .before .before .before .before .before .before .before .before .before .before .before .before .before .magnitude-at .ensures)) (c .before .before .before .before .before .before .before .before .before .before .before .before .before .before .before .before .corner-numbers2 .ensures ∙ rw (second-lent (c .before .before .before .before .before .before .before .before .before .before .before .before .before .before .before .before .before .before .before .before .before .before .before .before .before .before .args .tp) (c .before .before .before .before .before .before .before .before .before .before .before .before .before .before .before .before .before .before .before .before .before .before .before .before .before .before .args .steps .now) (c .before .before .before .before .before .before .before .before .before .before .before .before .before .before .before .before .before .before .before .before .before .second-steps .result) (c .before .before .before .before .before .before .before .before .before .before .before .before .before .before .before .before .before .before .before .before .before .second-steps .ensures), c .before .before .before .before .before .before .before .before .before .before .before .before .before .before .before .before .before .before .before .magnitude-at2 .ensures)) refl (c .before .before .before .before .before .before .before .before .before .before .before .before .before .before .before .before .before .before .before .before .before .before .before .before .before .before .pre .1 .1 .0) (c .before .before .before .before .before .before .before .before .before .before .before .before .before .before .before .before .before .before .before .before .before .before .before .before .before .before .pre .1 .1 .1) (c .before .before .before .before .before .before .before .before .before .before .before .before .before .before .before .before .before .before .before .before .before .before .before .before .before .before .args .weights .now)) ∙ length-computed (study (c .before .before .before .before .before .before .before .before .before .before .before .before .before .before .before .before .before .before .before .before .before .before .before .before .before .before .args .tp) (c .before .before .before .before .before .before .before .before .before .before .before .before .before .before .before .before .before .before .before .before .before .before .before .before .before .before .args .grid) (c .before .before .before .before .before .before .before .before .before .before .before .before .before .before .before .before .before .before .before .before .before .before .before .before .before .before .args .addresses .now) (c .before .before .before .before .before .before .before .before .before .before .before .before .before .before .before .before .before .before .before .before .before .before .before .before .before .before .args .gp-map .now) (c .before .before .before .before .before .before .before .before .before .before .before .before .before .before .before .before .before .before .before .before .before .before .before .before .before .before .args .steps .now) (c .before .before .before .before .before .before .before .before .before .before .before .before .before .before .before .before .before .before .before .before .before .before .before .before .before .before .args .z .bands1) (c .before .before .before .before .before .before .before .before .before .before .before .before .before .before .before .before .before .before .before .before .before .before .before .before .before .before .args .z .bands2) (c .before .before .before .before .before .before .before .before .before .before .before .before .before .before .before .before .before .before .before .before .before .before .before .before .before .before .args .frequencies1 .now) (c .before .before .before .before .before .before .before .before .before .before .before .before .before .before .before .before .before .before .before .before .before .before .before .before .before .before .args .frequencies2 .now) (c .before .before .before .before .before .before .before .before .before .before .before .before .before .before .before .before .before .before .before .before .before .before .before .before .before .before .args .points .now) (c .before .before .before .before .before .before .before .before .before .before .before .before .before .before .before .before .before .before .before .before .before .before .before .before .before .before .args .triplets .now)) _ (c .before .before .before .before .before .before .before .before .before .before .before .before .before .before .before .before .before .before .before .before .before .before .before .before .before .before .args .weights .now)
+    let s : _ = c .before .before .before .before .before .before .before .before .before .before .before .before .before .before .before .before .before .before .before .before .before .before .before .before .before .before in
+    ap length (c .before .before .before .fill-piece .ensures .1 .0 ∙ named-weights (studied s (s .args .grid)) (s .args .z) ((s .pre .0) .counts) (s .args .t) (s .args .b1) (s .args .b2) _ _ (length (s .args .steps .now) / 12) (c .before .before .before .before .before .before .before .before .before .before .before .before .before .before .before .before .before .before .corner-numbers .ensures ∙ ap (λ (g : ℕ). cornerNumbers (s .args .grid) (s .args .addresses .now) (s .args .gp-map .now) (s .args .steps .now) g) (c .before .before .before .before .before .before .before .before .before .before .before .before .before .before .before .before .before .before .before .before .magnitude-at .ensures)) (c .before .before .before .before .before .before .before .before .before .before .before .before .before .before .before .before .corner-numbers2 .ensures ∙ rw (second-lent (s .args .tp) (s .args .steps .now) (c .before .before .before .before .before .before .before .before .before .before .before .before .before .before .before .before .before .before .before .before .before .second-steps .result) (c .before .before .before .before .before .before .before .before .before .before .before .before .before .before .before .before .before .before .before .before .before .second-steps .ensures), c .before .before .before .before .before .before .before .before .before .before .before .before .before .before .before .before .before .before .before .magnitude-at2 .ensures)) refl (s .pre .1 .1 .0) (s .pre .1 .1 .1) (s .args .weights .now)) ∙ length-computed (studied s (s .args .grid)) _ (s .args .weights .now)
 
 same-length-2 : tie.Need-same-length-2
 same-length-2 c =
-    ap length (c .before .before .before .fill-piece .ensures .1 .1 ∙ named-flags (study (c .before .before .before .before .before .before .before .before .before .before .before .before .before .before .before .before .before .before .before .before .before .before .before .before .before .before .args .tp) (c .before .before .before .before .before .before .before .before .before .before .before .before .before .before .before .before .before .before .before .before .before .before .before .before .before .before .args .grid) (c .before .before .before .before .before .before .before .before .before .before .before .before .before .before .before .before .before .before .before .before .before .before .before .before .before .before .args .addresses .now) (c .before .before .before .before .before .before .before .before .before .before .before .before .before .before .before .before .before .before .before .before .before .before .before .before .before .before .args .gp-map .now) (c .before .before .before .before .before .before .before .before .before .before .before .before .before .before .before .before .before .before .before .before .before .before .before .before .before .before .args .steps .now) (c .before .before .before .before .before .before .before .before .before .before .before .before .before .before .before .before .before .before .before .before .before .before .before .before .before .before .args .z .bands1) (c .before .before .before .before .before .before .before .before .before .before .before .before .before .before .before .before .before .before .before .before .before .before .before .before .before .before .args .z .bands2) (c .before .before .before .before .before .before .before .before .before .before .before .before .before .before .before .before .before .before .before .before .before .before .before .before .before .before .args .frequencies1 .now) (c .before .before .before .before .before .before .before .before .before .before .before .before .before .before .before .before .before .before .before .before .before .before .before .before .before .before .args .frequencies2 .now) (c .before .before .before .before .before .before .before .before .before .before .before .before .before .before .before .before .before .before .before .before .before .before .before .before .before .before .args .points .now) (c .before .before .before .before .before .before .before .before .before .before .before .before .before .before .before .before .before .before .before .before .before .before .before .before .before .before .args .triplets .now)) (c .before .before .before .before .before .before .before .before .before .before .before .before .before .before .before .before .before .before .before .before .before .before .before .before .before .before .args .z) ((c .before .before .before .before .before .before .before .before .before .before .before .before .before .before .before .before .before .before .before .before .before .before .before .before .before .before .pre .0) .counts) (c .before .before .before .before .before .before .before .before .before .before .before .before .before .before .before .before .before .before .before .before .before .before .before .before .before .before .args .t) (c .before .before .before .before .before .before .before .before .before .before .before .before .before .before .before .before .before .before .before .before .before .before .before .before .before .before .args .b1) (c .before .before .before .before .before .before .before .before .before .before .before .before .before .before .before .before .before .before .before .before .before .before .before .before .before .before .args .b2) _ _ (length (c .before .before .before .before .before .before .before .before .before .before .before .before .before .before .before .before .before .before .before .before .before .before .before .before .before .before .args .steps .now) / 12) (c .before .before .before .before .before .before .before .before .before .before .before .before .before .before .before .before .before .before .corner-numbers .ensures ∙ ap (λ (g : ℕ). cornerNumbers (c .before .before .before .before .before .before .before .before .before .before .before .before .before .before .before .before .before .before .before .before .before .before .before .before .before .before .args .grid) (c .before .before .before .before .before .before .before .before .before .before .before .before .before .before .before .before .before .before .before .before .before .before .before .before .before .before .args .addresses .now) (c .before .before .before .before .before .before .before .before .before .before .before .before .before .before .before .before .before .before .before .before .before .before .before .before .before .before .args .gp-map .now) (c .before .before .before .before .before .before .before .before .before .before .before .before .before .before .before .before .before .before .before .before .before .before .before .before .before .before .args .steps .now) g) (c .before .before .before .before .before .before .before .before .before .before .before .before .before .before .before .before .before .before .before .before .magnitude-at .ensures)) (c .before .before .before .before .before .before .before .before .before .before .before .before .before .before .before .before .corner-numbers2 .ensures ∙ rw (second-lent (c .before .before .before .before .before .before .before .before .before .before .before .before .before .before .before .before .before .before .before .before .before .before .before .before .before .before .args .tp) (c .before .before .before .before .before .before .before .before .before .before .before .before .before .before .before .before .before .before .before .before .before .before .before .before .before .before .args .steps .now) (c .before .before .before .before .before .before .before .before .before .before .before .before .before .before .before .before .before .before .before .before .before .second-steps .result) (c .before .before .before .before .before .before .before .before .before .before .before .before .before .before .before .before .before .before .before .before .before .second-steps .ensures), c .before .before .before .before .before .before .before .before .before .before .before .before .before .before .before .before .before .before .before .magnitude-at2 .ensures)) refl (c .before .before .before .before .before .before .before .before .before .before .before .before .before .before .before .before .before .before .before .before .before .before .before .before .before .before .pre .1 .1 .0) (c .before .before .before .before .before .before .before .before .before .before .before .before .before .before .before .before .before .before .before .before .before .before .before .before .before .before .pre .1 .1 .1) (c .before .before .before .before .before .before .before .before .before .before .before .before .before .before .before .before .before .before .before .before .before .before .before .before .before .before .args .flags .now)) ∙ length-computed-flags (study (c .before .before .before .before .before .before .before .before .before .before .before .before .before .before .before .before .before .before .before .before .before .before .before .before .before .before .args .tp) (c .before .before .before .before .before .before .before .before .before .before .before .before .before .before .before .before .before .before .before .before .before .before .before .before .before .before .args .grid) (c .before .before .before .before .before .before .before .before .before .before .before .before .before .before .before .before .before .before .before .before .before .before .before .before .before .before .args .addresses .now) (c .before .before .before .before .before .before .before .before .before .before .before .before .before .before .before .before .before .before .before .before .before .before .before .before .before .before .args .gp-map .now) (c .before .before .before .before .before .before .before .before .before .before .before .before .before .before .before .before .before .before .before .before .before .before .before .before .before .before .args .steps .now) (c .before .before .before .before .before .before .before .before .before .before .before .before .before .before .before .before .before .before .before .before .before .before .before .before .before .before .args .z .bands1) (c .before .before .before .before .before .before .before .before .before .before .before .before .before .before .before .before .before .before .before .before .before .before .before .before .before .before .args .z .bands2) (c .before .before .before .before .before .before .before .before .before .before .before .before .before .before .before .before .before .before .before .before .before .before .before .before .before .before .args .frequencies1 .now) (c .before .before .before .before .before .before .before .before .before .before .before .before .before .before .before .before .before .before .before .before .before .before .before .before .before .before .args .frequencies2 .now) (c .before .before .before .before .before .before .before .before .before .before .before .before .before .before .before .before .before .before .before .before .before .before .before .before .before .before .args .points .now) (c .before .before .before .before .before .before .before .before .before .before .before .before .before .before .before .before .before .before .before .before .before .before .before .before .before .before .args .triplets .now)) _ (c .before .before .before .before .before .before .before .before .before .before .before .before .before .before .before .before .before .before .before .before .before .before .before .before .before .before .args .flags .now)
+    let s : _ = c .before .before .before .before .before .before .before .before .before .before .before .before .before .before .before .before .before .before .before .before .before .before .before .before .before .before in
+    ap length (c .before .before .before .fill-piece .ensures .1 .1 ∙ named-flags (studied s (s .args .grid)) (s .args .z) ((s .pre .0) .counts) (s .args .t) (s .args .b1) (s .args .b2) _ _ (length (s .args .steps .now) / 12) (c .before .before .before .before .before .before .before .before .before .before .before .before .before .before .before .before .before .before .corner-numbers .ensures ∙ ap (λ (g : ℕ). cornerNumbers (s .args .grid) (s .args .addresses .now) (s .args .gp-map .now) (s .args .steps .now) g) (c .before .before .before .before .before .before .before .before .before .before .before .before .before .before .before .before .before .before .before .before .magnitude-at .ensures)) (c .before .before .before .before .before .before .before .before .before .before .before .before .before .before .before .before .corner-numbers2 .ensures ∙ rw (second-lent (s .args .tp) (s .args .steps .now) (c .before .before .before .before .before .before .before .before .before .before .before .before .before .before .before .before .before .before .before .before .before .second-steps .result) (c .before .before .before .before .before .before .before .before .before .before .before .before .before .before .before .before .before .before .before .before .before .second-steps .ensures), c .before .before .before .before .before .before .before .before .before .before .before .before .before .before .before .before .before .before .before .magnitude-at2 .ensures)) refl (s .pre .1 .1 .0) (s .pre .1 .1 .1) (s .args .flags .now)) ∙ length-computed-flags (studied s (s .args .grid)) _ (s .args .flags .now)
 
 returns : tie.Need-returns
 returns c =
-    (c .before .before .before .fill-piece .ensures .1 .0 ∙ named-weights (study (c .before .before .before .before .before .before .before .before .before .before .before .before .before .before .before .before .before .before .before .before .before .before .before .before .before .before .args .tp) (c .before .before .before .before .before .before .before .before .before .before .before .before .before .before .before .before .before .before .before .before .before .before .before .before .before .before .args .grid) (c .before .before .before .before .before .before .before .before .before .before .before .before .before .before .before .before .before .before .before .before .before .before .before .before .before .before .args .addresses .now) (c .before .before .before .before .before .before .before .before .before .before .before .before .before .before .before .before .before .before .before .before .before .before .before .before .before .before .args .gp-map .now) (c .before .before .before .before .before .before .before .before .before .before .before .before .before .before .before .before .before .before .before .before .before .before .before .before .before .before .args .steps .now) (c .before .before .before .before .before .before .before .before .before .before .before .before .before .before .before .before .before .before .before .before .before .before .before .before .before .before .args .z .bands1) (c .before .before .before .before .before .before .before .before .before .before .before .before .before .before .before .before .before .before .before .before .before .before .before .before .before .before .args .z .bands2) (c .before .before .before .before .before .before .before .before .before .before .before .before .before .before .before .before .before .before .before .before .before .before .before .before .before .before .args .frequencies1 .now) (c .before .before .before .before .before .before .before .before .before .before .before .before .before .before .before .before .before .before .before .before .before .before .before .before .before .before .args .frequencies2 .now) (c .before .before .before .before .before .before .before .before .before .before .before .before .before .before .before .before .before .before .before .before .before .before .before .before .before .before .args .points .now) (c .before .before .before .before .before .before .before .before .before .before .before .before .before .before .before .before .before .before .before .before .before .before .before .before .before .before .args .triplets .now)) (c .before .before .before .before .before .before .before .before .before .before .before .before .before .before .before .before .before .before .before .before .before .before .before .before .before .before .args .z) ((c .before .before .before .before .before .before .before .before .before .before .before .before .before .before .before .before .before .before .before .before .before .before .before .before .before .before .pre .0) .counts) (c .before .before .before .before .before .before .before .before .before .before .before .before .before .before .before .before .before .before .before .before .before .before .before .before .before .before .args .t) (c .before .before .before .before .before .before .before .before .before .before .before .before .before .before .before .before .before .before .before .before .before .before .before .before .before .before .args .b1) (c .before .before .before .before .before .before .before .before .before .before .before .before .before .before .before .before .before .before .before .before .before .before .before .before .before .before .args .b2) _ _ (length (c .before .before .before .before .before .before .before .before .before .before .before .before .before .before .before .before .before .before .before .before .before .before .before .before .before .before .args .steps .now) / 12) (c .before .before .before .before .before .before .before .before .before .before .before .before .before .before .before .before .before .before .corner-numbers .ensures ∙ ap (λ (g : ℕ). cornerNumbers (c .before .before .before .before .before .before .before .before .before .before .before .before .before .before .before .before .before .before .before .before .before .before .before .before .before .before .args .grid) (c .before .before .before .before .before .before .before .before .before .before .before .before .before .before .before .before .before .before .before .before .before .before .before .before .before .before .args .addresses .now) (c .before .before .before .before .before .before .before .before .before .before .before .before .before .before .before .before .before .before .before .before .before .before .before .before .before .before .args .gp-map .now) (c .before .before .before .before .before .before .before .before .before .before .before .before .before .before .before .before .before .before .before .before .before .before .before .before .before .before .args .steps .now) g) (c .before .before .before .before .before .before .before .before .before .before .before .before .before .before .before .before .before .before .before .before .magnitude-at .ensures)) (c .before .before .before .before .before .before .before .before .before .before .before .before .before .before .before .before .corner-numbers2 .ensures ∙ rw (second-lent (c .before .before .before .before .before .before .before .before .before .before .before .before .before .before .before .before .before .before .before .before .before .before .before .before .before .before .args .tp) (c .before .before .before .before .before .before .before .before .before .before .before .before .before .before .before .before .before .before .before .before .before .before .before .before .before .before .args .steps .now) (c .before .before .before .before .before .before .before .before .before .before .before .before .before .before .before .before .before .before .before .before .before .second-steps .result) (c .before .before .before .before .before .before .before .before .before .before .before .before .before .before .before .before .before .before .before .before .before .second-steps .ensures), c .before .before .before .before .before .before .before .before .before .before .before .before .before .before .before .before .before .before .before .magnitude-at2 .ensures)) refl (c .before .before .before .before .before .before .before .before .before .before .before .before .before .before .before .before .before .before .before .before .before .before .before .before .before .before .pre .1 .1 .0) (c .before .before .before .before .before .before .before .before .before .before .before .before .before .before .before .before .before .before .before .before .before .before .before .before .before .before .pre .1 .1 .1) (c .before .before .before .before .before .before .before .before .before .before .before .before .before .before .before .before .before .before .before .before .before .before .before .before .before .before .args .weights .now), c .before .before .before .fill-piece .ensures .1 .1 ∙ named-flags (study (c .before .before .before .before .before .before .before .before .before .before .before .before .before .before .before .before .before .before .before .before .before .before .before .before .before .before .args .tp) (c .before .before .before .before .before .before .before .before .before .before .before .before .before .before .before .before .before .before .before .before .before .before .before .before .before .before .args .grid) (c .before .before .before .before .before .before .before .before .before .before .before .before .before .before .before .before .before .before .before .before .before .before .before .before .before .before .args .addresses .now) (c .before .before .before .before .before .before .before .before .before .before .before .before .before .before .before .before .before .before .before .before .before .before .before .before .before .before .args .gp-map .now) (c .before .before .before .before .before .before .before .before .before .before .before .before .before .before .before .before .before .before .before .before .before .before .before .before .before .before .args .steps .now) (c .before .before .before .before .before .before .before .before .before .before .before .before .before .before .before .before .before .before .before .before .before .before .before .before .before .before .args .z .bands1) (c .before .before .before .before .before .before .before .before .before .before .before .before .before .before .before .before .before .before .before .before .before .before .before .before .before .before .args .z .bands2) (c .before .before .before .before .before .before .before .before .before .before .before .before .before .before .before .before .before .before .before .before .before .before .before .before .before .before .args .frequencies1 .now) (c .before .before .before .before .before .before .before .before .before .before .before .before .before .before .before .before .before .before .before .before .before .before .before .before .before .before .args .frequencies2 .now) (c .before .before .before .before .before .before .before .before .before .before .before .before .before .before .before .before .before .before .before .before .before .before .before .before .before .before .args .points .now) (c .before .before .before .before .before .before .before .before .before .before .before .before .before .before .before .before .before .before .before .before .before .before .before .before .before .before .args .triplets .now)) (c .before .before .before .before .before .before .before .before .before .before .before .before .before .before .before .before .before .before .before .before .before .before .before .before .before .before .args .z) ((c .before .before .before .before .before .before .before .before .before .before .before .before .before .before .before .before .before .before .before .before .before .before .before .before .before .before .pre .0) .counts) (c .before .before .before .before .before .before .before .before .before .before .before .before .before .before .before .before .before .before .before .before .before .before .before .before .before .before .args .t) (c .before .before .before .before .before .before .before .before .before .before .before .before .before .before .before .before .before .before .before .before .before .before .before .before .before .before .args .b1) (c .before .before .before .before .before .before .before .before .before .before .before .before .before .before .before .before .before .before .before .before .before .before .before .before .before .before .args .b2) _ _ (length (c .before .before .before .before .before .before .before .before .before .before .before .before .before .before .before .before .before .before .before .before .before .before .before .before .before .before .args .steps .now) / 12) (c .before .before .before .before .before .before .before .before .before .before .before .before .before .before .before .before .before .before .corner-numbers .ensures ∙ ap (λ (g : ℕ). cornerNumbers (c .before .before .before .before .before .before .before .before .before .before .before .before .before .before .before .before .before .before .before .before .before .before .before .before .before .before .args .grid) (c .before .before .before .before .before .before .before .before .before .before .before .before .before .before .before .before .before .before .before .before .before .before .before .before .before .before .args .addresses .now) (c .before .before .before .before .before .before .before .before .before .before .before .before .before .before .before .before .before .before .before .before .before .before .before .before .before .before .args .gp-map .now) (c .before .before .before .before .before .before .before .before .before .before .before .before .before .before .before .before .before .before .before .before .before .before .before .before .before .before .args .steps .now) g) (c .before .before .before .before .before .before .before .before .before .before .before .before .before .before .before .before .before .before .before .before .magnitude-at .ensures)) (c .before .before .before .before .before .before .before .before .before .before .before .before .before .before .before .before .corner-numbers2 .ensures ∙ rw (second-lent (c .before .before .before .before .before .before .before .before .before .before .before .before .before .before .before .before .before .before .before .before .before .before .before .before .before .before .args .tp) (c .before .before .before .before .before .before .before .before .before .before .before .before .before .before .before .before .before .before .before .before .before .before .before .before .before .before .args .steps .now) (c .before .before .before .before .before .before .before .before .before .before .before .before .before .before .before .before .before .before .before .before .before .second-steps .result) (c .before .before .before .before .before .before .before .before .before .before .before .before .before .before .before .before .before .before .before .before .before .second-steps .ensures), c .before .before .before .before .before .before .before .before .before .before .before .before .before .before .before .before .before .before .before .magnitude-at2 .ensures)) refl (c .before .before .before .before .before .before .before .before .before .before .before .before .before .before .before .before .before .before .before .before .before .before .before .before .before .before .pre .1 .1 .0) (c .before .before .before .before .before .before .before .before .before .before .before .before .before .before .before .before .before .before .before .before .before .before .before .before .before .before .pre .1 .1 .1) (c .before .before .before .before .before .before .before .before .before .before .before .before .before .before .before .before .before .before .before .before .before .before .before .before .before .before .args .flags .now))
+    let s : _ = c .before .before .before .before .before .before .before .before .before .before .before .before .before .before .before .before .before .before .before .before .before .before .before .before .before .before in (
+      c .before .before .before .fill-piece .ensures .1 .0 ∙ named-weights (studied s (s .args .grid)) (s .args .z) ((s .pre .0) .counts) (s .args .t) (s .args .b1) (s .args .b2) _ _ (length (s .args .steps .now) / 12) (c .before .before .before .before .before .before .before .before .before .before .before .before .before .before .before .before .before .before .corner-numbers .ensures ∙ ap (λ (g : ℕ). cornerNumbers (s .args .grid) (s .args .addresses .now) (s .args .gp-map .now) (s .args .steps .now) g) (c .before .before .before .before .before .before .before .before .before .before .before .before .before .before .before .before .before .before .before .before .magnitude-at .ensures)) (c .before .before .before .before .before .before .before .before .before .before .before .before .before .before .before .before .corner-numbers2 .ensures ∙ rw (second-lent (s .args .tp) (s .args .steps .now) (c .before .before .before .before .before .before .before .before .before .before .before .before .before .before .before .before .before .before .before .before .before .second-steps .result) (c .before .before .before .before .before .before .before .before .before .before .before .before .before .before .before .before .before .before .before .before .before .second-steps .ensures), c .before .before .before .before .before .before .before .before .before .before .before .before .before .before .before .before .before .before .before .magnitude-at2 .ensures)) refl (s .pre .1 .1 .0) (s .pre .1 .1 .1) (s .args .weights .now),
+      c .before .before .before .fill-piece .ensures .1 .1 ∙ named-flags (studied s (s .args .grid)) (s .args .z) ((s .pre .0) .counts) (s .args .t) (s .args .b1) (s .args .b2) _ _ (length (s .args .steps .now) / 12) (c .before .before .before .before .before .before .before .before .before .before .before .before .before .before .before .before .before .before .corner-numbers .ensures ∙ ap (λ (g : ℕ). cornerNumbers (s .args .grid) (s .args .addresses .now) (s .args .gp-map .now) (s .args .steps .now) g) (c .before .before .before .before .before .before .before .before .before .before .before .before .before .before .before .before .before .before .before .before .magnitude-at .ensures)) (c .before .before .before .before .before .before .before .before .before .before .before .before .before .before .before .before .corner-numbers2 .ensures ∙ rw (second-lent (s .args .tp) (s .args .steps .now) (c .before .before .before .before .before .before .before .before .before .before .before .before .before .before .before .before .before .before .before .before .before .second-steps .result) (c .before .before .before .before .before .before .before .before .before .before .before .before .before .before .before .before .before .before .before .before .before .second-steps .ensures), c .before .before .before .before .before .before .before .before .before .before .before .before .before .before .before .before .before .before .before .magnitude-at2 .ensures)) refl (s .pre .1 .1 .0) (s .pre .1 .1 .1) (s .args .flags .now),
+    )
 
 pub fill-named-spec : {M : Type 1} → statement M
 fill-named-spec =

@@ -27,7 +27,9 @@ is-below-requires c κs =
 returns : tie.Need-returns
 unfolding firstNo areIdLists
 returns c =
-    let b : c .before .is-below .result ≡ isBelow (c .before .before .before .before .args .triplet) ((c .before .before .before .before .args .z) .triplets) = c .before .is-below .ensures ∙ ap (λ (t : ℤ). isBelow t ((c .before .before .before .before .args .z) .triplets)) (toZ-ofZ w64 (c .before .before .before .before .args .triplet) (c .before .before .before .before .fits .triplet)) in rw (no-of b (c .if1 .taken))
+    let s : _ = c .before .before .before .before in
+    let b : c .before .is-below .result ≡ isBelow (s .args .triplet) ((s .args .z) .triplets) = c .before .is-below .ensures ∙ ap (λ (t : ℤ). isBelow t ((s .args .z) .triplets)) (toZ-ofZ w64 (s .args .triplet) (s .fits .triplet)) in
+    rw (no-of b (c .if1 .taken))
 
 magnitude-requires : tie.Need-magnitude-requires
 magnitude-requires c κs =
@@ -35,17 +37,29 @@ magnitude-requires c κs =
 
 not-averaged-requires : tie.Need-not-averaged-requires
 not-averaged-requires c κs =
-    let b : c .before .before .is-below .result ≡ isBelow (c .before .before .before .before .before .args .triplet) ((c .before .before .before .before .before .args .z) .triplets) = c .before .before .is-below .ensures ∙ ap (λ (t : ℤ). isBelow t ((c .before .before .before .before .before .args .z) .triplets)) (toZ-ofZ w64 (c .before .before .before .before .before .args .triplet) (c .before .before .before .before .before .fits .triplet)) in let tn : c .magnitude .result ≡ mag (c .before .before .before .before .before .args .triplet) = c .magnitude .ensures ∙ ap mag (toZ-ofZ w64 (c .before .before .before .before .before .args .triplet) (c .before .before .before .before .before .fits .triplet)) in let i : mag (c .before .before .before .before .before .args .triplet) < (c .before .before .before .before .before .args .z) .triplets = below-lt (c .before .before .before .before .before .args .triplet) ((c .before .before .before .before .before .args .z) .triplets) (yes-of b (c .before .if1 .left)) in let m : mag (c .before .before .before .before .before .args .triplet) * (c .before .before .before .before .before .args .z) .pairs + (c .before .before .before .before .before .args .z) .pairs ≤ length (c .before .before .before .before .before .args .marks .now) = marks-place (c .before .before .before .before .before .args .z) (c .before .before .before .before .before .pre .0) (mag (c .before .before .before .before .before .args .triplet)) (length (c .before .before .before .before .before .args .marks .now)) i (c .before .before .before .before .before .pre .1 .1) in let o : 1 ≤ (c .before .before .before .before .before .args .z) .pairs = c .before .before .before .before .before .pre .0 .pairs-some in rw tn (let l : mag (c .before .before .before .before .before .args .triplet) * (c .before .before .before .before .before .args .z) .pairs < length (c .before .before .before .before .before .args .marks .now) = omega arith in l)
+    let s : _ = c .before .before .before .before .before in
+    let b : c .before .before .is-below .result ≡ isBelow (s .args .triplet) ((s .args .z) .triplets) = c .before .before .is-below .ensures ∙ ap (λ (t : ℤ). isBelow t ((s .args .z) .triplets)) (toZ-ofZ w64 (s .args .triplet) (s .fits .triplet)) in
+    let tn : c .magnitude .result ≡ mag (s .args .triplet) = c .magnitude .ensures ∙ ap mag (toZ-ofZ w64 (s .args .triplet) (s .fits .triplet)) in
+    let i : mag (s .args .triplet) < (s .args .z) .triplets = below-lt (s .args .triplet) ((s .args .z) .triplets) (yes-of b (c .before .if1 .left)) in
+    let m : mag (s .args .triplet) * (s .args .z) .pairs + (s .args .z) .pairs ≤ length (s .args .marks .now) = marks-place (s .args .z) (s .pre .0) (mag (s .args .triplet)) (length (s .args .marks .now)) i (s .pre .1 .1) in
+    let o : 1 ≤ (s .args .z) .pairs = s .pre .0 .pairs-some in
+    rw tn (let l : mag (s .args .triplet) * (s .args .z) .pairs < length (s .args .marks .now) = omega arith in l)
 
 returns-2 : tie.Need-returns-2
 unfolding firstNo areIdLists
 returns-2 c =
-    let b : c .before .before .before .before .is-below .result ≡ isBelow (c .before .before .before .before .before .before .before .args .triplet) ((c .before .before .before .before .before .before .before .args .z) .triplets) = c .before .before .before .before .is-below .ensures ∙ ap (λ (t : ℤ). isBelow t ((c .before .before .before .before .before .before .before .args .z) .triplets)) (toZ-ofZ w64 (c .before .before .before .before .before .before .before .args .triplet) (c .before .before .before .before .before .before .before .fits .triplet)) in let tn : c .before .before .magnitude .result ≡ mag (c .before .before .before .before .before .before .before .args .triplet) = c .before .before .magnitude .ensures ∙ ap mag (toZ-ofZ w64 (c .before .before .before .before .before .before .before .args .triplet) (c .before .before .before .before .before .before .before .fits .triplet)) in rw (yes-of b (c .before .before .before .if1 .left), no-of {q = isNotAveraged (c .before .before .before .before .before .before .before .args .z .pairs) (c .before .before .before .before .before .before .before .args .marks .now) (mag (c .before .before .before .before .before .before .before .args .triplet))} (c .before .not-averaged .ensures ∙ rw tn) (c .if2 .taken))
+    let s : _ = c .before .before .before .before .before .before .before in
+    let b : c .before .before .before .before .is-below .result ≡ isBelow (s .args .triplet) ((s .args .z) .triplets) = c .before .before .before .before .is-below .ensures ∙ ap (λ (t : ℤ). isBelow t ((s .args .z) .triplets)) (toZ-ofZ w64 (s .args .triplet) (s .fits .triplet)) in
+    let tn : c .before .before .magnitude .result ≡ mag (s .args .triplet) = c .before .before .magnitude .ensures ∙ ap mag (toZ-ofZ w64 (s .args .triplet) (s .fits .triplet)) in
+    rw (yes-of b (c .before .before .before .if1 .left), no-of {q = isNotAveraged (s .args .z .pairs) (s .args .marks .now) (mag (s .args .triplet))} (c .before .not-averaged .ensures ∙ rw tn) (c .if2 .taken))
 
 returns-3 : tie.Need-returns-3
 unfolding firstNo areIdLists
 returns-3 c =
-    let b : c .before .before .before .before .before .before .is-below .result ≡ isBelow (c .before .before .before .before .before .before .before .before .before .args .triplet) ((c .before .before .before .before .before .before .before .before .before .args .z) .triplets) = c .before .before .before .before .before .before .is-below .ensures ∙ ap (λ (t : ℤ). isBelow t ((c .before .before .before .before .before .before .before .before .before .args .z) .triplets)) (toZ-ofZ w64 (c .before .before .before .before .before .before .before .before .before .args .triplet) (c .before .before .before .before .before .before .before .before .before .fits .triplet)) in let tn : c .before .before .before .before .magnitude .result ≡ mag (c .before .before .before .before .before .before .before .before .before .args .triplet) = c .before .before .before .before .magnitude .ensures ∙ ap mag (toZ-ofZ w64 (c .before .before .before .before .before .before .before .before .before .args .triplet) (c .before .before .before .before .before .before .before .before .before .fits .triplet)) in rw (yes-of b (c .before .before .before .before .before .if1 .left), yes-of {q = isNotAveraged (c .before .before .before .before .before .before .before .before .before .args .z .pairs) (c .before .before .before .before .before .before .before .before .before .args .marks .now) (mag (c .before .before .before .before .before .before .before .before .before .args .triplet))} (c .before .before .before .not-averaged .ensures ∙ rw tn) (c .before .before .if2 .left), ne-eqb _ _ (c .if3 .taken))
+    let s : _ = c .before .before .before .before .before .before .before .before .before in
+    let b : c .before .before .before .before .before .before .is-below .result ≡ isBelow (s .args .triplet) ((s .args .z) .triplets) = c .before .before .before .before .before .before .is-below .ensures ∙ ap (λ (t : ℤ). isBelow t ((s .args .z) .triplets)) (toZ-ofZ w64 (s .args .triplet) (s .fits .triplet)) in
+    let tn : c .before .before .before .before .magnitude .result ≡ mag (s .args .triplet) = c .before .before .before .before .magnitude .ensures ∙ ap mag (toZ-ofZ w64 (s .args .triplet) (s .fits .triplet)) in
+    rw (yes-of b (c .before .before .before .before .before .if1 .left), yes-of {q = isNotAveraged (s .args .z .pairs) (s .args .marks .now) (mag (s .args .triplet))} (c .before .before .before .not-averaged .ensures ∙ rw tn) (c .before .before .if2 .left), ne-eqb _ _ (c .if3 .taken))
 
 degenerate-ids-ok-requires : tie.Need-degenerate-ids-ok-requires
 degenerate-ids-ok-requires c κs =
@@ -58,30 +72,58 @@ degenerate-ids-ok-requires-2 c κs =
 returns-4 : tie.Need-returns-4
 unfolding firstNo areIdLists
 returns-4 c =
-    let b : c .before .before .before .before .before .before .before .before .before .is-below .result ≡ isBelow (c .before .before .before .before .before .before .before .before .before .before .before .before .args .triplet) ((c .before .before .before .before .before .before .before .before .before .before .before .before .args .z) .triplets) = c .before .before .before .before .before .before .before .before .before .is-below .ensures ∙ ap (λ (t : ℤ). isBelow t ((c .before .before .before .before .before .before .before .before .before .before .before .before .args .z) .triplets)) (toZ-ofZ w64 (c .before .before .before .before .before .before .before .before .before .before .before .before .args .triplet) (c .before .before .before .before .before .before .before .before .before .before .before .before .fits .triplet)) in let tn : c .before .before .before .before .before .before .before .magnitude .result ≡ mag (c .before .before .before .before .before .before .before .before .before .before .before .before .args .triplet) = c .before .before .before .before .before .before .before .magnitude .ensures ∙ ap mag (toZ-ofZ w64 (c .before .before .before .before .before .before .before .before .before .before .before .before .args .triplet) (c .before .before .before .before .before .before .before .before .before .before .before .before .fits .triplet)) in let d : (c .before .before .degenerate-ids-ok .result && c .before .degenerate-ids-ok2 .result) ≡ areIdLists (c .before .before .before .before .before .before .before .before .before .before .before .before .args .z .bands1) (c .before .before .before .before .before .before .before .before .before .before .before .before .args .degenerate-ids1 .now) (c .before .before .before .before .before .before .before .before .before .before .before .before .args .degenerate-ids2 .now) = rw (c .before .before .degenerate-ids-ok .ensures, c .before .degenerate-ids-ok2 .ensures) in rw (yes-of b (c .before .before .before .before .before .before .before .before .if1 .left), yes-of {q = isNotAveraged (c .before .before .before .before .before .before .before .before .before .before .before .before .args .z .pairs) (c .before .before .before .before .before .before .before .before .before .before .before .before .args .marks .now) (mag (c .before .before .before .before .before .before .before .before .before .before .before .before .args .triplet))} (c .before .before .before .before .before .before .not-averaged .ensures ∙ rw tn) (c .before .before .before .before .before .if2 .left), eq-eqb _ _ (c .before .before .before .if3 .left), no-of d (c .if4 .taken))
+    let s : _ = c .before .before .before .before .before .before .before .before .before .before .before .before in
+    let b : c .before .before .before .before .before .before .before .before .before .is-below .result ≡ isBelow (s .args .triplet) ((s .args .z) .triplets) = c .before .before .before .before .before .before .before .before .before .is-below .ensures ∙ ap (λ (t : ℤ). isBelow t ((s .args .z) .triplets)) (toZ-ofZ w64 (s .args .triplet) (s .fits .triplet)) in
+    let tn : c .before .before .before .before .before .before .before .magnitude .result ≡ mag (s .args .triplet) = c .before .before .before .before .before .before .before .magnitude .ensures ∙ ap mag (toZ-ofZ w64 (s .args .triplet) (s .fits .triplet)) in
+    let d : (c .before .before .degenerate-ids-ok .result && c .before .degenerate-ids-ok2 .result) ≡ areIdLists (s .args .z .bands1) (s .args .degenerate-ids1 .now) (s .args .degenerate-ids2 .now) = rw (c .before .before .degenerate-ids-ok .ensures, c .before .degenerate-ids-ok2 .ensures) in
+    rw (yes-of b (c .before .before .before .before .before .before .before .before .if1 .left), yes-of {q = isNotAveraged (s .args .z .pairs) (s .args .marks .now) (mag (s .args .triplet))} (c .before .before .before .before .before .before .not-averaged .ensures ∙ rw tn) (c .before .before .before .before .before .if2 .left), eq-eqb _ _ (c .before .before .before .if3 .left), no-of d (c .if4 .taken))
 
 all-computed-requires : tie.Need-all-computed-requires
 all-computed-requires c κs =
-    let b : c .before .before .before .before .before .before .before .before .before .is-below .result ≡ isBelow (c .before .before .before .before .before .before .before .before .before .before .before .before .args .triplet) ((c .before .before .before .before .before .before .before .before .before .before .before .before .args .z) .triplets) = c .before .before .before .before .before .before .before .before .before .is-below .ensures ∙ ap (λ (t : ℤ). isBelow t ((c .before .before .before .before .before .before .before .before .before .before .before .before .args .z) .triplets)) (toZ-ofZ w64 (c .before .before .before .before .before .before .before .before .before .before .before .before .args .triplet) (c .before .before .before .before .before .before .before .before .before .before .before .before .fits .triplet)) in let tn : c .before .before .before .before .before .before .before .magnitude .result ≡ mag (c .before .before .before .before .before .before .before .before .before .before .before .before .args .triplet) = c .before .before .before .before .before .before .before .magnitude .ensures ∙ ap mag (toZ-ofZ w64 (c .before .before .before .before .before .before .before .before .before .before .before .before .args .triplet) (c .before .before .before .before .before .before .before .before .before .before .before .before .fits .triplet)) in let i : mag (c .before .before .before .before .before .before .before .before .before .before .before .before .args .triplet) < (c .before .before .before .before .before .before .before .before .before .before .before .before .args .z) .triplets = below-lt (c .before .before .before .before .before .before .before .before .before .before .before .before .args .triplet) ((c .before .before .before .before .before .before .before .before .before .before .before .before .args .z) .triplets) (yes-of b (c .before .before .before .before .before .before .before .before .if1 .left)) in let m : mag (c .before .before .before .before .before .before .before .before .before .before .before .before .args .triplet) * (c .before .before .before .before .before .before .before .before .before .before .before .before .args .z) .pairs + (c .before .before .before .before .before .before .before .before .before .before .before .before .args .z) .pairs ≤ length (c .before .before .before .before .before .before .before .before .before .before .before .before .args .marks .now) = marks-place (c .before .before .before .before .before .before .before .before .before .before .before .before .args .z) (c .before .before .before .before .before .before .before .before .before .before .before .before .pre .0) (mag (c .before .before .before .before .before .before .before .before .before .before .before .before .args .triplet)) (length (c .before .before .before .before .before .before .before .before .before .before .before .before .args .marks .now)) i (c .before .before .before .before .before .before .before .before .before .before .before .before .pre .1 .1) in let o : 1 ≤ (c .before .before .before .before .before .before .before .before .before .before .before .before .args .z) .pairs = c .before .before .before .before .before .before .before .before .before .before .before .before .pre .0 .pairs-some in rw tn m
+    let s : _ = c .before .before .before .before .before .before .before .before .before .before .before .before in
+    let b : c .before .before .before .before .before .before .before .before .before .is-below .result ≡ isBelow (s .args .triplet) ((s .args .z) .triplets) = c .before .before .before .before .before .before .before .before .before .is-below .ensures ∙ ap (λ (t : ℤ). isBelow t ((s .args .z) .triplets)) (toZ-ofZ w64 (s .args .triplet) (s .fits .triplet)) in
+    let tn : c .before .before .before .before .before .before .before .magnitude .result ≡ mag (s .args .triplet) = c .before .before .before .before .before .before .before .magnitude .ensures ∙ ap mag (toZ-ofZ w64 (s .args .triplet) (s .fits .triplet)) in
+    let i : mag (s .args .triplet) < (s .args .z) .triplets = below-lt (s .args .triplet) ((s .args .z) .triplets) (yes-of b (c .before .before .before .before .before .before .before .before .if1 .left)) in
+    let m : mag (s .args .triplet) * (s .args .z) .pairs + (s .args .z) .pairs ≤ length (s .args .marks .now) = marks-place (s .args .z) (s .pre .0) (mag (s .args .triplet)) (length (s .args .marks .now)) i (s .pre .1 .1) in
+    let o : 1 ≤ (s .args .z) .pairs = s .pre .0 .pairs-some in
+    rw tn m
 
 returns-5 : tie.Need-returns-5
 unfolding firstNo areIdLists
 returns-5 c =
-    let b : c .before .before .before .before .before .before .before .before .before .before .before .is-below .result ≡ isBelow (c .before .before .before .before .before .before .before .before .before .before .before .before .before .before .args .triplet) ((c .before .before .before .before .before .before .before .before .before .before .before .before .before .before .args .z) .triplets) = c .before .before .before .before .before .before .before .before .before .before .before .is-below .ensures ∙ ap (λ (t : ℤ). isBelow t ((c .before .before .before .before .before .before .before .before .before .before .before .before .before .before .args .z) .triplets)) (toZ-ofZ w64 (c .before .before .before .before .before .before .before .before .before .before .before .before .before .before .args .triplet) (c .before .before .before .before .before .before .before .before .before .before .before .before .before .before .fits .triplet)) in let tn : c .before .before .before .before .before .before .before .before .before .magnitude .result ≡ mag (c .before .before .before .before .before .before .before .before .before .before .before .before .before .before .args .triplet) = c .before .before .before .before .before .before .before .before .before .magnitude .ensures ∙ ap mag (toZ-ofZ w64 (c .before .before .before .before .before .before .before .before .before .before .before .before .before .before .args .triplet) (c .before .before .before .before .before .before .before .before .before .before .before .before .before .before .fits .triplet)) in let d : (c .before .before .before .before .degenerate-ids-ok .result && c .before .before .before .degenerate-ids-ok2 .result) ≡ areIdLists (c .before .before .before .before .before .before .before .before .before .before .before .before .before .before .args .z .bands1) (c .before .before .before .before .before .before .before .before .before .before .before .before .before .before .args .degenerate-ids1 .now) (c .before .before .before .before .before .before .before .before .before .before .before .before .before .before .args .degenerate-ids2 .now) = rw (c .before .before .before .before .degenerate-ids-ok .ensures, c .before .before .before .degenerate-ids-ok2 .ensures) in rw (yes-of b (c .before .before .before .before .before .before .before .before .before .before .if1 .left), yes-of {q = isNotAveraged (c .before .before .before .before .before .before .before .before .before .before .before .before .before .before .args .z .pairs) (c .before .before .before .before .before .before .before .before .before .before .before .before .before .before .args .marks .now) (mag (c .before .before .before .before .before .before .before .before .before .before .before .before .before .before .args .triplet))} (c .before .before .before .before .before .before .before .before .not-averaged .ensures ∙ rw tn) (c .before .before .before .before .before .before .before .if2 .left), eq-eqb _ _ (c .before .before .before .before .before .if3 .left), yes-of d (c .before .before .if4 .left), no-of {q = areComputed (c .before .before .before .before .before .before .before .before .before .before .before .before .before .before .args .z .pairs) (c .before .before .before .before .before .before .before .before .before .before .before .before .before .before .args .marks .now) (mag (c .before .before .before .before .before .before .before .before .before .before .before .before .before .before .args .triplet))} (c .before .all-computed .ensures ∙ rw tn) (c .if5 .taken))
+    let s : _ = c .before .before .before .before .before .before .before .before .before .before .before .before .before .before in
+    let b : c .before .before .before .before .before .before .before .before .before .before .before .is-below .result ≡ isBelow (s .args .triplet) ((s .args .z) .triplets) = c .before .before .before .before .before .before .before .before .before .before .before .is-below .ensures ∙ ap (λ (t : ℤ). isBelow t ((s .args .z) .triplets)) (toZ-ofZ w64 (s .args .triplet) (s .fits .triplet)) in
+    let tn : c .before .before .before .before .before .before .before .before .before .magnitude .result ≡ mag (s .args .triplet) = c .before .before .before .before .before .before .before .before .before .magnitude .ensures ∙ ap mag (toZ-ofZ w64 (s .args .triplet) (s .fits .triplet)) in
+    let d : (c .before .before .before .before .degenerate-ids-ok .result && c .before .before .before .degenerate-ids-ok2 .result) ≡ areIdLists (s .args .z .bands1) (s .args .degenerate-ids1 .now) (s .args .degenerate-ids2 .now) = rw (c .before .before .before .before .degenerate-ids-ok .ensures, c .before .before .before .degenerate-ids-ok2 .ensures) in
+    rw (yes-of b (c .before .before .before .before .before .before .before .before .before .before .if1 .left), yes-of {q = isNotAveraged (s .args .z .pairs) (s .args .marks .now) (mag (s .args .triplet))} (c .before .before .before .before .before .before .before .before .not-averaged .ensures ∙ rw tn) (c .before .before .before .before .before .before .before .if2 .left), eq-eqb _ _ (c .before .before .before .before .before .if3 .left), yes-of d (c .before .before .if4 .left), no-of {q = areComputed (s .args .z .pairs) (s .args .marks .now) (mag (s .args .triplet))} (c .before .all-computed .ensures ∙ rw tn) (c .if5 .taken))
 
 triplet-weights-ok-requires : tie.Need-triplet-weights-ok-requires
 triplet-weights-ok-requires c κs =
-    let b : c .before .before .before .before .before .before .before .before .before .before .before .is-below .result ≡ isBelow (c .before .before .before .before .before .before .before .before .before .before .before .before .before .before .args .triplet) ((c .before .before .before .before .before .before .before .before .before .before .before .before .before .before .args .z) .triplets) = c .before .before .before .before .before .before .before .before .before .before .before .is-below .ensures ∙ ap (λ (t : ℤ). isBelow t ((c .before .before .before .before .before .before .before .before .before .before .before .before .before .before .args .z) .triplets)) (toZ-ofZ w64 (c .before .before .before .before .before .before .before .before .before .before .before .before .before .before .args .triplet) (c .before .before .before .before .before .before .before .before .before .before .before .before .before .before .fits .triplet)) in let tn : c .before .before .before .before .before .before .before .before .before .magnitude .result ≡ mag (c .before .before .before .before .before .before .before .before .before .before .before .before .before .before .args .triplet) = c .before .before .before .before .before .before .before .before .before .magnitude .ensures ∙ ap mag (toZ-ofZ w64 (c .before .before .before .before .before .before .before .before .before .before .before .before .before .before .args .triplet) (c .before .before .before .before .before .before .before .before .before .before .before .before .before .before .fits .triplet)) in let i : mag (c .before .before .before .before .before .before .before .before .before .before .before .before .before .before .args .triplet) < (c .before .before .before .before .before .before .before .before .before .before .before .before .before .before .args .z) .triplets = below-lt (c .before .before .before .before .before .before .before .before .before .before .before .before .before .before .args .triplet) ((c .before .before .before .before .before .before .before .before .before .before .before .before .before .before .args .z) .triplets) (yes-of b (c .before .before .before .before .before .before .before .before .before .before .if1 .left)) in let m : mag (c .before .before .before .before .before .before .before .before .before .before .before .before .before .before .args .triplet) * (c .before .before .before .before .before .before .before .before .before .before .before .before .before .before .args .z) .pairs + (c .before .before .before .before .before .before .before .before .before .before .before .before .before .before .args .z) .pairs ≤ length (c .before .before .before .before .before .before .before .before .before .before .before .before .before .before .args .marks .now) = marks-place (c .before .before .before .before .before .before .before .before .before .before .before .before .before .before .args .z) (c .before .before .before .before .before .before .before .before .before .before .before .before .before .before .pre .0) (mag (c .before .before .before .before .before .before .before .before .before .before .before .before .before .before .args .triplet)) (length (c .before .before .before .before .before .before .before .before .before .before .before .before .before .before .args .marks .now)) i (c .before .before .before .before .before .before .before .before .before .before .before .before .before .before .pre .1 .1) in let o : 1 ≤ (c .before .before .before .before .before .before .before .before .before .before .before .before .before .before .args .z) .pairs = c .before .before .before .before .before .before .before .before .before .before .before .before .before .before .pre .0 .pairs-some in (c .before .before .before .before .before .before .before .before .before .before .before .before .before .before .pre .0, (rw tn i, c .before .before .before .before .before .before .before .before .before .before .before .before .before .before .pre .1 .0))
+    let s : _ = c .before .before .before .before .before .before .before .before .before .before .before .before .before .before in
+    let b : c .before .before .before .before .before .before .before .before .before .before .before .is-below .result ≡ isBelow (s .args .triplet) ((s .args .z) .triplets) = c .before .before .before .before .before .before .before .before .before .before .before .is-below .ensures ∙ ap (λ (t : ℤ). isBelow t ((s .args .z) .triplets)) (toZ-ofZ w64 (s .args .triplet) (s .fits .triplet)) in
+    let tn : c .before .before .before .before .before .before .before .before .before .magnitude .result ≡ mag (s .args .triplet) = c .before .before .before .before .before .before .before .before .before .magnitude .ensures ∙ ap mag (toZ-ofZ w64 (s .args .triplet) (s .fits .triplet)) in
+    let i : mag (s .args .triplet) < (s .args .z) .triplets = below-lt (s .args .triplet) ((s .args .z) .triplets) (yes-of b (c .before .before .before .before .before .before .before .before .before .before .if1 .left)) in
+    let m : mag (s .args .triplet) * (s .args .z) .pairs + (s .args .z) .pairs ≤ length (s .args .marks .now) = marks-place (s .args .z) (s .pre .0) (mag (s .args .triplet)) (length (s .args .marks .now)) i (s .pre .1 .1) in
+    let o : 1 ≤ (s .args .z) .pairs = s .pre .0 .pairs-some in
+    (s .pre .0, (rw tn i, s .pre .1 .0))
 
 returns-6 : tie.Need-returns-6
 unfolding firstNo areIdLists
 returns-6 c =
-    let b : c .before .before .before .before .before .before .before .before .before .before .before .before .before .is-below .result ≡ isBelow (c .before .before .before .before .before .before .before .before .before .before .before .before .before .before .before .before .args .triplet) ((c .before .before .before .before .before .before .before .before .before .before .before .before .before .before .before .before .args .z) .triplets) = c .before .before .before .before .before .before .before .before .before .before .before .before .before .is-below .ensures ∙ ap (λ (t : ℤ). isBelow t ((c .before .before .before .before .before .before .before .before .before .before .before .before .before .before .before .before .args .z) .triplets)) (toZ-ofZ w64 (c .before .before .before .before .before .before .before .before .before .before .before .before .before .before .before .before .args .triplet) (c .before .before .before .before .before .before .before .before .before .before .before .before .before .before .before .before .fits .triplet)) in let tn : c .before .before .before .before .before .before .before .before .before .before .before .magnitude .result ≡ mag (c .before .before .before .before .before .before .before .before .before .before .before .before .before .before .before .before .args .triplet) = c .before .before .before .before .before .before .before .before .before .before .before .magnitude .ensures ∙ ap mag (toZ-ofZ w64 (c .before .before .before .before .before .before .before .before .before .before .before .before .before .before .before .before .args .triplet) (c .before .before .before .before .before .before .before .before .before .before .before .before .before .before .before .before .fits .triplet)) in let d : (c .before .before .before .before .before .before .degenerate-ids-ok .result && c .before .before .before .before .before .degenerate-ids-ok2 .result) ≡ areIdLists (c .before .before .before .before .before .before .before .before .before .before .before .before .before .before .before .before .args .z .bands1) (c .before .before .before .before .before .before .before .before .before .before .before .before .before .before .before .before .args .degenerate-ids1 .now) (c .before .before .before .before .before .before .before .before .before .before .before .before .before .before .before .before .args .degenerate-ids2 .now) = rw (c .before .before .before .before .before .before .degenerate-ids-ok .ensures, c .before .before .before .before .before .degenerate-ids-ok2 .ensures) in rw (yes-of b (c .before .before .before .before .before .before .before .before .before .before .before .before .if1 .left), yes-of {q = isNotAveraged (c .before .before .before .before .before .before .before .before .before .before .before .before .before .before .before .before .args .z .pairs) (c .before .before .before .before .before .before .before .before .before .before .before .before .before .before .before .before .args .marks .now) (mag (c .before .before .before .before .before .before .before .before .before .before .before .before .before .before .before .before .args .triplet))} (c .before .before .before .before .before .before .before .before .before .before .not-averaged .ensures ∙ rw tn) (c .before .before .before .before .before .before .before .before .before .if2 .left), eq-eqb _ _ (c .before .before .before .before .before .before .before .if3 .left), yes-of d (c .before .before .before .before .if4 .left), yes-of {q = areComputed (c .before .before .before .before .before .before .before .before .before .before .before .before .before .before .before .before .args .z .pairs) (c .before .before .before .before .before .before .before .before .before .before .before .before .before .before .before .before .args .marks .now) (mag (c .before .before .before .before .before .before .before .before .before .before .before .before .before .before .before .before .args .triplet))} (c .before .before .before .all-computed .ensures ∙ rw tn) (c .before .before .if5 .left), no-of {q = areTripletWeights (c .before .before .before .before .before .before .before .before .before .before .before .before .before .before .before .before .args .z) (mag (c .before .before .before .before .before .before .before .before .before .before .before .before .before .before .before .before .args .triplet)) (c .before .before .before .before .before .before .before .before .before .before .before .before .before .before .before .before .args .weights .now)} (c .before .triplet-weights-ok .ensures ∙ rw tn) (c .if6 .taken))
+    let s : _ = c .before .before .before .before .before .before .before .before .before .before .before .before .before .before .before .before in
+    let b : c .before .before .before .before .before .before .before .before .before .before .before .before .before .is-below .result ≡ isBelow (s .args .triplet) ((s .args .z) .triplets) = c .before .before .before .before .before .before .before .before .before .before .before .before .before .is-below .ensures ∙ ap (λ (t : ℤ). isBelow t ((s .args .z) .triplets)) (toZ-ofZ w64 (s .args .triplet) (s .fits .triplet)) in
+    let tn : c .before .before .before .before .before .before .before .before .before .before .before .magnitude .result ≡ mag (s .args .triplet) = c .before .before .before .before .before .before .before .before .before .before .before .magnitude .ensures ∙ ap mag (toZ-ofZ w64 (s .args .triplet) (s .fits .triplet)) in
+    let d : (c .before .before .before .before .before .before .degenerate-ids-ok .result && c .before .before .before .before .before .degenerate-ids-ok2 .result) ≡ areIdLists (s .args .z .bands1) (s .args .degenerate-ids1 .now) (s .args .degenerate-ids2 .now) = rw (c .before .before .before .before .before .before .degenerate-ids-ok .ensures, c .before .before .before .before .before .degenerate-ids-ok2 .ensures) in
+    rw (yes-of b (c .before .before .before .before .before .before .before .before .before .before .before .before .if1 .left), yes-of {q = isNotAveraged (s .args .z .pairs) (s .args .marks .now) (mag (s .args .triplet))} (c .before .before .before .before .before .before .before .before .before .before .not-averaged .ensures ∙ rw tn) (c .before .before .before .before .before .before .before .before .before .if2 .left), eq-eqb _ _ (c .before .before .before .before .before .before .before .if3 .left), yes-of d (c .before .before .before .before .if4 .left), yes-of {q = areComputed (s .args .z .pairs) (s .args .marks .now) (mag (s .args .triplet))} (c .before .before .before .all-computed .ensures ∙ rw tn) (c .before .before .if5 .left), no-of {q = areTripletWeights (s .args .z) (mag (s .args .triplet)) (s .args .weights .now)} (c .before .triplet-weights-ok .ensures ∙ rw tn) (c .if6 .taken))
 
 returns-7 : tie.Need-returns-7
 unfolding firstNo areIdLists
 returns-7 c =
-    let b : c .before .before .before .before .before .before .before .before .before .before .before .before .before .is-below .result ≡ isBelow (c .before .before .before .before .before .before .before .before .before .before .before .before .before .before .before .before .args .triplet) ((c .before .before .before .before .before .before .before .before .before .before .before .before .before .before .before .before .args .z) .triplets) = c .before .before .before .before .before .before .before .before .before .before .before .before .before .is-below .ensures ∙ ap (λ (t : ℤ). isBelow t ((c .before .before .before .before .before .before .before .before .before .before .before .before .before .before .before .before .args .z) .triplets)) (toZ-ofZ w64 (c .before .before .before .before .before .before .before .before .before .before .before .before .before .before .before .before .args .triplet) (c .before .before .before .before .before .before .before .before .before .before .before .before .before .before .before .before .fits .triplet)) in let tn : c .before .before .before .before .before .before .before .before .before .before .before .magnitude .result ≡ mag (c .before .before .before .before .before .before .before .before .before .before .before .before .before .before .before .before .args .triplet) = c .before .before .before .before .before .before .before .before .before .before .before .magnitude .ensures ∙ ap mag (toZ-ofZ w64 (c .before .before .before .before .before .before .before .before .before .before .before .before .before .before .before .before .args .triplet) (c .before .before .before .before .before .before .before .before .before .before .before .before .before .before .before .before .fits .triplet)) in let d : (c .before .before .before .before .before .before .degenerate-ids-ok .result && c .before .before .before .before .before .degenerate-ids-ok2 .result) ≡ areIdLists (c .before .before .before .before .before .before .before .before .before .before .before .before .before .before .before .before .args .z .bands1) (c .before .before .before .before .before .before .before .before .before .before .before .before .before .before .before .before .args .degenerate-ids1 .now) (c .before .before .before .before .before .before .before .before .before .before .before .before .before .before .before .before .args .degenerate-ids2 .now) = rw (c .before .before .before .before .before .before .degenerate-ids-ok .ensures, c .before .before .before .before .before .degenerate-ids-ok2 .ensures) in rw (yes-of b (c .before .before .before .before .before .before .before .before .before .before .before .before .if1 .left), yes-of {q = isNotAveraged (c .before .before .before .before .before .before .before .before .before .before .before .before .before .before .before .before .args .z .pairs) (c .before .before .before .before .before .before .before .before .before .before .before .before .before .before .before .before .args .marks .now) (mag (c .before .before .before .before .before .before .before .before .before .before .before .before .before .before .before .before .args .triplet))} (c .before .before .before .before .before .before .before .before .before .before .not-averaged .ensures ∙ rw tn) (c .before .before .before .before .before .before .before .before .before .if2 .left), eq-eqb _ _ (c .before .before .before .before .before .before .before .if3 .left), yes-of d (c .before .before .before .before .if4 .left), yes-of {q = areComputed (c .before .before .before .before .before .before .before .before .before .before .before .before .before .before .before .before .args .z .pairs) (c .before .before .before .before .before .before .before .before .before .before .before .before .before .before .before .before .args .marks .now) (mag (c .before .before .before .before .before .before .before .before .before .before .before .before .before .before .before .before .args .triplet))} (c .before .before .before .all-computed .ensures ∙ rw tn) (c .before .before .if5 .left), yes-of {q = areTripletWeights (c .before .before .before .before .before .before .before .before .before .before .before .before .before .before .before .before .args .z) (mag (c .before .before .before .before .before .before .before .before .before .before .before .before .before .before .before .before .args .triplet)) (c .before .before .before .before .before .before .before .before .before .before .before .before .before .before .before .before .args .weights .now)} (c .before .triplet-weights-ok .ensures ∙ rw tn) (c .if6 .left))
+    let s : _ = c .before .before .before .before .before .before .before .before .before .before .before .before .before .before .before .before in
+    let b : c .before .before .before .before .before .before .before .before .before .before .before .before .before .is-below .result ≡ isBelow (s .args .triplet) ((s .args .z) .triplets) = c .before .before .before .before .before .before .before .before .before .before .before .before .before .is-below .ensures ∙ ap (λ (t : ℤ). isBelow t ((s .args .z) .triplets)) (toZ-ofZ w64 (s .args .triplet) (s .fits .triplet)) in
+    let tn : c .before .before .before .before .before .before .before .before .before .before .before .magnitude .result ≡ mag (s .args .triplet) = c .before .before .before .before .before .before .before .before .before .before .before .magnitude .ensures ∙ ap mag (toZ-ofZ w64 (s .args .triplet) (s .fits .triplet)) in
+    let d : (c .before .before .before .before .before .before .degenerate-ids-ok .result && c .before .before .before .before .before .degenerate-ids-ok2 .result) ≡ areIdLists (s .args .z .bands1) (s .args .degenerate-ids1 .now) (s .args .degenerate-ids2 .now) = rw (c .before .before .before .before .before .before .degenerate-ids-ok .ensures, c .before .before .before .before .before .degenerate-ids-ok2 .ensures) in
+    rw (yes-of b (c .before .before .before .before .before .before .before .before .before .before .before .before .if1 .left), yes-of {q = isNotAveraged (s .args .z .pairs) (s .args .marks .now) (mag (s .args .triplet))} (c .before .before .before .before .before .before .before .before .before .before .not-averaged .ensures ∙ rw tn) (c .before .before .before .before .before .before .before .before .before .if2 .left), eq-eqb _ _ (c .before .before .before .before .before .before .before .if3 .left), yes-of d (c .before .before .before .before .if4 .left), yes-of {q = areComputed (s .args .z .pairs) (s .args .marks .now) (mag (s .args .triplet))} (c .before .before .before .all-computed .ensures ∙ rw tn) (c .before .before .if5 .left), yes-of {q = areTripletWeights (s .args .z) (mag (s .args .triplet)) (s .args .weights .now)} (c .before .triplet-weights-ok .ensures ∙ rw tn) (c .if6 .left))
 
 pub average-no-spec : {M : Type 1} → statement M
 average-no-spec =

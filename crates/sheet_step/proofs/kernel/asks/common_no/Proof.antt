@@ -17,19 +17,28 @@ given-no-requires c κs =
 
 returns : tie.Need-returns
 returns c =
-    c .before .given-no .ensures ∙ sym (group-no (givenQuestions (given (c .before .before .before .before .before .before .args .shape) (c .before .before .before .before .before .before .args .addresses .now) (c .before .before .before .before .before .before .args .gp-map .now) (c .before .before .before .before .before .before .args .relative-grid-address .now) (c .before .before .before .before .before .before .args .frequencies1 .now) (c .before .before .before .before .before .before .args .frequencies2 .now) (c .before .before .before .before .before .before .args .frequency-points .now) (c .before .before .before .before .before .before .args .triplets .now))) _ (λ z. c .if1 .taken (c .before .given-no .ensures ∙ z)))
+    let s : _ = c .before .before .before .before .before .before in
+    c .before .given-no .ensures ∙ sym (group-no (givenQuestions (given (s .args .shape) (s .args .addresses .now) (s .args .gp-map .now) (s .args .relative-grid-address .now) (s .args .frequencies1 .now) (s .args .frequencies2 .now) (s .args .frequency-points .now) (s .args .triplets .now))) _ (λ z. c .if1 .taken (c .before .given-no .ensures ∙ z)))
 
 sizes-of-requires : tie.Need-sizes-of-requires
 sizes-of-requires c κs =
-    let y : firstNo (givenQuestions (given (c .before .before .before .before .before .before .args .shape) (c .before .before .before .before .before .before .args .addresses .now) (c .before .before .before .before .before .before .args .gp-map .now) (c .before .before .before .before .before .before .args .relative-grid-address .now) (c .before .before .before .before .before .before .args .frequencies1 .now) (c .before .before .before .before .before .before .args .frequencies2 .now) (c .before .before .before .before .before .before .args .frequency-points .now) (c .before .before .before .before .before .before .args .triplets .now))) ≡ 0 = sym (c .before .given-no .ensures) ∙ c .if1 .left in few-counts (given (c .before .before .before .before .before .before .args .shape) (c .before .before .before .before .before .before .args .addresses .now) (c .before .before .before .before .before .before .args .gp-map .now) (c .before .before .before .before .before .before .args .relative-grid-address .now) (c .before .before .before .before .before .before .args .frequencies1 .now) (c .before .before .before .before .before .before .args .frequencies2 .now) (c .before .before .before .before .before .before .args .frequency-points .now) (c .before .before .before .before .before .before .args .triplets .now)) y
+    let s : _ = c .before .before .before .before .before .before in
+    let y : firstNo (givenQuestions (given (s .args .shape) (s .args .addresses .now) (s .args .gp-map .now) (s .args .relative-grid-address .now) (s .args .frequencies1 .now) (s .args .frequencies2 .now) (s .args .frequency-points .now) (s .args .triplets .now))) ≡ 0 = sym (c .before .given-no .ensures) ∙ c .if1 .left in
+    few-counts (given (s .args .shape) (s .args .addresses .now) (s .args .gp-map .now) (s .args .relative-grid-address .now) (s .args .frequencies1 .now) (s .args .frequencies2 .now) (s .args .frequency-points .now) (s .args .triplets .now)) y
 
 sheet-no-requires : tie.Need-sheet-no-requires
 sheet-no-requires c κs =
-    let y : firstNo (givenQuestions (given (c .before .before .before .before .before .before .before .args .shape) (c .before .before .before .before .before .before .before .args .addresses .now) (c .before .before .before .before .before .before .before .args .gp-map .now) (c .before .before .before .before .before .before .before .args .relative-grid-address .now) (c .before .before .before .before .before .before .before .args .frequencies1 .now) (c .before .before .before .before .before .before .before .args .frequencies2 .now) (c .before .before .before .before .before .before .before .args .frequency-points .now) (c .before .before .before .before .before .before .before .args .triplets .now))) ≡ 0 = sym (c .before .before .given-no .ensures) ∙ c .before .if1 .left in let s : c .sizes-of .result ≡ countsOf (given (c .before .before .before .before .before .before .before .args .shape) (c .before .before .before .before .before .before .before .args .addresses .now) (c .before .before .before .before .before .before .before .args .gp-map .now) (c .before .before .before .before .before .before .before .args .relative-grid-address .now) (c .before .before .before .before .before .before .before .args .frequencies1 .now) (c .before .before .before .before .before .before .before .args .frequencies2 .now) (c .before .before .before .before .before .before .before .args .frequency-points .now) (c .before .before .before .before .before .before .before .args .triplets .now)) = c .sizes-of .ensures ∙ sizes-same (given (c .before .before .before .before .before .before .before .args .shape) (c .before .before .before .before .before .before .before .args .addresses .now) (c .before .before .before .before .before .before .before .args .gp-map .now) (c .before .before .before .before .before .before .before .args .relative-grid-address .now) (c .before .before .before .before .before .before .before .args .frequencies1 .now) (c .before .before .before .before .before .before .before .args .frequencies2 .now) (c .before .before .before .before .before .before .before .args .frequency-points .now) (c .before .before .before .before .before .before .before .args .triplets .now)) in rw s (counted (given (c .before .before .before .before .before .before .before .args .shape) (c .before .before .before .before .before .before .before .args .addresses .now) (c .before .before .before .before .before .before .before .args .gp-map .now) (c .before .before .before .before .before .before .before .args .relative-grid-address .now) (c .before .before .before .before .before .before .before .args .frequencies1 .now) (c .before .before .before .before .before .before .before .args .frequencies2 .now) (c .before .before .before .before .before .before .before .args .frequency-points .now) (c .before .before .before .before .before .before .before .args .triplets .now)) y)
+    let from : _ = c .before .before .before .before .before .before .before in
+    let y : firstNo (givenQuestions (given (from .args .shape) (from .args .addresses .now) (from .args .gp-map .now) (from .args .relative-grid-address .now) (from .args .frequencies1 .now) (from .args .frequencies2 .now) (from .args .frequency-points .now) (from .args .triplets .now))) ≡ 0 = sym (c .before .before .given-no .ensures) ∙ c .before .if1 .left in
+    let s : c .sizes-of .result ≡ countsOf (given (from .args .shape) (from .args .addresses .now) (from .args .gp-map .now) (from .args .relative-grid-address .now) (from .args .frequencies1 .now) (from .args .frequencies2 .now) (from .args .frequency-points .now) (from .args .triplets .now)) = c .sizes-of .ensures ∙ sizes-same (given (from .args .shape) (from .args .addresses .now) (from .args .gp-map .now) (from .args .relative-grid-address .now) (from .args .frequencies1 .now) (from .args .frequencies2 .now) (from .args .frequency-points .now) (from .args .triplets .now)) in
+    rw s (counted (given (from .args .shape) (from .args .addresses .now) (from .args .gp-map .now) (from .args .relative-grid-address .now) (from .args .frequencies1 .now) (from .args .frequencies2 .now) (from .args .frequency-points .now) (from .args .triplets .now)) y)
 
 returns-2 : tie.Need-returns-2
 returns-2 c =
-    let y : firstNo (givenQuestions (given (c .before .before .before .before .before .before .before .before .args .shape) (c .before .before .before .before .before .before .before .before .args .addresses .now) (c .before .before .before .before .before .before .before .before .args .gp-map .now) (c .before .before .before .before .before .before .before .before .args .relative-grid-address .now) (c .before .before .before .before .before .before .before .before .args .frequencies1 .now) (c .before .before .before .before .before .before .before .before .args .frequencies2 .now) (c .before .before .before .before .before .before .before .before .args .frequency-points .now) (c .before .before .before .before .before .before .before .before .args .triplets .now))) ≡ 0 = sym (c .before .before .before .given-no .ensures) ∙ c .before .before .if1 .left in let s : c .before .sizes-of .result ≡ countsOf (given (c .before .before .before .before .before .before .before .before .args .shape) (c .before .before .before .before .before .before .before .before .args .addresses .now) (c .before .before .before .before .before .before .before .before .args .gp-map .now) (c .before .before .before .before .before .before .before .before .args .relative-grid-address .now) (c .before .before .before .before .before .before .before .before .args .frequencies1 .now) (c .before .before .before .before .before .before .before .before .args .frequencies2 .now) (c .before .before .before .before .before .before .before .before .args .frequency-points .now) (c .before .before .before .before .before .before .before .before .args .triplets .now)) = c .before .sizes-of .ensures ∙ sizes-same (given (c .before .before .before .before .before .before .before .before .args .shape) (c .before .before .before .before .before .before .before .before .args .addresses .now) (c .before .before .before .before .before .before .before .before .args .gp-map .now) (c .before .before .before .before .before .before .before .before .args .relative-grid-address .now) (c .before .before .before .before .before .before .before .before .args .frequencies1 .now) (c .before .before .before .before .before .before .before .before .args .frequencies2 .now) (c .before .before .before .before .before .before .before .before .args .frequency-points .now) (c .before .before .before .before .before .before .before .before .args .triplets .now)) in c .sheet-no .ensures ∙ ap (λ (z : Sizes). firstNo (sheetQuestions z (c .before .before .before .before .before .before .before .before .args .weights) (c .before .before .before .before .before .before .before .before .args .flags) (c .before .before .before .before .before .before .before .before .args .marks .now))) s ∙ sym (group-yes (givenQuestions (given (c .before .before .before .before .before .before .before .before .args .shape) (c .before .before .before .before .before .before .before .before .args .addresses .now) (c .before .before .before .before .before .before .before .before .args .gp-map .now) (c .before .before .before .before .before .before .before .before .args .relative-grid-address .now) (c .before .before .before .before .before .before .before .before .args .frequencies1 .now) (c .before .before .before .before .before .before .before .before .args .frequencies2 .now) (c .before .before .before .before .before .before .before .before .args .frequency-points .now) (c .before .before .before .before .before .before .before .before .args .triplets .now))) _ (given-numbered (given (c .before .before .before .before .before .before .before .before .args .shape) (c .before .before .before .before .before .before .before .before .args .addresses .now) (c .before .before .before .before .before .before .before .before .args .gp-map .now) (c .before .before .before .before .before .before .before .before .args .relative-grid-address .now) (c .before .before .before .before .before .before .before .before .args .frequencies1 .now) (c .before .before .before .before .before .before .before .before .args .frequencies2 .now) (c .before .before .before .before .before .before .before .before .args .frequency-points .now) (c .before .before .before .before .before .before .before .before .args .triplets .now))) y)
+    let from : _ = c .before .before .before .before .before .before .before .before in
+    let y : firstNo (givenQuestions (given (from .args .shape) (from .args .addresses .now) (from .args .gp-map .now) (from .args .relative-grid-address .now) (from .args .frequencies1 .now) (from .args .frequencies2 .now) (from .args .frequency-points .now) (from .args .triplets .now))) ≡ 0 = sym (c .before .before .before .given-no .ensures) ∙ c .before .before .if1 .left in
+    let s : c .before .sizes-of .result ≡ countsOf (given (from .args .shape) (from .args .addresses .now) (from .args .gp-map .now) (from .args .relative-grid-address .now) (from .args .frequencies1 .now) (from .args .frequencies2 .now) (from .args .frequency-points .now) (from .args .triplets .now)) = c .before .sizes-of .ensures ∙ sizes-same (given (from .args .shape) (from .args .addresses .now) (from .args .gp-map .now) (from .args .relative-grid-address .now) (from .args .frequencies1 .now) (from .args .frequencies2 .now) (from .args .frequency-points .now) (from .args .triplets .now)) in
+    c .sheet-no .ensures ∙ ap (λ (z : Sizes). firstNo (sheetQuestions z (from .args .weights) (from .args .flags) (from .args .marks .now))) s ∙ sym (group-yes (givenQuestions (given (from .args .shape) (from .args .addresses .now) (from .args .gp-map .now) (from .args .relative-grid-address .now) (from .args .frequencies1 .now) (from .args .frequencies2 .now) (from .args .frequency-points .now) (from .args .triplets .now))) _ (given-numbered (given (from .args .shape) (from .args .addresses .now) (from .args .gp-map .now) (from .args .relative-grid-address .now) (from .args .frequencies1 .now) (from .args .frequencies2 .now) (from .args .frequency-points .now) (from .args .triplets .now))) y)
 
 pub common-no-spec : {M : Type 1} → statement M
 common-no-spec =

@@ -33,7 +33,9 @@ is-below-requires-3 c κs =
 returns : tie.Need-returns
 unfolding firstNo isPiece
 returns c =
-    let t3 : ((c .before .before .before .is-below .result && c .before .before .is-below2 .result) && c .before .is-below3 .result) ≡ isPiece (c .before .before .before .before .before .args .z) (c .before .before .before .before .before .args .triplet) (c .before .before .before .before .before .args .b1) (c .before .before .before .before .before .args .b2) = rw (c .before .before .before .is-below .ensures, c .before .before .is-below2 .ensures, c .before .is-below3 .ensures, toZ-ofZ w64 (c .before .before .before .before .before .args .triplet) (c .before .before .before .before .before .fits .triplet), toZ-ofZ w64 (c .before .before .before .before .before .args .b1) (c .before .before .before .before .before .fits .b1), toZ-ofZ w64 (c .before .before .before .before .before .args .b2) (c .before .before .before .before .before .fits .b2)) in rw (no-of t3 (c .if1 .taken))
+    let s : _ = c .before .before .before .before .before in
+    let t3 : ((c .before .before .before .is-below .result && c .before .before .is-below2 .result) && c .before .is-below3 .result) ≡ isPiece (s .args .z) (s .args .triplet) (s .args .b1) (s .args .b2) = rw (c .before .before .before .is-below .ensures, c .before .before .is-below2 .ensures, c .before .is-below3 .ensures, toZ-ofZ w64 (s .args .triplet) (s .fits .triplet), toZ-ofZ w64 (s .args .b1) (s .fits .b1), toZ-ofZ w64 (s .args .b2) (s .fits .b2)) in
+    rw (no-of t3 (c .if1 .taken))
 
 magnitude-requires : tie.Need-magnitude-requires
 magnitude-requires c κs =
@@ -42,17 +44,27 @@ magnitude-requires c κs =
 not-averaged-requires : tie.Need-not-averaged-requires
 unfolding isPiece
 not-averaged-requires c κs =
-    let t3 : ((c .before .before .before .before .is-below .result && c .before .before .before .is-below2 .result) && c .before .before .is-below3 .result) ≡ isPiece (c .before .before .before .before .before .before .args .z) (c .before .before .before .before .before .before .args .triplet) (c .before .before .before .before .before .before .args .b1) (c .before .before .before .before .before .before .args .b2) = rw (c .before .before .before .before .is-below .ensures, c .before .before .before .is-below2 .ensures, c .before .before .is-below3 .ensures, toZ-ofZ w64 (c .before .before .before .before .before .before .args .triplet) (c .before .before .before .before .before .before .fits .triplet), toZ-ofZ w64 (c .before .before .before .before .before .before .args .b1) (c .before .before .before .before .before .before .fits .b1), toZ-ofZ w64 (c .before .before .before .before .before .before .args .b2) (c .before .before .before .before .before .before .fits .b2)) in let tn : c .magnitude .result ≡ mag (c .before .before .before .before .before .before .args .triplet) = c .magnitude .ensures ∙ ap mag (toZ-ofZ w64 (c .before .before .before .before .before .before .args .triplet) (c .before .before .before .before .before .before .fits .triplet)) in let y : isBelow (c .before .before .before .before .before .before .args .triplet) ((c .before .before .before .before .before .before .args .z) .triplets) ≡ true = and-left (isBelow (c .before .before .before .before .before .before .args .triplet) ((c .before .before .before .before .before .before .args .z) .triplets)) (isBelow (c .before .before .before .before .before .before .args .b1) ((c .before .before .before .before .before .before .args .z) .bands1)) (and-left (isBelow (c .before .before .before .before .before .before .args .triplet) ((c .before .before .before .before .before .before .args .z) .triplets) && isBelow (c .before .before .before .before .before .before .args .b1) ((c .before .before .before .before .before .before .args .z) .bands1)) (isBelow (c .before .before .before .before .before .before .args .b2) ((c .before .before .before .before .before .before .args .z) .bands2)) (yes-of t3 (c .before .if1 .left))) in rw tn (let m : mag (c .before .before .before .before .before .before .args .triplet) * (c .before .before .before .before .before .before .args .z) .pairs + (c .before .before .before .before .before .before .args .z) .pairs ≤ length (c .before .before .before .before .before .before .args .marks .now) = marks-place (c .before .before .before .before .before .before .args .z) (c .before .before .before .before .before .before .pre .0) (mag (c .before .before .before .before .before .before .args .triplet)) (length (c .before .before .before .before .before .before .args .marks .now)) (below-lt (c .before .before .before .before .before .before .args .triplet) ((c .before .before .before .before .before .before .args .z) .triplets) y) (c .before .before .before .before .before .before .pre .1) in let o : 1 ≤ (c .before .before .before .before .before .before .args .z) .pairs = c .before .before .before .before .before .before .pre .0 .pairs-some in let l : mag (c .before .before .before .before .before .before .args .triplet) * (c .before .before .before .before .before .before .args .z) .pairs < length (c .before .before .before .before .before .before .args .marks .now) = omega arith in l)
+    let s : _ = c .before .before .before .before .before .before in
+    let t3 : ((c .before .before .before .before .is-below .result && c .before .before .before .is-below2 .result) && c .before .before .is-below3 .result) ≡ isPiece (s .args .z) (s .args .triplet) (s .args .b1) (s .args .b2) = rw (c .before .before .before .before .is-below .ensures, c .before .before .before .is-below2 .ensures, c .before .before .is-below3 .ensures, toZ-ofZ w64 (s .args .triplet) (s .fits .triplet), toZ-ofZ w64 (s .args .b1) (s .fits .b1), toZ-ofZ w64 (s .args .b2) (s .fits .b2)) in
+    let tn : c .magnitude .result ≡ mag (s .args .triplet) = c .magnitude .ensures ∙ ap mag (toZ-ofZ w64 (s .args .triplet) (s .fits .triplet)) in
+    let y : isBelow (s .args .triplet) ((s .args .z) .triplets) ≡ true = and-left (isBelow (s .args .triplet) ((s .args .z) .triplets)) (isBelow (s .args .b1) ((s .args .z) .bands1)) (and-left (isBelow (s .args .triplet) ((s .args .z) .triplets) && isBelow (s .args .b1) ((s .args .z) .bands1)) (isBelow (s .args .b2) ((s .args .z) .bands2)) (yes-of t3 (c .before .if1 .left))) in
+    rw tn (let m : mag (s .args .triplet) * (s .args .z) .pairs + (s .args .z) .pairs ≤ length (s .args .marks .now) = marks-place (s .args .z) (s .pre .0) (mag (s .args .triplet)) (length (s .args .marks .now)) (below-lt (s .args .triplet) ((s .args .z) .triplets) y) (s .pre .1) in let o : 1 ≤ (s .args .z) .pairs = s .pre .0 .pairs-some in let l : mag (s .args .triplet) * (s .args .z) .pairs < length (s .args .marks .now) = omega arith in l)
 
 returns-2 : tie.Need-returns-2
 unfolding firstNo isPiece
 returns-2 c =
-    let t3 : ((c .before .before .before .before .before .before .is-below .result && c .before .before .before .before .before .is-below2 .result) && c .before .before .before .before .is-below3 .result) ≡ isPiece (c .before .before .before .before .before .before .before .before .args .z) (c .before .before .before .before .before .before .before .before .args .triplet) (c .before .before .before .before .before .before .before .before .args .b1) (c .before .before .before .before .before .before .before .before .args .b2) = rw (c .before .before .before .before .before .before .is-below .ensures, c .before .before .before .before .before .is-below2 .ensures, c .before .before .before .before .is-below3 .ensures, toZ-ofZ w64 (c .before .before .before .before .before .before .before .before .args .triplet) (c .before .before .before .before .before .before .before .before .fits .triplet), toZ-ofZ w64 (c .before .before .before .before .before .before .before .before .args .b1) (c .before .before .before .before .before .before .before .before .fits .b1), toZ-ofZ w64 (c .before .before .before .before .before .before .before .before .args .b2) (c .before .before .before .before .before .before .before .before .fits .b2)) in let tn : c .before .before .magnitude .result ≡ mag (c .before .before .before .before .before .before .before .before .args .triplet) = c .before .before .magnitude .ensures ∙ ap mag (toZ-ofZ w64 (c .before .before .before .before .before .before .before .before .args .triplet) (c .before .before .before .before .before .before .before .before .fits .triplet)) in rw (yes-of t3 (c .before .before .before .if1 .left), no-of {q = isNotAveraged (c .before .before .before .before .before .before .before .before .args .z .pairs) (c .before .before .before .before .before .before .before .before .args .marks .now) (mag (c .before .before .before .before .before .before .before .before .args .triplet))} (c .before .not-averaged .ensures ∙ rw tn) (c .if2 .taken))
+    let s : _ = c .before .before .before .before .before .before .before .before in
+    let t3 : ((c .before .before .before .before .before .before .is-below .result && c .before .before .before .before .before .is-below2 .result) && c .before .before .before .before .is-below3 .result) ≡ isPiece (s .args .z) (s .args .triplet) (s .args .b1) (s .args .b2) = rw (c .before .before .before .before .before .before .is-below .ensures, c .before .before .before .before .before .is-below2 .ensures, c .before .before .before .before .is-below3 .ensures, toZ-ofZ w64 (s .args .triplet) (s .fits .triplet), toZ-ofZ w64 (s .args .b1) (s .fits .b1), toZ-ofZ w64 (s .args .b2) (s .fits .b2)) in
+    let tn : c .before .before .magnitude .result ≡ mag (s .args .triplet) = c .before .before .magnitude .ensures ∙ ap mag (toZ-ofZ w64 (s .args .triplet) (s .fits .triplet)) in
+    rw (yes-of t3 (c .before .before .before .if1 .left), no-of {q = isNotAveraged (s .args .z .pairs) (s .args .marks .now) (mag (s .args .triplet))} (c .before .not-averaged .ensures ∙ rw tn) (c .if2 .taken))
 
 returns-3 : tie.Need-returns-3
 unfolding firstNo isPiece
 returns-3 c =
-    let t3 : ((c .before .before .before .before .before .before .is-below .result && c .before .before .before .before .before .is-below2 .result) && c .before .before .before .before .is-below3 .result) ≡ isPiece (c .before .before .before .before .before .before .before .before .args .z) (c .before .before .before .before .before .before .before .before .args .triplet) (c .before .before .before .before .before .before .before .before .args .b1) (c .before .before .before .before .before .before .before .before .args .b2) = rw (c .before .before .before .before .before .before .is-below .ensures, c .before .before .before .before .before .is-below2 .ensures, c .before .before .before .before .is-below3 .ensures, toZ-ofZ w64 (c .before .before .before .before .before .before .before .before .args .triplet) (c .before .before .before .before .before .before .before .before .fits .triplet), toZ-ofZ w64 (c .before .before .before .before .before .before .before .before .args .b1) (c .before .before .before .before .before .before .before .before .fits .b1), toZ-ofZ w64 (c .before .before .before .before .before .before .before .before .args .b2) (c .before .before .before .before .before .before .before .before .fits .b2)) in let tn : c .before .before .magnitude .result ≡ mag (c .before .before .before .before .before .before .before .before .args .triplet) = c .before .before .magnitude .ensures ∙ ap mag (toZ-ofZ w64 (c .before .before .before .before .before .before .before .before .args .triplet) (c .before .before .before .before .before .before .before .before .fits .triplet)) in rw (yes-of t3 (c .before .before .before .if1 .left), yes-of {q = isNotAveraged (c .before .before .before .before .before .before .before .before .args .z .pairs) (c .before .before .before .before .before .before .before .before .args .marks .now) (mag (c .before .before .before .before .before .before .before .before .args .triplet))} (c .before .not-averaged .ensures ∙ rw tn) (c .if2 .left))
+    let s : _ = c .before .before .before .before .before .before .before .before in
+    let t3 : ((c .before .before .before .before .before .before .is-below .result && c .before .before .before .before .before .is-below2 .result) && c .before .before .before .before .is-below3 .result) ≡ isPiece (s .args .z) (s .args .triplet) (s .args .b1) (s .args .b2) = rw (c .before .before .before .before .before .before .is-below .ensures, c .before .before .before .before .before .is-below2 .ensures, c .before .before .before .before .is-below3 .ensures, toZ-ofZ w64 (s .args .triplet) (s .fits .triplet), toZ-ofZ w64 (s .args .b1) (s .fits .b1), toZ-ofZ w64 (s .args .b2) (s .fits .b2)) in
+    let tn : c .before .before .magnitude .result ≡ mag (s .args .triplet) = c .before .before .magnitude .ensures ∙ ap mag (toZ-ofZ w64 (s .args .triplet) (s .fits .triplet)) in
+    rw (yes-of t3 (c .before .before .before .if1 .left), yes-of {q = isNotAveraged (s .args .z .pairs) (s .args .marks .now) (mag (s .args .triplet))} (c .before .not-averaged .ensures ∙ rw tn) (c .if2 .left))
 
 pub piece-no-spec : {M : Type 1} → statement M
 piece-no-spec =

@@ -23,7 +23,9 @@ lengths-ok-requires c κs =
 returns : tie.Need-returns
 unfolding firstNo areSheetLengths
 returns c =
-    let l : (c .before .lengths-ok .result && eqb (length (c .before .before .before .before .args .marks .now)) ((c .before .before .before .before .args .z) .triplets * (c .before .before .before .before .args .z) .pairs)) ≡ areSheetLengths (c .before .before .before .before .args .z) (c .before .before .before .before .args .weights) (c .before .before .before .before .args .flags) (length (c .before .before .before .before .args .marks .now)) = rw (c .before .lengths-ok .ensures) in rw (no-of l (c .if1 .taken))
+    let s : _ = c .before .before .before .before in
+    let l : (c .before .lengths-ok .result && eqb (length (s .args .marks .now)) ((s .args .z) .triplets * (s .args .z) .pairs)) ≡ areSheetLengths (s .args .z) (s .args .weights) (s .args .flags) (length (s .args .marks .now)) = rw (c .before .lengths-ok .ensures) in
+    rw (no-of l (c .if1 .taken))
 
 marks-ok-requires : tie.Need-marks-ok-requires
 marks-ok-requires c κs =
@@ -32,12 +34,16 @@ marks-ok-requires c κs =
 returns-2 : tie.Need-returns-2
 unfolding firstNo areSheetLengths
 returns-2 c =
-    let l : (c .before .before .before .lengths-ok .result && eqb (length (c .before .before .before .before .before .before .args .marks .now)) ((c .before .before .before .before .before .before .args .z) .triplets * (c .before .before .before .before .before .before .args .z) .pairs)) ≡ areSheetLengths (c .before .before .before .before .before .before .args .z) (c .before .before .before .before .before .before .args .weights) (c .before .before .before .before .before .before .args .flags) (length (c .before .before .before .before .before .before .args .marks .now)) = rw (c .before .before .before .lengths-ok .ensures) in rw (yes-of l (c .before .before .if1 .left), no-of (c .before .marks-ok .ensures) (c .if2 .taken))
+    let s : _ = c .before .before .before .before .before .before in
+    let l : (c .before .before .before .lengths-ok .result && eqb (length (s .args .marks .now)) ((s .args .z) .triplets * (s .args .z) .pairs)) ≡ areSheetLengths (s .args .z) (s .args .weights) (s .args .flags) (length (s .args .marks .now)) = rw (c .before .before .before .lengths-ok .ensures) in
+    rw (yes-of l (c .before .before .if1 .left), no-of (c .before .marks-ok .ensures) (c .if2 .taken))
 
 returns-3 : tie.Need-returns-3
 unfolding firstNo areSheetLengths
 returns-3 c =
-    let l : (c .before .before .before .lengths-ok .result && eqb (length (c .before .before .before .before .before .before .args .marks .now)) ((c .before .before .before .before .before .before .args .z) .triplets * (c .before .before .before .before .before .before .args .z) .pairs)) ≡ areSheetLengths (c .before .before .before .before .before .before .args .z) (c .before .before .before .before .before .before .args .weights) (c .before .before .before .before .before .before .args .flags) (length (c .before .before .before .before .before .before .args .marks .now)) = rw (c .before .before .before .lengths-ok .ensures) in rw (yes-of l (c .before .before .if1 .left), yes-of (c .before .marks-ok .ensures) (c .if2 .left))
+    let s : _ = c .before .before .before .before .before .before in
+    let l : (c .before .before .before .lengths-ok .result && eqb (length (s .args .marks .now)) ((s .args .z) .triplets * (s .args .z) .pairs)) ≡ areSheetLengths (s .args .z) (s .args .weights) (s .args .flags) (length (s .args .marks .now)) = rw (c .before .before .before .lengths-ok .ensures) in
+    rw (yes-of l (c .before .before .if1 .left), yes-of (c .before .marks-ok .ensures) (c .if2 .left))
 
 pub sheet-no-spec : {M : Type 1} → statement M
 sheet-no-spec =

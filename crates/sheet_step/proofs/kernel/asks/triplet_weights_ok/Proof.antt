@@ -26,7 +26,8 @@ mul-size c =
 
 mul-base : tie.Need-mul-base Inv-loop μ-loop
 mul-base c =
-    omega (arith, triplet-place (c .before .before .args .z) (c .before .before .pre .0) (c .before .before .args .t) (c .before .before .pre .1 .0), few (c .before .before .args .z) (c .before .before .pre .0))
+    let s : _ = c .before .before in
+    omega (arith, triplet-place (s .args .z) (s .pre .0) (s .args .t) (s .pre .1 .0), few (s .args .z) (s .pre .0))
 
 loop-holds : tie.Need-loop-holds Inv-loop μ-loop
 loop-holds c =
@@ -34,31 +35,45 @@ loop-holds c =
 
 mul-start : tie.Need-mul-start Inv-loop μ-loop
 mul-start c =
-    let p : _ = channel-place (c .before .before .before .before .args .z) (c .before .before .before .before .pre .0) (c .before .before .before .before .args .t) (c .before .loop .c) (c .before .before .before .before .pre .1 .0) (omega arith) in omega (arith, p, entries-few (c .before .before .before .before .args .z) (c .before .before .before .before .pre .0), c .before .before .before .before .pre .1 .1)
+    let s : _ = c .before .before .before .before in
+    let p : _ = channel-place (s .args .z) (s .pre .0) (s .args .t) (c .before .loop .c) (s .pre .1 .0) (omega arith) in
+    omega (arith, p, entries-few (s .args .z) (s .pre .0), s .pre .1 .1)
 
 add-start : tie.Need-add-start Inv-loop μ-loop
 add-start c =
-    let p : _ = channel-place (c .before .before .before .before .args .z) (c .before .before .before .before .pre .0) (c .before .before .before .before .args .t) (c .before .loop .c) (c .before .before .before .before .pre .1 .0) (omega arith) in omega (arith, p, entries-few (c .before .before .before .before .args .z) (c .before .before .before .before .pre .0), c .before .before .before .before .pre .1 .1)
+    let s : _ = c .before .before .before .before in
+    let p : _ = channel-place (s .args .z) (s .pre .0) (s .args .t) (c .before .loop .c) (s .pre .1 .0) (omega arith) in
+    omega (arith, p, entries-few (s .args .z) (s .pre .0), s .pre .1 .1)
 
 add-end : tie.Need-add-end Inv-loop μ-loop
 add-end c =
-    let p : _ = channel-place (c .before .before .before .before .args .z) (c .before .before .before .before .pre .0) (c .before .before .before .before .args .t) (c .before .loop .c) (c .before .before .before .before .pre .1 .0) (omega arith) in omega (arith, p, entries-few (c .before .before .before .before .args .z) (c .before .before .before .before .pre .0), c .before .before .before .before .pre .1 .1)
+    let s : _ = c .before .before .before .before in
+    let p : _ = channel-place (s .args .z) (s .pre .0) (s .args .t) (c .before .loop .c) (s .pre .1 .0) (omega arith) in
+    omega (arith, p, entries-few (s .args .z) (s .pre .0), s .pre .1 .1)
 
 mul-weights-ok : tie.Need-mul-weights-ok Inv-loop μ-loop
 mul-weights-ok c =
-    let p : _ = channel-place (c .before .before .before .before .args .z) (c .before .before .before .before .pre .0) (c .before .before .before .before .args .t) (c .before .loop .c) (c .before .before .before .before .pre .1 .0) (omega arith) in omega (arith, p, entries-few (c .before .before .before .before .args .z) (c .before .before .before .before .pre .0), c .before .before .before .before .pre .1 .1)
+    let s : _ = c .before .before .before .before in
+    let p : _ = channel-place (s .args .z) (s .pre .0) (s .args .t) (c .before .loop .c) (s .pre .1 .0) (omega arith) in
+    omega (arith, p, entries-few (s .args .z) (s .pre .0), s .pre .1 .1)
 
 sub-weights-ok : tie.Need-sub-weights-ok Inv-loop μ-loop
 sub-weights-ok c =
-    let p : _ = channel-place (c .before .before .before .before .args .z) (c .before .before .before .before .pre .0) (c .before .before .before .before .args .t) (c .before .loop .c) (c .before .before .before .before .pre .1 .0) (omega arith) in omega (arith, p, entries-few (c .before .before .before .before .args .z) (c .before .before .before .before .pre .0), c .before .before .before .before .pre .1 .1)
+    let s : _ = c .before .before .before .before in
+    let p : _ = channel-place (s .args .z) (s .pre .0) (s .args .t) (c .before .loop .c) (s .pre .1 .0) (omega arith) in
+    omega (arith, p, entries-few (s .args .z) (s .pre .0), s .pre .1 .1)
 
 part-weights-ok-start : tie.Need-part-weights-ok-start Inv-loop μ-loop
 part-weights-ok-start c =
-    let p : _ = channel-place (c .before .before .before .before .args .z) (c .before .before .before .before .pre .0) (c .before .before .before .before .args .t) (c .before .loop .c) (c .before .before .before .before .pre .1 .0) (omega arith) in omega (arith, p, entries-few (c .before .before .before .before .args .z) (c .before .before .before .before .pre .0), c .before .before .before .before .pre .1 .1)
+    let s : _ = c .before .before .before .before in
+    let p : _ = channel-place (s .args .z) (s .pre .0) (s .args .t) (c .before .loop .c) (s .pre .1 .0) (omega arith) in
+    omega (arith, p, entries-few (s .args .z) (s .pre .0), s .pre .1 .1)
 
 part-weights-ok-end : tie.Need-part-weights-ok-end Inv-loop μ-loop
 part-weights-ok-end c =
-    let p : _ = channel-place (c .before .before .before .before .args .z) (c .before .before .before .before .pre .0) (c .before .before .before .before .args .t) (c .before .loop .c) (c .before .before .before .before .pre .1 .0) (omega arith) in omega (arith, p, entries-few (c .before .before .before .before .args .z) (c .before .before .before .before .pre .0), c .before .before .before .before .pre .1 .1)
+    let s : _ = c .before .before .before .before in
+    let p : _ = channel-place (s .args .z) (s .pre .0) (s .args .t) (c .before .loop .c) (s .pre .1 .0) (omega arith) in
+    omega (arith, p, entries-few (s .args .z) (s .pre .0), s .pre .1 .1)
 
 weights-ok-requires : tie.Need-weights-ok-requires Inv-loop μ-loop
 weights-ok-requires c κs =
@@ -74,7 +89,11 @@ loop-less c =
 
 loop-again : tie.Need-loop-again Inv-loop μ-loop
 loop-again c =
-    let a : ℕ = c .before .before .before .loop .c * (c .before .before .before .before .before .before .args .z) .cells + c .before .before .before .before .before .before .args .t * ((c .before .before .before .before .before .before .args .z) .points * (c .before .before .before .before .before .before .args .z) .pairs) in let s : ℕ = (c .before .before .before .before .before .before .args .z) .points * (c .before .before .before .before .before .before .args .z) .pairs in let e : a + s - a ≡ s = omega arith in (omega arith, below-next (c .before .before .before .loop .c) (λ k. areWeights (part (k * (c .before .before .before .before .before .before .args .z) .cells + c .before .before .before .before .before .before .args .t * ((c .before .before .before .before .before .before .args .z) .points * (c .before .before .before .before .before .before .args .z) .pairs)) ((c .before .before .before .before .before .before .args .z) .points * (c .before .before .before .before .before .before .args .z) .pairs) (c .before .before .before .before .before .before .args .weights .now))) (c .before .before .before .loop .inv .1) (c .weights-ok .ensures ∙ ap (λ (k : ℕ). areWeights (take k (drop a (c .before .before .before .before .before .before .args .weights .now)))) e))
+    let from : _ = c .before .before .before .before .before .before in
+    let a : ℕ = c .before .before .before .loop .c * (from .args .z) .cells + from .args .t * ((from .args .z) .points * (from .args .z) .pairs) in
+    let s : ℕ = (from .args .z) .points * (from .args .z) .pairs in
+    let e : a + s - a ≡ s = omega arith in
+    (omega arith, below-next (c .before .before .before .loop .c) (λ k. areWeights (part (k * (from .args .z) .cells + from .args .t * ((from .args .z) .points * (from .args .z) .pairs)) ((from .args .z) .points * (from .args .z) .pairs) (from .args .weights .now))) (c .before .before .before .loop .inv .1) (c .weights-ok .ensures ∙ ap (λ (k : ℕ). areWeights (take k (drop a (from .args .weights .now)))) e))
 
 returns : tie.Need-returns Inv-loop μ-loop
 unfolding areTripletWeights
