@@ -10,8 +10,7 @@
 //
 // Refusal 0 is an accepted call. Each block has its own grids and studies.
 ghost use mathlib.Core.Path.{_≡_};
-ghost use Prim.Native.Nat.{_≤_};
-ghost use lib.ListN.{length, take};
+ghost use lib.ListN.{length};
 use grid_point_weights::GridPointAnswer;
 use replay_input::kernel as input;
 use replay_input::kernel::Cursor;
@@ -45,20 +44,6 @@ fn many_reals() -> [f64; 65537]
     ensures { λ r. ⌜ 65537 ≡ length r ⌝ }
 {
     [0.0; 65537]
-}
-
-// A count that a buffer of length most can hold.
-fn at_most(n: u64, most: usize) -> usize
-    ensures { λ r. ⌜ r ≤ most ⌝ }
-{
-    if n < most as u64 { n as usize } else { most }
-}
-
-// How much of a buffer a count takes: the count, or all of the buffer where that is shorter.
-fn room_of(n: u64, buf: &[f64]) -> usize
-    ensures { λ r. ⌜ (r ≤ length (now (buf .entry))) × (r ≡ length (take r (now (buf .entry)))) ⌝ }
-{
-    at_most(n, buf.len())
 }
 
 // ---- what a buffer holds before a call
@@ -285,7 +270,7 @@ fn call_case(
     let mut stored = reals();
     let e = input::fill_reals(text, room.next, &mut stored);
     let mut iw = reals();
-    let n = room_of(room.value, &iw);
+    let n = input::room_of(room.value, &iw);
     let b = bands.value;
     let r = num_ir.value;
     let q = p.count;
@@ -337,7 +322,7 @@ fn crowd_case(
     let mut grid_points = many_numbers();
     let mut iw = many_reals();
     let q = input::part_of(times.value, &grid_points);
-    let n = room_of(room.value, &iw);
+    let n = input::room_of(room.value, &iw);
     let r = num_ir.value;
     let g = point.value;
     let v = stored.value;

@@ -9,8 +9,8 @@
 //
 // Refusal 0 is an accepted call. Each block has its own grids and studies. Weights are compared by bits.
 ghost use mathlib.Core.Path.{_≡_};
-ghost use Prim.Native.Nat.{_≤_, _<_};
-ghost use lib.ListN.{length, take};
+ghost use Prim.Native.Nat.{_<_};
+ghost use lib.ListN.{length};
 use replay_input::kernel as input;
 use replay_input::kernel::Cursor;
 use replay_input::kernel::compare;
@@ -49,27 +49,6 @@ fn many_flags() -> [i8; 65540]
     ensures { λ r. ⌜ 65540 ≡ length r ⌝ }
 {
     [0; 65540]
-}
-
-// A count that a buffer of length most can hold.
-fn at_most(n: u64, most: usize) -> usize
-    ensures { λ r. ⌜ r ≤ most ⌝ }
-{
-    if n < most as u64 { n as usize } else { most }
-}
-
-// How much of the weights a count takes: the count, or all of them where they are fewer.
-fn room_of(n: u64, buf: &[f64]) -> usize
-    ensures { λ r. ⌜ (r ≤ length (now (buf .entry))) × (r ≡ length (take r (now (buf .entry)))) ⌝ }
-{
-    at_most(n, buf.len())
-}
-
-// The same of the flags.
-fn places_of(n: u64, buf: &[i8]) -> usize
-    ensures { λ r. ⌜ (r ≤ length (now (buf .entry))) × (r ≡ length (take r (now (buf .entry)))) ⌝ }
-{
-    at_most(n, buf.len())
 }
 
 // ---- lists over and over
@@ -323,8 +302,8 @@ fn call_case(
     let mut weights = many_reals();
     let mut flags = many_flags();
     let q = input::part_of(count.value, &triplets);
-    let n = room_of(room.value, &weights);
-    let m = places_of(places.value, &flags);
+    let n = input::room_of(room.value, &weights);
+    let m = input::places_of(places.value, &flags);
     let one = [list[0], list[1], list[2]];
     let l = t.count;
     let k = w.count;

@@ -1,10 +1,10 @@
--- `writing::kernel::bits_of` meets its contract. Assumes nothing.
+-- `text::kernel::bits_of` meets its contract. Assumes nothing.
 use borrow.Author.Needs.{needs}
 use lib.Ieee.{binary64, toBits}
 use mathlib.Core.Path.{ap, sym}
 use Rattle.ieee_laws.proofs.PatternLaws.{equal-is-no-nan, unequal-is-nan}
-use Rattle.writing.proofs.kernel.bits_of.Statement.{statement}
-use Rattle.writing.proofs.kernel.bits_of.Tie as tie
+use Rattle.text.proofs.kernel.bits_of.Statement.{statement}
+use Rattle.text.proofs.kernel.bits_of.Tie as tie
 
 float-to-bits-result : tie.Need-float-to-bits-result
 float-to-bits-result c =

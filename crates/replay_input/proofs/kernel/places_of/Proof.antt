@@ -1,10 +1,10 @@
--- `vectors_triplet::places_of` meets its contract: a count at most the length of a list is that of its front. Assumes nothing.
+-- `replay_input::kernel::places_of` meets its contract: a count at most the length of a list is that of its front. Assumes nothing.
 use native.Mathlib.Omega.{arith}
 use mathlib.Core.Path.{sym}
 use lib.Seq.{length-take-le}
 use borrow.Author.Needs.{needs}
-use Rattle.vectors_triplet.proofs.places_of.Statement.{statement}
-use Rattle.vectors_triplet.proofs.places_of.Tie as tie
+use Rattle.replay_input.proofs.kernel.places_of.Statement.{statement}
+use Rattle.replay_input.proofs.kernel.places_of.Tie as tie
 
 at-most-requires : tie.Need-at-most-requires
 at-most-requires c κs = search needs

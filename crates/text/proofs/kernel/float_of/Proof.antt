@@ -1,11 +1,11 @@
--- `answer::floats::float_of` meets its contract. Assumes nothing.
+-- `text::kernel::float_of` meets its contract. Assumes nothing.
 use borrow.Author.Needs.{needs}
 use lib.Ieee.{div, ofBits}
 use mathlib.Core.Path.{sym}
 use native.Mathlib.Omega.{arith}
 use Rattle.ieee_laws.proofs.PatternLaws.{nan-of-pattern, pattern-safe}
-use Rattle.answer.proofs.floats.float_of.Statement.{statement}
-use Rattle.answer.proofs.floats.float_of.Tie as tie
+use Rattle.text.proofs.kernel.float_of.Statement.{statement}
+use Rattle.text.proofs.kernel.float_of.Tie as tie
 
 returns : tie.Need-returns
 unfolding ofBits div
