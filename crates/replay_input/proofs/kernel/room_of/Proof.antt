@@ -10,7 +10,7 @@ at-most-requires : tie.Need-at-most-requires
 at-most-requires c κs = search needs
 
 returns : tie.Need-returns
-returns c = (omega arith, sym (length-take-le (c .at-most .result) (c .before .args .buf .now) (omega arith)))
+returns c = (omega arith, sym (length-take-le (c .at-most .result) (c .before .before .args .buf .now) (omega arith)))
 
 pub room-of-spec : {M : Type 1} → statement M
 room-of-spec = tie.close (tie.spec at-most-requires returns)
