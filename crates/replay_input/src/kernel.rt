@@ -1,6 +1,7 @@
 // The readers.
 pub mod compare;
 pub mod report;
+pub mod stamps;
 
 ghost use Prim.Native.Nat.{_≤_, min};
 ghost use mathlib.Core.Path.{_≡_};

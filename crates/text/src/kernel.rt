@@ -137,13 +137,13 @@ pub fn cut(s: &[u8], p: usize, b: u8) -> usize
 }
 
 // The float of a bit pattern, every one: a NaN's pattern gives a NaN.
-pub fn float_of(bits: u64) -> f64
-    ensures { λ r. ⌜ r ≡ ofBits binary64 bits ⌝ }
+pub fn float_of(pattern: u64) -> f64
+    ensures { λ r. ⌜ r ≡ ofBits binary64 pattern ⌝ }
 {
-    if 9218868437227405312 < bits % 9223372036854775808 {
+    if 9218868437227405312 < pattern % 9223372036854775808 {
         return 0.0 / 0.0;
     }
-    f64::from_bits(bits)
+    f64::from_bits(pattern)
 }
 
 // The bit pattern of a float; of a NaN the positive one whose fraction is its highest digit alone.

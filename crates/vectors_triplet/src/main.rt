@@ -17,6 +17,7 @@ use replay_input::kernel::compare;
 use replay_input::kernel::report;
 use replay_input::kernel::report::Count;
 use replay_input::kernel::report::Judged;
+use replay_input::kernel::stamps;
 use triplet::Shape;
 use triplet::WeightsAnswer;
 
@@ -114,23 +115,9 @@ fn same_flags(flags: &[i8], list: &[i64]) -> bool {
 
 // ---- what the buffers hold before a call
 
-// No weight is so large.
-fn mark_at(place: usize) -> f64 {
-    if place % 2 == 0 { 1.5e300 } else { -2.5e300 }
-}
-
 // No flag is such a number.
 fn sign_at(place: usize) -> i8 {
     if place % 2 == 0 { 5 } else { -6 }
-}
-
-fn mark(weights: &mut [f64]) {
-    let mut i = 0;
-    while i < weights.len() {
-        let value = mark_at(i);
-        weights[i] = value;
-        i += 1;
-    }
 }
 
 fn mark_flags(flags: &mut [i8]) {
@@ -140,17 +127,6 @@ fn mark_flags(flags: &mut [i8]) {
         flags[i] = value;
         i += 1;
     }
-}
-
-fn is_marked(weights: &[f64]) -> bool {
-    let mut i = 0;
-    while i < weights.len() {
-        if !compare::same_bits(weights[i], mark_at(i)) {
-            return false;
-        }
-        i += 1;
-    }
-    true
 }
 
 fn are_marked(flags: &[i8]) -> bool {
@@ -185,7 +161,7 @@ fn weights_agree(
         }
         WeightsAnswer::Refused(number) => {
             if (0 < number) & (number == refusal) {
-                is_marked(weights) & are_marked(flags)
+                stamps::is_marked(weights) & are_marked(flags)
             } else {
                 false
             }
@@ -255,7 +231,7 @@ fn call_agrees(
     stored_flags: &[i64],
 ) -> bool {
     repeat(list, triplets);
-    mark(weights);
+    stamps::mark(weights);
     mark_flags(flags);
     let answer = answer_of(
         record,

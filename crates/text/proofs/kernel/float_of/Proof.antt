@@ -10,11 +10,11 @@ use Rattle.text.proofs.kernel.float_of.Tie as tie
 returns : tie.Need-returns
 unfolding ofBits div
 returns c =
-    sym (nan-of-pattern (c .before .args .bits) (omega arith))
+    sym (nan-of-pattern (c .before .args .pattern) (omega arith))
 
 float-from-bits-result : tie.Need-float-from-bits-result
 float-from-bits-result c =
-    pattern-safe (c .before .args .bits) (omega arith)
+    pattern-safe (c .before .args .pattern) (omega arith)
 
 returns-2 : tie.Need-returns-2
 returns-2 c = search needs
