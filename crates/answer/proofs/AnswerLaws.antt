@@ -4,6 +4,7 @@ use mathlib.Core.Bool.{Bool, true, false, cond}
 use mathlib.Core.List.{List, [], _∷_, _++_}
 use Prim.Native.Nat.{ℕ, zero, suc, _+_, _≤_, _<_}
 use native.Mathlib.Omega.{arith}
+use lib.Ieee.{Float}
 use lib.IntN.{ℤ}
 use lib.ListN.{length}
 use lib.Signed.{mag}
@@ -14,7 +15,9 @@ use Rattle.questions.specs.Studies.{tripletsIn}
 use Rattle.study.specs.Counts.{fewWeights}
 use Rattle.listing.specs.Listings.{refusalOf}
 use Rattle.listing_length.proofs.ListingLengthLaws.{refusal-short}
-use Rattle.answer_weights.specs.Asked.{Asked, furtherQuestions, questionsOf, weighed}
+use Rattle.triplet_study.specs.declared.Shape.{Shape}
+use Rattle.triplet_study.specs.Given.{Given, given, givenQuestions, studyOf}
+use Rattle.answer_weights.specs.Asked.{questionsOf}
 use Rattle.answer_weights.specs.Answers.{listingFor, answerBy, answerTo}
 
 pub diagonal-lt : (z : ℤ) → isBetween 0 3 z ≡ true → mag z < 4
@@ -23,21 +26,26 @@ diagonal-lt z e = omega (arith, between-high 0 3 z e)
 pub refusal-room : (n : ℕ) → 0 + length (refusalOf n) ≤ 118617
 refusal-room n = omega (arith, refusal-short n)
 
-module _ (a : Asked) where
+module _ (g : Given) where
   -- question 1 comes first
-  pub few-no : fewWeights (a .head .«tp_type») (a .head .«num_band1») (a .head .«num_band2») (length (a .points)) (tripletsIn (a .triplets)) ≡ false → 1 ≡ firstNo (questionsOf a)
+  pub few-no : fewWeights (g .shape .«tp_type») (g .shape .«num_band1») (g .shape .«num_band2») (length (g .points)) (tripletsIn (g .triplets)) ≡ false → 1 ≡ firstNo (questionsOf g)
   unfolding firstNo
   few-no e = rw e
 
-  pub few-yes : fewWeights (a .head .«tp_type») (a .head .«num_band1») (a .head .«num_band2») (length (a .points)) (tripletsIn (a .triplets)) ≡ true → firstNo (furtherQuestions a) ≡ firstNo (questionsOf a)
+  pub few-yes : fewWeights (g .shape .«tp_type») (g .shape .«num_band1») (g .shape .«num_band2») (length (g .points)) (tripletsIn (g .triplets)) ≡ true → firstNo (givenQuestions g) ≡ firstNo (questionsOf g)
   unfolding firstNo
   few-yes e = rw e
 
-  pub answer-refused : (n : ℕ) → n ≡ firstNo (questionsOf a) → (n ≡ 0 → ⊥) → refusalOf n ≡ answerTo a
+  pub answer-refused : (n : ℕ) → n ≡ firstNo (questionsOf g) → (n ≡ 0 → ⊥) → refusalOf n ≡ answerTo g
   unfolding answerTo
   answer-refused zero e h = absurd (h refl)
   answer-refused (suc n) e h = rw (← e)
 
-  pub answer-listed : (n : ℕ) → n ≡ firstNo (questionsOf a) → n ≡ 0 → listingFor (weighed a) ≡ answerTo a
+  pub answer-listed : (n : ℕ) → n ≡ firstNo (questionsOf g) → n ≡ 0 → listingFor (studyOf g) ≡ answerTo g
   unfolding answerTo
   answer-listed n e h = rw (← e, h)
+
+-- the same study by the values that the call makes
+pub answer-same : (shape shape′ : Shape) (addresses gp-map steps steps′ : List ℤ) (f1 f2 points : List Float) (triplets : List ℤ) → shape ≡ shape′ → steps ≡ steps′
+    → answerTo (given shape addresses gp-map steps f1 f2 points triplets) ≡ answerTo (given shape′ addresses gp-map steps′ f1 f2 points triplets)
+answer-same shape shape′ addresses gp-map steps steps′ f1 f2 points triplets e k = rw (e, k)

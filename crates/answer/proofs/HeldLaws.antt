@@ -19,16 +19,17 @@ use Rattle.listing.specs.Listings.{refusalOf}
 use Rattle.study.specs.declared.Head.{Head}
 use Rattle.study.specs.declared.StudyRead.{StudyRead}
 use Rattle.study.specs.declared.StudyRead.the-variants as S
-use Rattle.study.specs.Studies.{Study, Holds, holds, holdsNone, studyOf}
+use Rattle.study.specs.Studies.{Study, Holds, holds, holdsNone, studyIn}
 use Rattle.study.specs.Told.{toldStudy}
 use Rattle.study_print.proofs.StudyOnlyLaws.{PrintedOnly, printed-only}
 use Rattle.study_print.proofs.LengthLaws.{Small, study-small}
 use Rattle.listing_length.proofs.ListingLengthLaws.{refusal-short}
 use Rattle.questions.specs.Ask.{firstNo}
-use Rattle.answer_weights.specs.Asked.{Asked, asked, questionsOf, weighed}
+use Rattle.triplet_study.specs.Given.{studyOf}
+use Rattle.answer_weights.specs.Asked.{questionsOf}
 use Rattle.answer_weights.specs.Answers.{listingFor, answerBy, answerTo}
 use Rattle.answer_weights.proofs.ReadyLaws.{listing-room}
-use Rattle.answer.specs.Texts.{floatsOf, askedOf, answerOfHeld, answerOf, answered}
+use Rattle.answer.specs.Texts.{floatsOf, asked, askedOf, answerOfHeld, answerOf, answered}
 
 pub length-floats : (patterns : List ℕ) → length (floatsOf patterns) ≡ length patterns
 unfolding floatsOf
@@ -51,17 +52,17 @@ pub answered-from : (r : ℕ) (l m old new : List ℕ) → r ≡ 0 + length l �
 answered-from r l m old new p q e = answered-so r l m old new (omega (arith, p)) q e
 
 -- a text that holds no study
-pub none-held : (text : List ℕ) (r : StudyRead) (x₁ x₂ : List ℤ) (x₃ x₄ x₅ : List ℕ) (x₆ : List ℤ) → studyOf text ≡ toldStudy r x₁ x₂ x₃ x₄ x₅ x₆ → r ≡ S.Bad → refusalOf 1 ≡ answerOf text
+pub none-held : (text : List ℕ) (r : StudyRead) (x₁ x₂ : List ℤ) (x₃ x₄ x₅ : List ℕ) (x₆ : List ℤ) → studyIn text ≡ toldStudy r x₁ x₂ x₃ x₄ x₅ x₆ → r ≡ S.Bad → refusalOf 1 ≡ answerOf text
 unfolding answerOf
 none-held text r x₁ x₂ x₃ x₄ x₅ x₆ e g = rw (e, g)
 
 -- a text that holds one
 module _ (text : List ℕ) (r : StudyRead) (x₁ x₂ : List ℤ) (x₃ x₄ x₅ : List ℕ) (x₆ : List ℤ) (h : Head) (a m i j k t : ℕ)
-    (e : studyOf text ≡ toldStudy r x₁ x₂ x₃ x₄ x₅ x₆) (g : r ≡ S.Read h a m i j k t) where
+    (e : studyIn text ≡ toldStudy r x₁ x₂ x₃ x₄ x₅ x₆) (g : r ≡ S.Read h a m i j k t) where
   abbrev held : Study
-  held = record { head = h; addresses = take a x₁; map = take m x₂; f1 = take i x₃; f2 = take j x₄; points = take k x₅; triplets = take t x₆ }
+  held = record { head = h; addresses = take a x₁; gp-map = take m x₂; f1 = take i x₃; f2 = take j x₄; points = take k x₅; triplets = take t x₆ }
 
-  holds-it : studyOf text ≡ holds held
+  holds-it : studyIn text ≡ holds held
   holds-it = e ∙ ap (λ (y : StudyRead). toldStudy y x₁ x₂ x₃ x₄ x₅ x₆) g
 
   printed-so : PrintedOnly text held
@@ -80,7 +81,7 @@ module _ (text : List ℕ) (r : StudyRead) (x₁ x₂ : List ℤ) (x₃ x₄ x�
   -- the numbers of each section lie within its buffer
   pub record Within : Type 0 where
     pub addresses : a ≤ length x₁
-    pub map : m ≤ length x₂
+    pub gp-map : m ≤ length x₂
     pub f1 : i ≤ length x₃
     pub f2 : j ≤ length x₄
     pub points : k ≤ length x₅
@@ -89,7 +90,7 @@ module _ (text : List ℕ) (r : StudyRead) (x₁ x₂ : List ℤ) (x₃ x₄ x�
   pub within : 16387 ≡ length x₁ → 16385 ≡ length x₂ → 16385 ≡ length x₃ → 16385 ≡ length x₄ → 16385 ≡ length x₅ → 16387 ≡ length x₆ → Within
   within l₁ l₂ l₃ l₄ l₅ l₆ = record {
     addresses = front-fits a x₁ (small .addresses) (omega arith);
-    map = front-fits m x₂ (small .map) (omega arith);
+    gp-map = front-fits m x₂ (small .gp-map) (omega arith);
     f1 = front-fits i x₃ (small .f1) (omega arith);
     f2 = front-fits j x₄ (small .f2) (omega arith);
     points = front-fits k x₅ (omega (arith, small .points)) (omega arith);
@@ -103,7 +104,7 @@ answer-within r text old new e g = omega (arith, e, ap length g, length-append (
 -- ---- how long an answer can be
 
 module _ (s : Study) (w : Small s) where
-  by-number : (n : ℕ) → firstNo (questionsOf (askedOf s)) ≡ n → length (answerBy n (listingFor (weighed (askedOf s)))) ≤ 118617
+  by-number : (n : ℕ) → firstNo (questionsOf (askedOf s)) ≡ n → length (answerBy n (listingFor (studyOf (askedOf s)))) ≤ 118617
   by-number zero e = listing-room (askedOf s) e (omega (arith, length-floats (s .points), w .points)) (w .triplets)
   by-number (suc n) e = omega (arith, refusal-short (suc n))
 
@@ -114,8 +115,8 @@ module _ (s : Study) (w : Small s) where
 -- no answer is longer than 118,617 bytes; `longest-reached` of listing_length tells that one can be as long
 pub answer-longest : (text : List ℕ) → length (answerOf text) ≤ 118617
 unfolding answerOf
-answer-longest text = go (studyOf text) refl
+answer-longest text = go (studyIn text) refl
   where
-    go : (h : Holds) → studyOf text ≡ h → length (answerOfHeld h) ≤ 118617
+    go : (h : Holds) → studyIn text ≡ h → length (answerOfHeld h) ≤ 118617
     go holdsNone e = omega (arith, refusal-short 1)
     go (holds s) e = answer-short s (study-small s (printed-only text s e .printable))

@@ -8,15 +8,18 @@ use lib.Signed.{mag}
 use Rattle.list_laws.specs.Lists.{allBelow}
 use Rattle.list_laws.specs.Signed.{within, isBetween}
 use Rattle.questions.specs.Ask.{firstNo}
-use Rattle.common.specs.Mesh.{countOf, meshOf as meshOfList}
+use Rattle.common.specs.Mesh.{countOf, meshOf}
 use Rattle.questions.specs.Grids.{areTriples, triplesIn, isGridKind, isMesh, areAddresses, isMap}
 use Rattle.questions.specs.Studies.{tripletsIn, areStudyCounts, areTriplets, areStudyFrequencies}
 use Rattle.questions.specs.TpTypes.{isTpType}
 use Rattle.questions.specs.Tables.{isTable}
 use Rattle.tetrahedron_tables.specs.Tables.{tableOf, flat, table0, table1, table2, table3}
-use Rattle.answer_weights.specs.Asked.{Asked, meshOf, questionsOf}
-use Rattle.study.specs.declared.Head.{Head}
+use Rattle.triplet_study.specs.declared.Shape.{Shape}
+use Rattle.triplet_study.specs.Given.{Given}
+use Rattle.answer_weights.specs.Asked.{questionsOf}
 use Rattle.study.specs.Counts.{fewWeights}
+use Rattle.study.specs.Studies.{Study}
+use Rattle.answer.specs.Texts.{askedOf}
 use Rattle.answer.proofs.AnswerLaws.{diagonal-lt}
 
 pub built-in : (d : ℕ) → d < 4 → isTable (flat (tableOf d)) ≡ true
@@ -27,17 +30,18 @@ built-in (suc (suc zero)) h = refl
 built-in (suc (suc (suc zero))) h = refl
 built-in (suc (suc (suc (suc d)))) h = absurd (omega (arith, h))
 
--- of a head with `diag` 0 to 3, as every well formed text has, the first no is never 7
-pub never-seven : (a : Asked) → isBetween 0 3 (a .head .diag) ≡ true → firstNo (questionsOf a) ≡ 7 → ⊥
+-- of a text's study, whose `diag` is 0 to 3, the first no is never 7
+pub never-seven : (s : Study) → isBetween 0 3 (s .head .diag) ≡ true → firstNo (questionsOf (askedOf s)) ≡ 7 → ⊥
 unfolding firstNo
-never-seven a d e =
-    let h : Head = a .head in
-    let n : ℕ = countOf (meshOfList (meshOf h)) in
-    let p : ℕ = triplesIn (a .addresses) in
-    go (fewWeights (h .«tp_type») (h .«num_band1») (h .«num_band2») (length (a .points)) (tripletsIn (a .triplets))) (isGridKind (h .«bz_grid_type»)) (isMesh 128 (meshOf h)) (areAddresses n (a .addresses))
-    (isMap (h .«bz_grid_type») n p (a .map)) (isTpType (h .«tp_type»)) (areStudyCounts (h .«num_band1») (h .«num_band2») (length (a .points)) (tripletsIn (a .triplets))) (areTriplets p (a .triplets))
-    (areStudyFrequencies p (mag (h .«num_band1»)) (mag (h .«num_band2»)) (a .frequencies1) (a .frequencies2) (a .points))
-    (rw (built-in (mag (a .head .diag)) (diagonal-lt (a .head .diag) d)) at e)
+never-seven s d e =
+    let g : Given = askedOf s in
+    let h : Shape = g .shape in
+    let n : ℕ = countOf (meshOf (h .«d_diag»)) in
+    let p : ℕ = triplesIn (g .addresses) in
+    go (fewWeights (h .«tp_type») (h .«num_band1») (h .«num_band2») (length (g .points)) (tripletsIn (g .triplets))) (isGridKind (h .«bz_grid_type»)) (isMesh 128 (h .«d_diag»)) (areAddresses n (g .addresses))
+    (isMap (h .«bz_grid_type») n p (g .gp-map)) (isTpType (h .«tp_type»)) (areStudyCounts (h .«num_band1») (h .«num_band2») (length (g .points)) (tripletsIn (g .triplets))) (areTriplets p (g .triplets))
+    (areStudyFrequencies p (mag (h .«num_band1»)) (mag (h .«num_band2»)) (g .frequencies1) (g .frequencies2) (g .points))
+    (rw (built-in (mag (s .head .diag)) (diagonal-lt (s .head .diag) d)) at e)
   where
     go : (b1 b3 b4 b5 b6 b8 b9 b10 b11 : Bool) → _≡_ {A = ℕ} (cond b1 (cond b3 (cond b4 (cond b5 (cond b6 (cond b8 (cond b9 (cond b10 (cond b11 0 11) 10) 9) 8) 6) 5) 4) 3) 1) 7 → ⊥
     go false b3 b4 b5 b6 b8 b9 b10 b11 e = omega (arith, e)

@@ -5,26 +5,28 @@ ghost use Prim.Native.Nat.{_/_, _≤_};
 ghost use lib.ListN.{length};
 ghost use Rattle.list_laws.specs.Signed.{isBetween};
 ghost use Rattle.questions.specs.Ask.{firstNo};
-ghost use Rattle.questions.specs.Studies.{studyQuestions};
 ghost use Rattle.study.specs.Counts.{fewWeights};
+ghost use Rattle.triplet_study.specs.Given.{given};
 ghost use Rattle.writing.specs.Written.{written};
-ghost use Rattle.answer_weights.specs.Asked.{asked, meshOf, questionsOf, tableFor};
+ghost use Rattle.answer_weights.specs.Asked.{questionsOf};
 ghost use Rattle.answer_weights.specs.Answers.{answerTo};
+ghost use Rattle.answer.specs.Texts.{asked, shapeOf, tableFor};
 use study::Head;
+use triplet_study::Shape;
 
 // Question 1, the count of weights.
-fn few_weights(head: Head, points: usize, triplets: usize) -> bool
-    ensures { λ r. ⌜ r ≡ fewWeights (head .«tp_type») (head .«num_band1») (head .«num_band2») points triplets ⌝ }
+fn few_weights(shape: Shape, points: usize, triplets: usize) -> bool
+    ensures { λ r. ⌜ r ≡ fewWeights (shape .«tp_type») (shape .«num_band1») (shape .«num_band2») points triplets ⌝ }
 {
-    let tp_type = head.tp_type;
-    let num_band1 = head.num_band1;
-    let num_band2 = head.num_band2;
+    let tp_type = shape.tp_type;
+    let num_band1 = shape.num_band1;
+    let num_band2 = shape.num_band2;
     study::kernel::weight_count_ok(tp_type, num_band1, num_band2, points, triplets)
 }
 
-// The number of the first of questions 3 to 11 that is answered no, or 0.
-fn further_no(
-    head: Head,
+// The number of the first question that is answered no, or 0.
+fn first_no(
+    shape: Shape,
     addresses: &[i64],
     gp_map: &[i64],
     steps: &[i64],
@@ -33,22 +35,14 @@ fn further_no(
     points: &[f64],
     triplets: &[i64],
 ) -> u64
-    ensures { λ r. ⌜ r ≡ firstNo (studyQuestions (head .«bz_grid_type») (meshOf head) (head .«tp_type») (head .«num_band1») (head .«num_band2») (now (addresses .entry)) (now («gp_map» .entry)) (now (steps .entry))
-        (now (frequencies1 .entry)) (now (frequencies2 .entry)) (now (points .entry)) (now (triplets .entry))) ⌝ }
+    ensures { λ r. ⌜ r ≡ firstNo (questionsOf (given shape (now (addresses .entry)) (now («gp_map» .entry)) (now (steps .entry)) (now (frequencies1 .entry)) (now (frequencies2 .entry)) (now (points .entry)) (now (triplets .entry)))) ⌝ }
 {
-    let kind = head.bz_grid_type;
-    let d0 = head.d0;
-    let d1 = head.d1;
-    let d2 = head.d2;
-    let tp_type = head.tp_type;
-    let num_band1 = head.num_band1;
-    let num_band2 = head.num_band2;
-    questions::kernel::study::study_no(
-        kind,
-        [d0, d1, d2],
-        tp_type,
-        num_band1,
-        num_band2,
+    let count = (triplets.len() + 2) / 3;
+    if !few_weights(shape, points.len(), count) {
+        return questions::BAD_TEXT;
+    }
+    triplet_study::kernel::given_no(
+        shape,
         addresses,
         gp_map,
         steps,
@@ -59,34 +53,17 @@ fn further_no(
     )
 }
 
-// The number of the first question that is answered no, or 0. `steps` is the table of the main diagonal.
-fn first_no(
-    head: Head,
-    addresses: &[i64],
-    gp_map: &[i64],
-    steps: &[i64],
-    frequencies1: &[f64],
-    frequencies2: &[f64],
-    points: &[f64],
-    triplets: &[i64],
-) -> u64
-    requires { ⌜ now steps ≡ tableFor head ⌝ }
-    ensures { λ r. ⌜ r ≡ firstNo (questionsOf (asked head (now (addresses .entry)) (now («gp_map» .entry)) (now (frequencies1 .entry)) (now (frequencies2 .entry)) (now (points .entry)) (now (triplets .entry)))) ⌝ }
+// The shape of a head.
+fn shape_of(head: Head) -> Shape
+    ensures { λ r. ⌜ r ≡ shapeOf head ⌝ }
 {
-    let count = (triplets.len() + 2) / 3;
-    if !few_weights(head, points.len(), count) {
-        return questions::BAD_TEXT;
+    Shape {
+        bz_grid_type: head.bz_grid_type,
+        d_diag: [head.d0, head.d1, head.d2],
+        tp_type: head.tp_type,
+        num_band1: head.num_band1,
+        num_band2: head.num_band2,
     }
-    further_no(
-        head,
-        addresses,
-        gp_map,
-        steps,
-        frequencies1,
-        frequencies2,
-        points,
-        triplets,
-    )
 }
 
 // The built-in table of a head.
@@ -116,9 +93,10 @@ pub fn put_answer(
     ensures { λ r. ⌜ r ≡ length (answerTo (asked head (now (addresses .entry)) (now («gp_map» .entry)) (now (frequencies1 .entry)) (now (frequencies2 .entry)) (now (points .entry)) (now (triplets .entry)))) ⌝ }
     ensures { λ r. ⌜ now (out .exit) ≡ written 0 (answerTo (asked head (now (addresses .entry)) (now («gp_map» .entry)) (now (frequencies1 .entry)) (now (frequencies2 .entry)) (now (points .entry)) (now (triplets .entry)))) (now (out .entry)) ⌝ }
 {
+    let shape = shape_of(head);
     let table = table_of(head);
     let no = first_no(
-        head,
+        shape,
         addresses,
         gp_map,
         &table,
@@ -132,7 +110,7 @@ pub fn put_answer(
     }
     answer_weights::kernel::put_study(
         out,
-        head,
+        shape,
         addresses,
         gp_map,
         &table,

@@ -5,32 +5,34 @@ ghost use Prim.Native.Nat.{_/_, _≤_};
 ghost use lib.ListN.{length};
 ghost use Rattle.list_laws.specs.Signed.{isBetween};
 ghost use Rattle.writing.specs.Written.{written};
-ghost use Rattle.answer_weights.specs.Asked.{asked};
 ghost use Rattle.answer_weights.specs.Answers.{answerTo};
-ghost use Rattle.answer.specs.Texts.{floatsOf};
+ghost use Rattle.answer.specs.Texts.{asked, floatsOf};
 use crate::asking;
 use crate::floats;
 use study::Head;
 
-// Room for the numbers of a text: no text has more.
+// Room for whole triples: a text has at most 16,384 numbers, and a row may be begun behind them.
 pub fn triples() -> [i64; 16387]
     ensures { λ r. ⌜ 16387 ≡ length r ⌝ }
 {
     [0; 16387]
 }
 
+// Room for single numbers.
 pub fn numbers() -> [i64; 16385]
     ensures { λ r. ⌜ 16385 ≡ length r ⌝ }
 {
     [0; 16385]
 }
 
+// Room for bit patterns.
 pub fn patterns() -> [u64; 16385]
     ensures { λ r. ⌜ 16385 ≡ length r ⌝ }
 {
     [0; 16385]
 }
 
+// Room for the floats of bit patterns.
 fn reals() -> [f64; 16385]
     ensures { λ r. ⌜ 16385 ≡ length r ⌝ }
 {

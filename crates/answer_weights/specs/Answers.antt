@@ -3,9 +3,10 @@ use mathlib.Core.List.{List}
 use Prim.Native.Nat.{ℕ, zero, suc}
 use Rattle.questions.specs.Ask.{firstNo}
 use Rattle.triplet_piece.specs.Study.{Study, sizesOf}
+use Rattle.triplet_study.specs.Given.{Given, studyOf}
 use Rattle.triplet_iw.specs.Whole.{allWeights, allFlags}
 use Rattle.listing.specs.Listings.{listingOf, refusalOf}
-use Rattle.answer_weights.specs.Asked.{Asked, questionsOf, weighed}
+use Rattle.answer_weights.specs.Asked.{questionsOf}
 
 -- the listing of all weights of a study
 unfoldable pub listingFor : Study → List ℕ
@@ -17,5 +18,5 @@ answerBy zero listing = listing
 answerBy (suc n) listing = refusalOf (suc n)
 
 -- the answer to a well formed text
-unfoldable pub answerTo : Asked → List ℕ
-answerTo a = answerBy (firstNo (questionsOf a)) (listingFor (weighed a))
+unfoldable pub answerTo : Given → List ℕ
+answerTo g = answerBy (firstNo (questionsOf g)) (listingFor (studyOf g))

@@ -1,7 +1,6 @@
 // Answers the texts of standard input one after the other. Each is a line of six digits, how many bytes it has, and then those bytes.
-ghost use Prim.Native.Nat.{_≤_};
 ghost use mathlib.Core.Path.{_≡_};
-ghost use lib.ListN.{length, take};
+ghost use lib.ListN.{length};
 use replay_input::kernel as input;
 use replay_input::kernel::Cursor;
 
@@ -9,16 +8,6 @@ fn answer_buffer() -> [u8; 118617]
     ensures { λ r. ⌜ 118617 ≡ length r ⌝ }
 {
     [0; 118617]
-}
-
-// Reads n bytes to the start of buf, fewer where buf is shorter, and answers how many there were.
-fn read_part(buf: &mut [u8], n: usize) -> usize
-    ensures { λ r. ⌜ (r ≤ length (now (buf .exit))) × (r ≡ length (take r (now (buf .exit)))) ⌝ }
-{
-    if n <= buf.len() {
-        return io::read_full(0, &mut buf[..n]);
-    }
-    0
 }
 
 // Answers the next text; false where there is none.
@@ -30,7 +19,7 @@ fn next_text() -> bool {
     }
     let size = input::next_count(&head, Cursor { at: 0 });
     let mut text = io::large_buffer();
-    let n = read_part(&mut text, size.value as usize);
+    let n = input::read_part(&mut text, size.value as usize);
     let mut out = answer_buffer();
     let k = answer::answer(&text[..n], &mut out);
     io::write_all(1, &out[..k]);

@@ -34,7 +34,7 @@ weightOf weights total e channels c = hexadecimal (toBits binary64 (getD weights
 unfoldable pub weightsOf : List Float → ℕ → ℕ → ℕ → List ℕ
 weightsOf weights total e channels = rows channels (weightOf weights total e channels)
 
--- a flag as it is written
+-- a flag as it is written: 0, or 1 for any other
 unfoldable pub flagAt : List ℤ → ℕ → ℕ
 flagAt flags e = cond (eqZ (at flags e) (pos 0)) 0 1
 

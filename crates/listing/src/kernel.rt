@@ -48,7 +48,7 @@ fn put_weights(
     let mut p = at;
     let mut c = 0;
     while c < channels {
-        let bits = writing::kernel::bits_of(weights[c * total + e]);
+        let bits = text::kernel::bits_of(weights[c * total + e]);
         let end = weight_end(channels, c);
         p = writing::kernel::put_bits(out, p, bits, end);
         c += 1;

@@ -1,12 +1,11 @@
 -- How long a listing is, and how long it can be: at most 118,617 bytes where it has at most 4,096 weights, 1,170 triplets and 712 points. Assumes nothing.
-use Prim.Native.Nat.{ℕ, zero, suc, _+_, _-_, _*_, _/_, _%_, _≤_, _<_}
+use Prim.Native.Nat.{ℕ, _+_, _-_, _*_, _/_, _%_, _≤_, _<_}
 use mathlib.Core.Path.{_≡_, refl, sym, ap, _∙_}
 use mathlib.Core.Bool.{Bool, true, false, cond}
 use mathlib.Core.List.{List, [], _∷_, _++_}
 use mathlib.Core.Logic.{_⊎_, inl, inr}
 use native.Mathlib.Nat.{mul-le-mul-right}
 use native.Mathlib.Omega.{arith}
-use lib.Dec.{ltb}
 use lib.Ieee.{Float, nan, binary64, toBits}
 use lib.IntN.{ℤ, pos}
 use lib.ListN.{length, getD, length-append}
@@ -14,7 +13,7 @@ use Rattle.list_laws.specs.Lists.{at, rows}
 use Rattle.list_laws.specs.Signed.{eqZ}
 use Rattle.list_laws.proofs.BoolLaws.{lt-or-le}
 use Rattle.text.specs.Spelled.{places, decimal, hexadecimal}
-use Rattle.text.proofs.SpelledLaws.{length-decimal, length-hexadecimal}
+use Rattle.text.proofs.SpelledLaws.{length-decimal, length-hexadecimal, places-le}
 use Rattle.listing.specs.Listings.{number, frontOf, weightEnd, weightOf, weightsOf, flagAt, lineOf, linesOf, listingOf, refusalOf}
 use Rattle.listing.proofs.ListingLaws.{front-lengths, line-length, listing-length, refusal-length}
 use Rattle.listing_length.specs.Totals.{total, digitsOf, digitsBelow}
@@ -108,15 +107,6 @@ unfolding columns
 longest-reached weights flags n =
     omega (arith, listing-bytes 195 21 1 1 1 weights flags n, below-is 195 (omega arith), below-is 21 (omega arith), below-is 1 (omega arith))
 
-places-most : (f n : ℕ) → places f n ≤ suc f
-unfolding places
-places-most zero n = omega arith
-places-most (suc f) n = go (ltb n 10) (places-most f (n / 10))
-  where
-    go : (t : Bool) → places f (n / 10) ≤ suc f → cond t 1 (suc (places f (n / 10))) ≤ suc (suc f)
-    go true h = omega arith
-    go false h = omega arith
-
 -- a refusal, whatever its number
 pub refusal-short : (n : ℕ) → length (refusalOf n) ≤ 29
-refusal-short n = omega (arith, refusal-length n, number-length n 10, places-most 19 n)
+refusal-short n = omega (arith, refusal-length n, number-length n 10, places-le 19 n)

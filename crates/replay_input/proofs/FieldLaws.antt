@@ -2,37 +2,20 @@
 use Prim.Native.Nat.{ℕ, zero, suc, _+_, _-_, _*_, _%_, _^_, _≤_, _<_}
 use mathlib.Core.Path.{_≡_, refl, ap, _∙_}
 use mathlib.Core.List.{List, [], _∷_}
-use mathlib.Core.Logic.{_⊎_, inl, inr}
 use native.Mathlib.Numerals.{add-one}
 use native.Mathlib.Omega.{arith}
 use lib.IntN.{ℤ, pos, negsuc, _-ℤ_}
 use lib.Ieee.{Float, binary64, ofBits}
 use lib.ListN.{length, getD, drop, set, length-drop}
 use lib.Seq.{drop-cons}
-use borrow.Author.Tests.{le-leb, lt-leb, lt-ltb, le-ltb, eq-eqb, ne-eqb}
+use borrow.Author.Tests.{lt-ltb, le-ltb, eq-eqb, ne-eqb}
 use mir.Syntax.{w64}
 use mir.Val.{toZ, ofZ, SFits}
 use mir.Facts.{toZ-pos, toZ-ofZ}
-use Rattle.replay_input.specs.Fields.{digitOf, spelled, passed, countAt, afterCount, bitsAt, afterBits, negated, plain, wholeAt, afterWhole, fieldPlace, wholeFrom, realFrom}
+use Rattle.replay_input.specs.Fields.{spelled, passed, countAt, afterCount, bitsAt, afterBits, negated, plain, wholeAt, afterWhole, fieldPlace, wholeFrom, realFrom}
 use Rattle.list_laws.specs.Lists.{fronted, tabulate}
+use Rattle.text.specs.Fields.{digitOf}
 use Rattle.list_laws.proofs.FillLaws.{front-next}
-
--- ---- one digit
-
-module _ (b : ℕ) where
-  pub digit-low : 48 ≤ b → b ≤ 57 → b - 48 ≡ digitOf b
-  unfolding digitOf
-  digit-low l h = simp (le-leb 48 b l, le-leb b 57 h)
-
-  pub digit-high : 97 ≤ b → b ≤ 102 → b - 87 ≡ digitOf b
-  unfolding digitOf
-  digit-high l h = simp (le-leb 48 b (omega arith), lt-leb b 57 (omega arith), le-leb 97 b l, le-leb b 102 h)
-
-  pub digit-none : (b < 48) ⊎ ((57 < b) × ((b < 97) ⊎ (102 < b))) → 16 ≡ digitOf b
-  unfolding digitOf
-  digit-none (inl h) = simp (lt-leb 48 b h, lt-leb 97 b (omega arith))
-  digit-none (inr (h, inl l)) = simp (le-leb 48 b (omega arith), lt-leb b 57 h, lt-leb 97 b l)
-  digit-none (inr (h, inr l)) = simp (le-leb 48 b (omega arith), lt-leb b 57 h, le-leb 97 b (omega arith), lt-leb b 102 l)
 
 -- ---- digits up to the byte that ends them
 

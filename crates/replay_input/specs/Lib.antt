@@ -2,3 +2,4 @@
 pub mod Fields
 pub mod Sameness
 pub mod Report
+pub mod Stamps

@@ -1,12 +1,13 @@
 // The readers.
 pub mod compare;
 pub mod report;
+pub mod stamps;
 
 ghost use Prim.Native.Nat.{_≤_, min};
 ghost use mathlib.Core.Path.{_≡_};
 ghost use lib.ListN.{length, take};
-ghost use lib.Ieee.{binary64, ofBits, toBits};
-ghost use Rattle.replay_input.specs.Fields.{digitOf, countAt, afterCount, bitsAt, afterBits, negated, plain, wholeAt, afterWhole, fieldPlace, wholeFrom, WholesRead, RealsRead};
+ghost use lib.Ieee.{binary64, ofBits};
+ghost use Rattle.replay_input.specs.Fields.{countAt, afterCount, bitsAt, afterBits, negated, plain, wholeAt, afterWhole, fieldPlace, wholeFrom, WholesRead, RealsRead};
 ghost use Rattle.list_laws.specs.Lists.{tabulate};
 
 // Where the next field starts.
@@ -14,6 +15,7 @@ pub struct Cursor {
     pub at: usize,
 }
 
+// A whole number as read, and where the next field starts.
 pub struct Whole {
     pub value: i64,
     pub next: Cursor,
@@ -25,11 +27,13 @@ pub struct Three {
     pub next: Cursor,
 }
 
+// A number without a sign.
 pub struct Bits {
     pub value: u64,
     pub next: Cursor,
 }
 
+// A float.
 pub struct Real {
     pub value: f64,
     pub next: Cursor,
@@ -41,24 +45,6 @@ pub struct Listed {
     pub next: Cursor,
 }
 
-// What a byte counts as a digit; 16 where it is none.
-fn digit_of(b: u8) -> u64
-    ensures { λ r. ⌜ r ≡ digitOf b ⌝ }
-    ensures { λ r. ⌜ r ≤ 16 ⌝ }
-{
-    if 48 <= b {
-        if b <= 57 {
-            return (b - 48) as u64;
-        }
-        if 97 <= b {
-            if b <= 102 {
-                return (b - 87) as u64;
-            }
-        }
-    }
-    16
-}
-
 // A decimal number with no sign: what the digits spell up to the first byte that is none, which is passed too.
 pub fn next_count(text: &[u8], c: Cursor) -> Bits
     ensures { λ r. ⌜ (r .value ≡ countAt (now (text .entry)) (c .at)) × (r .next .at ≡ afterCount (now (text .entry)) (c .at)) ⌝ }
@@ -66,7 +52,7 @@ pub fn next_count(text: &[u8], c: Cursor) -> Bits
     let mut n: u64 = 0;
     let mut i = c.at;
     while i < text.len() {
-        let d = digit_of(text[i]);
+        let d = text::kernel::digit_of(text[i]);
         i += 1;
         if 10 <= d {
             break;
@@ -86,7 +72,7 @@ pub fn next_bits(text: &[u8], c: Cursor) -> Bits
     let mut n: u64 = 0;
     let mut i = c.at;
     while i < text.len() {
-        let d = digit_of(text[i]);
+        let d = text::kernel::digit_of(text[i]);
         i += 1;
         if 16 <= d {
             break;
@@ -99,12 +85,14 @@ pub fn next_bits(text: &[u8], c: Cursor) -> Bits
     }
 }
 
+// A magnitude with no sign, kept to 63 bits.
 fn positive(n: u64) -> i64
     ensures { λ r. ⌜ r ≡ plain n ⌝ }
 {
     (n % 9223372036854775808) as i64
 }
 
+// A magnitude with a minus sign.
 fn negative(n: u64) -> i64
     ensures { λ r. ⌜ r ≡ negated n ⌝ }
 {
@@ -115,6 +103,7 @@ fn negative(n: u64) -> i64
     -1 - (less as i64)
 }
 
+// A whole number: digits, and a minus sign where one stands before them.
 pub fn next_whole(text: &[u8], c: Cursor) -> Whole
     ensures { λ r. ⌜ (r .value ≡ wholeAt (now (text .entry)) (c .at)) × (r .next .at ≡ afterWhole (now (text .entry)) (c .at)) ⌝ }
 {
@@ -137,6 +126,7 @@ pub fn next_whole(text: &[u8], c: Cursor) -> Whole
     }
 }
 
+// Three whole numbers.
 pub fn next_three(text: &[u8], c: Cursor) -> Three
     ensures { λ r. ⌜ (r .value ≡ tabulate 3 (wholeFrom (now (text .entry)) (c .at))) × (r .next .at ≡ fieldPlace (afterWhole (now (text .entry))) (c .at) 3) ⌝ }
 {
@@ -150,39 +140,20 @@ pub fn next_three(text: &[u8], c: Cursor) -> Three
     }
 }
 
-// The float of a bit pattern, every one: a NaN's pattern gives a NaN.
-pub fn float_of(bits: u64) -> f64
-    ensures { λ r. ⌜ r ≡ ofBits binary64 bits ⌝ }
-{
-    if 9218868437227405312 < bits % 9223372036854775808 {
-        return 0.0 / 0.0;
-    }
-    f64::from_bits(bits)
-}
-
-// The bit pattern of a float; of a NaN the one with only the highest digit set.
-pub fn bits_of(x: f64) -> u64
-    ensures { λ r. ⌜ r ≡ toBits binary64 x ⌝ }
-{
-    if x != x {
-        return 9221120237041090560;
-    }
-    f64::to_bits(x)
-}
-
+// A float by the hexadecimal digits of its bits.
 pub fn next_real(text: &[u8], c: Cursor) -> Real
     ensures { λ r. ⌜ (r .value ≡ ofBits binary64 (bitsAt (now (text .entry)) (c .at))) × (r .next .at ≡ afterBits (now (text .entry)) (c .at)) ⌝ }
 {
     let b = next_bits(text, c);
     let next = b.next;
     Real {
-        value: float_of(b.value),
+        value: text::kernel::float_of(b.value),
         next,
     }
 }
 
 // A count that a buffer of length most can hold.
-fn at_most(n: u64, most: usize) -> usize
+pub fn at_most(n: u64, most: usize) -> usize
     ensures { λ r. ⌜ r ≤ most ⌝ }
     ensures { λ r. ⌜ r ≡ min n most ⌝ }
 {
@@ -191,6 +162,20 @@ fn at_most(n: u64, most: usize) -> usize
 
 // How much of a buffer a count takes: the count, or all of the buffer where that is shorter.
 pub fn part_of(n: u64, buf: &[i64]) -> usize
+    ensures { λ r. ⌜ (r ≤ length (now (buf .entry))) × (r ≡ length (take r (now (buf .entry)))) ⌝ }
+{
+    at_most(n, buf.len())
+}
+
+// The same of floats.
+pub fn room_of(n: u64, buf: &[f64]) -> usize
+    ensures { λ r. ⌜ (r ≤ length (now (buf .entry))) × (r ≡ length (take r (now (buf .entry)))) ⌝ }
+{
+    at_most(n, buf.len())
+}
+
+// The same of flags.
+pub fn places_of(n: u64, buf: &[i8]) -> usize
     ensures { λ r. ⌜ (r ≤ length (now (buf .entry))) × (r ≡ length (take r (now (buf .entry)))) ⌝ }
 {
     at_most(n, buf.len())
@@ -248,8 +233,8 @@ pub fn read_block(buf: &mut [u8]) -> usize
     read_part(buf, n)
 }
 
-// Reads n bytes to the start of buf, fewer where buf is shorter, and answers how many there were.
-fn read_part(buf: &mut [u8], n: usize) -> usize
+// Reads n bytes to the start of buf and answers how many there were; none where buf is shorter.
+pub fn read_part(buf: &mut [u8], n: usize) -> usize
     ensures { λ r. ⌜ (r ≤ length (now (buf .exit))) × (r ≡ length (take r (now (buf .exit)))) ⌝ }
 {
     if n <= buf.len() {

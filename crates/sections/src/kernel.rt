@@ -5,7 +5,7 @@ ghost use Prim.Native.Nat.{_+_, _≤_};
 ghost use mathlib.Core.Path.{_≡_};
 ghost use lib.ListN.{drop, length, take};
 ghost use Rattle.text.specs.Pieces.{ended, splitFrom};
-ghost use Rattle.sections.specs.Lines.{once, rows, sort, told, toldLine, toldOne, toldRows, values, wholeField};
+ghost use Rattle.sections.specs.Lines.{once, rows, lineKind, told, toldLine, toldOne, toldRows, values, wholeField};
 use crate::Line;
 use crate::One;
 use crate::Rows;
@@ -41,7 +41,7 @@ pub fn parse_wholes(line: &[u8], p: usize, count: usize, out: &mut [i64], at: us
 // A line against a tag and n whole numbers. Where it is such a row, its numbers are then in out from index at on.
 pub fn parse_line(line: &[u8], tag: &[u8], n: usize, out: &mut [i64], at: usize) -> Line
     requires { ⌜ at + n ≤ length (now out) ⌝ }
-    ensures { λ r. ⌜ sort wholeField (now (tag .entry)) n (now (line .entry)) ≡ toldLine r (take n (drop at (now (out .exit)))) ⌝ }
+    ensures { λ r. ⌜ lineKind wholeField (now (tag .entry)) n (now (line .entry)) ≡ toldLine r (take n (drop at (now (out .exit)))) ⌝ }
     ensures { λ _. ⌜ take at (now (out .exit)) ≡ take at (now (out .entry)) ⌝ }
 {
     let t = text::kernel::cut(line, 0, 9);

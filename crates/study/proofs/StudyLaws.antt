@@ -16,7 +16,7 @@ use Rattle.text.proofs.FieldLaws.{drop-past}
 use Rattle.text.proofs.PieceLaws.{ended-step}
 use Rattle.sections.specs.Lines.{Part, read, wrong, andThen, once, rows, wholeField, patternField}
 use Rattle.study.specs.declared.Head.{Head}
-use Rattle.study.specs.Studies.{gridTag, diagTag, typeTag, bandsTag, addrTag, mapTag, f1Tag, f2Tag, pointTag, tripletTag, headFrom, headPart, gridPart, floatsPart, Study, Holds, holds, holdsNone, whole, studyOfLines, endsLine, studyOf}
+use Rattle.study.specs.Studies.{gridTag, diagTag, typeTag, bandsTag, addrTag, mapTag, f1Tag, f2Tag, pointTag, tripletTag, headFrom, headPart, gridPart, floatsPart, Study, Holds, holds, holdsNone, whole, studyOfLines, endsLine, studyIn}
 
 -- ---- the head
 
@@ -89,12 +89,12 @@ module _ (ls : List (List ℕ)) where
 -- ---- the whole
 
 module _ (text : List ℕ) where
-  pub too-long : 16384 < length text → studyOf text ≡ holdsNone
-  unfolding studyOf
+  pub too-long : 16384 < length text → studyIn text ≡ holdsNone
+  unfolding studyIn
   too-long h = rw (lt-leb (length text) 16384 h)
 
-  pub not-ended : length text ≤ 16384 → endsLine text ≡ false → studyOf text ≡ holdsNone
-  unfolding studyOf
+  pub not-ended : length text ≤ 16384 → endsLine text ≡ false → studyIn text ≡ holdsNone
+  unfolding studyIn
   not-ended l e = rw (le-leb (length text) 16384 l, e)
 
   pub empty-not-ended : length text ≡ 0 → false ≡ endsLine text
@@ -106,37 +106,37 @@ module _ (text : List ℕ) where
       go (x ∷ t) e = absurd (omega (arith, e))
 
   module _ (l : length text ≤ 16384) (n : endsLine text ≡ true) where
-    of-lines : studyOf text ≡ studyOfLines (ended 10 text)
-    unfolding studyOf
+    of-lines : studyIn text ≡ studyOfLines (ended 10 text)
+    unfolding studyIn
     of-lines = rw (le-leb (length text) 16384 l, n)
 
-    pub no-head : headPart (ended 10 text) ≡ wrong → studyOf text ≡ holdsNone
+    pub no-head : headPart (ended 10 text) ≡ wrong → studyIn text ≡ holdsNone
     unfolding studyOfLines whole
     no-head e = of-lines ∙ rw e
 
     module _ (h : Head) (ls₁ : List (List ℕ)) (e : headPart (ended 10 text) ≡ read h ls₁) where
-      pub no-grid-part : gridPart ls₁ ≡ wrong → studyOf text ≡ holdsNone
+      pub no-grid-part : gridPart ls₁ ≡ wrong → studyIn text ≡ holdsNone
       unfolding studyOfLines whole
       no-grid-part f = of-lines ∙ rw (e, f)
 
       module _ (g : List ℤ × List ℤ) (ls₂ : List (List ℕ)) (f : gridPart ls₁ ≡ read g ls₂) where
-        pub no-floats-part : floatsPart ls₂ ≡ wrong → studyOf text ≡ holdsNone
+        pub no-floats-part : floatsPart ls₂ ≡ wrong → studyIn text ≡ holdsNone
         unfolding studyOfLines whole
         no-floats-part k = of-lines ∙ rw (e, f, k)
 
         module _ (v : List ℕ × List ℕ × List ℕ) (ls₃ : List (List ℕ)) (k : floatsPart ls₂ ≡ read v ls₃) where
-          pub no-triplets : rows wholeField tripletTag 3 ls₃ ≡ wrong → studyOf text ≡ holdsNone
+          pub no-triplets : rows wholeField tripletTag 3 ls₃ ≡ wrong → studyIn text ≡ holdsNone
           unfolding studyOfLines whole
           no-triplets w = of-lines ∙ rw (e, f, k, w)
 
           module _ (t : List ℤ) (p : ℕ) (w : rows wholeField tripletTag 3 ls₃ ≡ read t (ended 10 (drop p text))) where
-            pub more-lines : p < length text → studyOf text ≡ holdsNone
+            pub more-lines : p < length text → studyIn text ≡ holdsNone
             unfolding studyOfLines whole
             more-lines m =
                 let q : length (ended 10 (drop p text)) ≡ suc (length (ended 10 (drop (p + index 10 (drop p text) + 1) text))) = ap length (ended-step 10 text p (p + index 10 (drop p text)) refl m) in
                 of-lines ∙ rw (e, f, k, w, ne-eqb (length (ended 10 (drop p text))) 0 (λ z. omega (arith, z, q)))
 
-            pub study-read : length text ≤ p → studyOf text ≡ holds (record { head = h; addresses = g .0; map = g .1; f1 = v .0; f2 = v .1; points = v .2; triplets = t })
+            pub study-read : length text ≤ p → studyIn text ≡ holds (record { head = h; addresses = g .0; gp-map = g .1; f1 = v .0; f2 = v .1; points = v .2; triplets = t })
             unfolding studyOfLines whole ended
             study-read m = of-lines ∙ rw (e, f, k, w) (rw (drop-past text p m))
 

@@ -84,7 +84,7 @@ floatsPart ls =
 pub record Study : Type 0 where
   pub head : Head
   pub addresses : List ℤ
-  pub map : List ℤ
+  pub gp-map : List ℤ
   pub f1 : List ℕ
   pub f2 : List ℕ
   pub points : List ℕ
@@ -107,12 +107,12 @@ studyOfLines ls =
     (λ h ls₁. andThen (gridPart ls₁)
     (λ g ls₂. andThen (floatsPart ls₂)
     (λ f ls₃. andThen (rows wholeField tripletTag 3 ls₃)
-    (λ t ls₄. read (record { head = h; addresses = g .0; map = g .1; f1 = f .0; f2 = f .1; points = f .2; triplets = t }) ls₄)))))
+    (λ t ls₄. read (record { head = h; addresses = g .0; gp-map = g .1; f1 = f .0; f2 = f .1; points = f .2; triplets = t }) ls₄)))))
 
 -- the last line too is "ended by one newline"
 unfoldable pub endsLine : List ℕ → Bool
 endsLine text = eqb (getD text (length text - 1) 0) 10
 
 -- Question 1: "Is the study text at most 16,384 bytes, well formed": the study that it holds, if it is
-unfoldable pub studyOf : List ℕ → Holds
-studyOf text = cond (leb (length text) 16384 && endsLine text) (studyOfLines (ended 10 text)) holdsNone
+unfoldable pub studyIn : List ℕ → Holds
+studyIn text = cond (leb (length text) 16384 && endsLine text) (studyOfLines (ended 10 text)) holdsNone

@@ -4,7 +4,7 @@ ghost use mathlib.Core.Path.{_≡_};
 ghost use lib.ListN.{drop, length};
 ghost use Rattle.text.specs.Pieces.{ended};
 ghost use Rattle.study.specs.Counts.{fewWeights};
-ghost use Rattle.study.specs.Studies.{endsLine, floatsPart, gridPart, headFrom, headPart, studyOf};
+ghost use Rattle.study.specs.Studies.{endsLine, floatsPart, gridPart, headFrom, headPart, studyIn};
 ghost use Rattle.study.specs.Told.{toldFloats, toldGrid, toldHead, toldStudy};
 use crate::FloatsRead;
 use crate::GridRead;
@@ -153,7 +153,7 @@ pub fn read_study(
     triplets: &mut [i64],
 ) -> StudyRead
     requires { ⌜ (16387 ≤ length (now addresses)) × (16385 ≤ length (now map)) × (16385 ≤ length (now f1)) × (16385 ≤ length (now f2)) × (16385 ≤ length (now points)) × (16387 ≤ length (now triplets)) ⌝ }
-    ensures { λ r. ⌜ studyOf (now (text .entry)) ≡ toldStudy r (now (addresses .exit)) (now (map .exit)) (now (f1 .exit)) (now (f2 .exit)) (now (points .exit)) (now (triplets .exit)) ⌝ }
+    ensures { λ r. ⌜ studyIn (now (text .entry)) ≡ toldStudy r (now (addresses .exit)) (now (map .exit)) (now (f1 .exit)) (now (f2 .exit)) (now (points .exit)) (now (triplets .exit)) ⌝ }
 {
     if 16384 < text.len() {
         return StudyRead::Bad;

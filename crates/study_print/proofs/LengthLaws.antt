@@ -66,7 +66,7 @@ module _ {A : Type 0} (spell : A → List ℕ) (least : ℕ) (low : (v : A) → 
 -- how many numbers a study has at most
 pub record Small (s : Study) : Type 0 where
   pub addresses : length (s .addresses) ≤ 16384
-  pub map : length (s .map) ≤ 16384
+  pub gp-map : length (s .gp-map) ≤ 16384
   pub f1 : length (s .f1) ≤ 16384
   pub f2 : length (s .f2) ≤ 16384
   pub points : length (s .points) ≤ 712
@@ -76,8 +76,8 @@ module _ (s : Study) where
   addresses-bytes : length (s .addresses) ≡ length (s .addresses) / 3 * 3 → length (s .addresses) / 3 * 11 ≤ length (textOf (section signed addrTag 3 (length (s .addresses) / 3) (s .addresses)))
   addresses-bytes e = section-bytes signed 1 signed-some addrTag 3 (length (s .addresses) / 3) (s .addresses) e
 
-  map-bytes : length (s .map) * 6 ≤ length (textOf (section signed mapTag 1 (length (s .map)) (s .map)))
-  map-bytes = section-bytes signed 1 signed-some mapTag 1 (length (s .map)) (s .map) (sym (mul-one (length (s .map))))
+  map-bytes : length (s .gp-map) * 6 ≤ length (textOf (section signed mapTag 1 (length (s .gp-map)) (s .gp-map)))
+  map-bytes = section-bytes signed 1 signed-some mapTag 1 (length (s .gp-map)) (s .gp-map) (sym (mul-one (length (s .gp-map))))
 
   f1-bytes : length (s .f1) * 20 ≤ length (textOf (section hexadecimal f1Tag 1 (length (s .f1)) (s .f1)))
   f1-bytes = section-bytes hexadecimal 16 pattern-length f1Tag 1 (length (s .f1)) (s .f1) (sym (mul-one (length (s .f1))))
@@ -92,14 +92,14 @@ module _ (s : Study) where
   triplets-bytes e = section-bytes signed 1 signed-some tripletTag 3 (length (s .triplets) / 3) (s .triplets) e
 
   -- each section by what its rows take at least
-  all-bytes : Printable s → length (s .addresses) / 3 * 11 + length (s .map) * 6 + length (s .f1) * 20 + length (s .f2) * 20 + length (s .points) * 23 + length (s .triplets) / 3 * 14 ≤ 16384
+  all-bytes : Printable s → length (s .addresses) / 3 * 11 + length (s .gp-map) * 6 + length (s .f1) * 20 + length (s .f2) * 20 + length (s .points) * 23 + length (s .triplets) / 3 * 14 ≤ 16384
   unfolding printed studyLines
   all-bytes p =
       let t : List (List ℕ) = section signed tripletTag 3 (length (s .triplets) / 3) (s .triplets) in
       let k : List (List ℕ) = section hexadecimal pointTag 1 (length (s .points)) (s .points) in
       let b : List (List ℕ) = section hexadecimal f2Tag 1 (length (s .f2)) (s .f2) in
       let a : List (List ℕ) = section hexadecimal f1Tag 1 (length (s .f1)) (s .f1) in
-      let m : List (List ℕ) = section signed mapTag 1 (length (s .map)) (s .map) in
+      let m : List (List ℕ) = section signed mapTag 1 (length (s .gp-map)) (s .gp-map) in
       let d : List (List ℕ) = section signed addrTag 3 (length (s .addresses) / 3) (s .addresses) in
       omega (
         arith,
@@ -121,7 +121,7 @@ module _ (s : Study) where
   pub study-small : Printable s → Small s
   study-small p = record {
     addresses = omega (arith, all-bytes p, p .whole-addresses);
-    map = omega (arith, all-bytes p);
+    gp-map = omega (arith, all-bytes p);
     f1 = omega (arith, all-bytes p);
     f2 = omega (arith, all-bytes p);
     points = omega (arith, all-bytes p);

@@ -16,7 +16,7 @@ use Rattle.text.specs.Pieces.{ended}
 use Rattle.text.specs.Spelled.{signed, hexadecimal}
 use Rattle.sections.specs.Lines.{Got, Part, read, wrong, andThen, rows, once, wholeField, patternField}
 use Rattle.study.specs.declared.Head.{Head}
-use Rattle.study.specs.Studies.{Study, Holds, holds, holdsNone, whole, studyOf, studyOfLines, endsLine, headPart, gridPart, floatsPart, headFrom, gridTag, diagTag, typeTag, bandsTag, addrTag, mapTag, f1Tag, f2Tag, pointTag, tripletTag}
+use Rattle.study.specs.Studies.{Study, Holds, holds, holdsNone, whole, studyIn, studyOfLines, endsLine, headPart, gridPart, floatsPart, headFrom, gridTag, diagTag, typeTag, bandsTag, addrTag, mapTag, f1Tag, f2Tag, pointTag, tripletTag}
 use Rattle.study_print.specs.Printed.{line, section, textOf, headLines, studyLines, printed, Each, Signed64, Pattern64, Printable}
 use Rattle.study_print.proofs.StudyTextLaws.{read-printed}
 use Rattle.study_print.proofs.OnlyLaws.{Only, only-signed, only-pattern, lines-only, Lined, once-only, Sectioned, rows-only}
@@ -150,7 +150,7 @@ singles field spell P only tag ls vs rest e =
 record GridOnly (a m : List ℤ) (ls rest : List (List ℕ)) : Type 0 where
   pub left : List (List ℕ)
   pub addresses : WholeSection addrTag ls a left
-  pub map : SingleSection signed Signed64 mapTag left m rest
+  pub gp-map : SingleSection signed Signed64 mapTag left m rest
 
 grid-only : (g : List ℤ × List ℤ) (ls rest : List (List ℕ)) → gridPart ls ≡ read g rest → GridOnly (g .0) (g .1) ls rest
 unfolding gridPart
@@ -164,7 +164,7 @@ grid-only g ls rest e =
     (record {
       left = a .left;
       addresses = triples addrTag ls (a .value) (a .left) (a .first);
-      map = singles wholeField signed Signed64 only-signed mapTag (a .left) (m .value) rest (m .first ∙ ap (read (m .value)) w);
+      gp-map = singles wholeField signed Signed64 only-signed mapTag (a .left) (m .value) rest (m .first ∙ ap (read (m .value)) w);
     })
 
 record FloatsOnly (f1 f2 points : List ℕ) (ls rest : List (List ℕ)) : Type 0 where
@@ -208,7 +208,7 @@ record LinesOnly (s : Study) (ls : List (List ℕ)) : Type 0 where
   pub lines : ls ≡ studyLines s
   pub head : HeadOnly (s .head) ls left
   pub addresses-fit : Each Signed64 (s .addresses)
-  pub map-fits : Each Signed64 (s .map)
+  pub map-fits : Each Signed64 (s .gp-map)
   pub f1-fits : Each Pattern64 (s .f1)
   pub f2-fits : Each Pattern64 (s .f2)
   pub points-fit : Each Pattern64 (s .points)
@@ -217,7 +217,7 @@ record LinesOnly (s : Study) (ls : List (List ℕ)) : Type 0 where
   pub whole-triplets : length (s .triplets) ≡ length (s .triplets) / 3 * 3
 
 -- part after part
-in-order : (s : Study) (l₀ l₁ l₂ l₃ l₄ l₅ l₆ : List (List ℕ)) → l₀ ≡ headLines (s .head) ++ l₁ → l₁ ≡ section signed addrTag 3 (length (s .addresses) / 3) (s .addresses) ++ l₂ → l₂ ≡ section signed mapTag 1 (length (s .map)) (s .map) ++ l₃
+in-order : (s : Study) (l₀ l₁ l₂ l₃ l₄ l₅ l₆ : List (List ℕ)) → l₀ ≡ headLines (s .head) ++ l₁ → l₁ ≡ section signed addrTag 3 (length (s .addresses) / 3) (s .addresses) ++ l₂ → l₂ ≡ section signed mapTag 1 (length (s .gp-map)) (s .gp-map) ++ l₃
     → l₃ ≡ section hexadecimal f1Tag 1 (length (s .f1)) (s .f1) ++ l₄ → l₄ ≡ section hexadecimal f2Tag 1 (length (s .f2)) (s .f2) ++ l₅ → l₅ ≡ section hexadecimal pointTag 1 (length (s .points)) (s .points) ++ l₆
     → l₆ ≡ section signed tripletTag 3 (length (s .triplets) / 3) (s .triplets) ++ [] → l₀ ≡ studyLines s
 unfolding studyLines
@@ -231,7 +231,7 @@ study-lines s ls e =
     let g : _ = went (gridPart (h .left)) _ s [] (h .second) in
     let f : _ = went (floatsPart (g .left)) _ s [] (g .second) in
     let t : _ = went (rows wholeField tripletTag 3 (f .left)) _ s [] (f .second) in
-    let r : Study = record { head = h .value; addresses = g .value .0; map = g .value .1; f1 = f .value .0; f2 = f .value .1; points = f .value .2; triplets = t .value } in
+    let r : Study = record { head = h .value; addresses = g .value .0; gp-map = g .value .1; f1 = f .value .0; f2 = f .value .1; points = f .value .2; triplets = t .value } in
     let z : read r (t .left) ≡ read s [] = t .second in
     let v : r ≡ s = cc in
     let w : t .left ≡ [] = cc in
@@ -242,10 +242,10 @@ study-lines s ls e =
     subst (λ (x : Study). LinesOnly x ls) v
     (record {
       left = h .left;
-      lines = in-order r ls (h .left) (go .left) (g .left) (fo .left₁) (fo .left₂) (f .left) (ho .lines) (go .addresses .lines) (go .map .lines) (fo .first .lines) (fo .second .lines) (fo .pointed .lines) (to .lines);
+      lines = in-order r ls (h .left) (go .left) (g .left) (fo .left₁) (fo .left₂) (f .left) (ho .lines) (go .addresses .lines) (go .gp-map .lines) (fo .first .lines) (fo .second .lines) (fo .pointed .lines) (to .lines);
       head = ho;
       addresses-fit = go .addresses .fit;
-      map-fits = go .map .fit;
+      map-fits = go .gp-map .fit;
       f1-fits = fo .first .fit;
       f2-fits = fo .second .fit;
       points-fit = fo .pointed .fit;
@@ -286,8 +286,8 @@ module _ (text : List ℕ) (s : Study) (l : length text ≤ 16384) (n : endsLine
   }
 
 -- reading and printing give the text back
-pub printed-only : (text : List ℕ) (s : Study) → studyOf text ≡ holds s → PrintedOnly text s
-unfolding studyOf
+pub printed-only : (text : List ℕ) (s : Study) → studyIn text ≡ holds s → PrintedOnly text s
+unfolding studyIn
 printed-only text s e = go (leb (length text) 16384) (endsLine text) refl refl e
   where
     go : (a b : Bool) → leb (length text) 16384 ≡ a → endsLine text ≡ b → cond (a && b) (studyOfLines (ended 10 text)) holdsNone ≡ holds s → PrintedOnly text s
@@ -296,5 +296,5 @@ printed-only text s e = go (leb (length text) 16384) (endsLine text) refl refl e
     go false b p q e = absurd (let q : _≡_ {A = ℕ} 0 1 = cc in omega arith)
 
 -- a text is well formed exactly when it is the printing of a study, and the study is then the one that it holds
-pub exactly-printed : (text : List ℕ) (s : Study) → (studyOf text ≡ holds s → PrintedOnly text s) × (PrintedOnly text s → studyOf text ≡ holds s)
-exactly-printed text s = (printed-only text s, λ p. ap studyOf (p .text-is) ∙ read-printed s (p .printable))
+pub exactly-printed : (text : List ℕ) (s : Study) → (studyIn text ≡ holds s → PrintedOnly text s) × (PrintedOnly text s → studyIn text ≡ holds s)
+exactly-printed text s = (printed-only text s, λ p. ap studyIn (p .text-is) ∙ read-printed s (p .printable))

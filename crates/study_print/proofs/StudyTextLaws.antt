@@ -12,7 +12,7 @@ use borrow.Author.Tests.{eq-eqb}
 use Rattle.text.specs.Pieces.{ended, same}
 use Rattle.text.specs.Spelled.{signed, hexadecimal}
 use Rattle.sections.specs.Lines.{Got, Part, read, rows, once, wholeField, patternField}
-use Rattle.study.specs.Studies.{Study, holds, studyOf, endsLine, headPart, gridPart, floatsPart, headFrom, gridTag, diagTag, typeTag, bandsTag, addrTag, mapTag, f1Tag, f2Tag, pointTag, tripletTag}
+use Rattle.study.specs.Studies.{Study, holds, studyIn, endsLine, headPart, gridPart, floatsPart, headFrom, gridTag, diagTag, typeTag, bandsTag, addrTag, mapTag, f1Tag, f2Tag, pointTag, tripletTag}
 use Rattle.study.proofs.StudyLaws.{head-read, grid-read, floats-read, study-read}
 use Rattle.study_print.specs.Printed.{line, section, textOf, headLines, studyLines, printed, Each, Signed64, Pattern64, Printable}
 use Rattle.study_print.proofs.LineLaws.{absent, AllSpell, Stops, once-read, section-read, stops-through, Clean, clean-append, clean-line, clean-section, lines-read, last-byte}
@@ -40,7 +40,7 @@ module _ (s : Study) (p : Printable s) where
   r₃ = section hexadecimal f1Tag 1 (length (s .f1)) (s .f1) ++ r₄
 
   abbrev r₂ : List (List ℕ)
-  r₂ = section signed mapTag 1 (length (s .map)) (s .map) ++ r₃
+  r₂ = section signed mapTag 1 (length (s .gp-map)) (s .gp-map) ++ r₃
 
   abbrev r₁ : List (List ℕ)
   r₁ = section signed addrTag 3 (length (s .addresses) / 3) (s .addresses) ++ r₂
@@ -69,7 +69,7 @@ module _ (s : Study) (p : Printable s) where
 
           s₂ : same mapTag tag ≡ false → Stops field spell tag clean r₂
           unfolding absent
-          s₂ d₂ = stops-through field spell tag clean signed mapTag refl wholeField d₂ (length (s .map)) 0 (s .map) _ (singles (s .map)) s₃
+          s₂ d₂ = stops-through field spell tag clean signed mapTag refl wholeField d₂ (length (s .gp-map)) 0 (s .gp-map) _ (singles (s .gp-map)) s₃
 
   -- the parts
   head-back : headPart (studyLines s) ≡ read (s .head) r₁
@@ -82,11 +82,11 @@ module _ (s : Study) (p : Printable s) where
       (s .head .«num_band1» ∷ s .head .«num_band2» ∷ []) r₁ (once-read wholeField signed bandsTag refl (s .head .«num_band1») (s .head .«num_band2» ∷ []) r₁ (all-signed (s .head .«num_band1» ∷ s .head .«num_band2» ∷ []) (p .bands-fit)))
       (p .diag-range)
 
-  grid-back : gridPart r₁ ≡ read (s .addresses, s .map) r₃
+  grid-back : gridPart r₁ ≡ read (s .addresses, s .gp-map) r₃
   unfolding absent same
   grid-back =
       grid-read r₁ (s .addresses) r₂ (section-read wholeField signed addrTag refl (length (s .addresses) / 3) 2 (s .addresses) r₂ (p .whole-addresses) (all-signed (s .addresses) (p .addresses-fit)) (s₂ wholeField signed addrTag refl refl refl refl refl refl))
-      (s .map) r₃ (section-read wholeField signed mapTag refl (length (s .map)) 0 (s .map) r₃ (singles (s .map)) (all-signed (s .map) (p .map-fits)) (s₃ wholeField signed mapTag refl refl refl refl refl))
+      (s .gp-map) r₃ (section-read wholeField signed mapTag refl (length (s .gp-map)) 0 (s .gp-map) r₃ (singles (s .gp-map)) (all-signed (s .gp-map) (p .map-fits)) (s₃ wholeField signed mapTag refl refl refl refl refl))
 
   floats-back : floatsPart r₃ ≡ read (s .f1, s .f2, s .points) (section signed tripletTag 3 (length (s .triplets) / 3) (s .triplets))
   unfolding absent same
@@ -112,7 +112,7 @@ module _ (s : Study) (p : Printable s) where
         (
           clean-line wholeField signed bandsTag refl (s .head .«num_band1» ∷ s .head .«num_band2» ∷ []) (all-signed (s .head .«num_band1» ∷ s .head .«num_band2» ∷ []) (p .bands-fit)),
           (clean-append (section signed addrTag 3 (length (s .addresses) / 3) (s .addresses)) r₂ (clean-section wholeField signed addrTag refl 3 (length (s .addresses) / 3) (s .addresses) (all-signed (s .addresses) (p .addresses-fit)))
-              (clean-append (section signed mapTag 1 (length (s .map)) (s .map)) r₃ (clean-section wholeField signed mapTag refl 1 (length (s .map)) (s .map) (all-signed (s .map) (p .map-fits)))
+              (clean-append (section signed mapTag 1 (length (s .gp-map)) (s .gp-map)) r₃ (clean-section wholeField signed mapTag refl 1 (length (s .gp-map)) (s .gp-map) (all-signed (s .gp-map) (p .map-fits)))
               (clean-append (section hexadecimal f1Tag 1 (length (s .f1)) (s .f1)) r₄ (clean-section patternField hexadecimal f1Tag refl 1 (length (s .f1)) (s .f1) (all-patterns (s .f1) (p .f1-fits)))
               (clean-append (section hexadecimal f2Tag 1 (length (s .f2)) (s .f2)) r₅ (clean-section patternField hexadecimal f2Tag refl 1 (length (s .f2)) (s .f2) (all-patterns (s .f2) (p .f2-fits)))
               (clean-append (section hexadecimal pointTag 1 (length (s .points)) (s .points)) (section signed tripletTag 3 (length (s .triplets) / 3) (s .triplets)) (clean-section patternField hexadecimal pointTag refl 1 (length (s .points)) (s .points) (all-patterns (s .points) (p .points-fit)))
@@ -135,7 +135,7 @@ module _ (s : Study) (p : Printable s) where
   nothing-left = rw (drop-length (printed s))
 
   -- printing and reading give the study back
-  pub read-printed : studyOf (printed s) ≡ holds s
+  pub read-printed : studyIn (printed s) ≡ holds s
   read-printed =
-      study-read (printed s) (p .short) ends (s .head) r₁ (ap headPart cut-lines ∙ head-back) (s .addresses, s .map) r₃ grid-back (s .f1, s .f2, s .points) _ floats-back
+      study-read (printed s) (p .short) ends (s .head) r₁ (ap headPart cut-lines ∙ head-back) (s .addresses, s .gp-map) r₃ grid-back (s .f1, s .f2, s .points) _ floats-back
       (s .triplets) (length (printed s)) (triplets-back ∙ ap (read (s .triplets)) nothing-left) (omega arith)

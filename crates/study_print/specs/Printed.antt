@@ -44,7 +44,7 @@ unfoldable pub studyLines : Study → List (List ℕ)
 studyLines s =
     headLines (s .head)
     ++ (section signed addrTag 3 (length (s .addresses) / 3) (s .addresses)
-    ++ (section signed mapTag 1 (length (s .map)) (s .map)
+    ++ (section signed mapTag 1 (length (s .gp-map)) (s .gp-map)
     ++ (section hexadecimal f1Tag 1 (length (s .f1)) (s .f1)
     ++ (section hexadecimal f2Tag 1 (length (s .f2)) (s .f2)
     ++ (section hexadecimal pointTag 1 (length (s .points)) (s .points)
@@ -59,10 +59,11 @@ abbrev pub Each : {A : Type 0} → (A → Type 0) → List A → Type 0
 Each P [] = Unit
 Each P (v ∷ vs) = P v × Each P vs
 
--- a signed number of 64 bits, and a pattern of 64 bits
+-- a signed number of 64 bits
 abbrev pub Signed64 : ℤ → Type 0
 Signed64 z = mag z < 2 ^ 63
 
+-- a pattern of 64 bits
 abbrev pub Pattern64 : ℕ → Type 0
 Pattern64 n = n < 2 ^ 64
 
@@ -74,7 +75,7 @@ pub record Printable (s : Study) : Type 0 where
   pub bands-fit : Each Signed64 (s .head .«num_band1» ∷ s .head .«num_band2» ∷ [])
   pub diag-range : isBetween 0 3 (s .head .diag) ≡ true
   pub addresses-fit : Each Signed64 (s .addresses)
-  pub map-fits : Each Signed64 (s .map)
+  pub map-fits : Each Signed64 (s .gp-map)
   pub f1-fits : Each Pattern64 (s .f1)
   pub f2-fits : Each Pattern64 (s .f2)
   pub points-fit : Each Pattern64 (s .points)

@@ -44,7 +44,8 @@ places-is (suc f) n k h w = go k (ltb n 10) refl h w (λ j. places-is f (n / 10)
     go (suc zero) false e h w r = absurd (omega (arith, w .1, ltb-false n 10 e))
     go (suc (suc k)) false e h w r = ap suc (r (suc k) (omega (arith, h, pow-succ' 10 (suc f))) (off n k w))
 
-places-le : (f n : ℕ) → places f n ≤ suc f
+-- a number has at most so many places
+pub places-le : (f n : ℕ) → places f n ≤ suc f
 unfolding places
 places-le zero n = omega arith
 places-le (suc f) n = go (ltb n 10) (places-le f (n / 10))
@@ -52,9 +53,6 @@ places-le (suc f) n = go (ltb n 10) (places-le f (n / 10))
     go : (t : Bool) → places f (n / 10) ≤ suc f → cond t 1 (suc (places f (n / 10))) ≤ suc (suc f)
     go true h = omega arith
     go false h = omega arith
-
-pub decimal-count : (n k : ℕ) → n < 2 ^ 64 → Fewest 10 1 n k → k ≤ 20
-decimal-count n k h w = omega (arith, places-is 19 n k (omega arith) w, places-le 19 n)
 
 pub decimal-is : (n k : ℕ) → n < 2 ^ 64 → Fewest 10 1 n k → digits 10 k n ≡ decimal n
 unfolding decimal

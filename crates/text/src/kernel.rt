@@ -1,6 +1,7 @@
-// The readers of one field, and the search for a byte.
+// The readers of one field, the search for a byte, and a float and its bits.
 ghost use Prim.Native.Nat.{_+_, _<_, _≤_};
 ghost use mathlib.Core.Path.{_≡_};
+ghost use lib.Ieee.{binary64, ofBits, toBits};
 ghost use lib.ListN.{drop, length};
 ghost use Rattle.text.specs.Fields.{bits, digitOf, magnitude, negative, positive, value, whole};
 ghost use Rattle.text.specs.Pieces.{index};
@@ -8,7 +9,7 @@ use crate::Magnitude;
 use crate::Whole;
 
 // What a byte counts as a digit; 16 where it is none.
-fn digit_of(b: u8) -> u64
+pub fn digit_of(b: u8) -> u64
     ensures { λ r. ⌜ r ≡ digitOf b ⌝ }
     ensures { λ r. ⌜ r ≤ 16 ⌝ }
 {
@@ -133,4 +134,24 @@ pub fn cut(s: &[u8], p: usize, b: u8) -> usize
         i += 1;
     }
     i
+}
+
+// The float of a bit pattern, every one: a NaN's pattern gives a NaN.
+pub fn float_of(pattern: u64) -> f64
+    ensures { λ r. ⌜ r ≡ ofBits binary64 pattern ⌝ }
+{
+    if 9218868437227405312 < pattern % 9223372036854775808 {
+        return 0.0 / 0.0;
+    }
+    f64::from_bits(pattern)
+}
+
+// The bit pattern of a float; of a NaN the positive one whose fraction is its highest digit alone.
+pub fn bits_of(x: f64) -> u64
+    ensures { λ r. ⌜ r ≡ toBits binary64 x ⌝ }
+{
+    if x == x {
+        return f64::to_bits(x);
+    }
+    9221120237041090560
 }

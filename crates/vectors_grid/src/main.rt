@@ -18,6 +18,7 @@ use replay_input::kernel::compare;
 use replay_input::kernel::report;
 use replay_input::kernel::report::Count;
 use replay_input::kernel::report::Judged;
+use replay_input::kernel::stamps;
 
 fn numbers() -> [i64; 4200]
     ensures { λ r. ⌜ 4200 ≡ length r ⌝ }
@@ -31,37 +32,12 @@ fn many_numbers() -> [i64; 65537]
     [0; 65537]
 }
 
-// What a buffer holds at a place before a call: no number of a grid point here is so large.
-fn stamp_at(place: usize) -> i64 {
-    (5000000 + place % 1000) as i64
-}
-
-fn stamp(out: &mut [i64]) {
-    let mut i = 0;
-    while i < out.len() {
-        let value = stamp_at(i);
-        out[i] = value;
-        i += 1;
-    }
-}
-
 fn repeat(out: &mut [i64], value: i64) {
     let mut i = 0;
     while i < out.len() {
         out[i] = value;
         i += 1;
     }
-}
-
-fn is_stamped(out: &[i64]) -> bool {
-    let mut i = 0;
-    while i < out.len() {
-        if out[i] != stamp_at(i) {
-            return false;
-        }
-        i += 1;
-    }
-    true
 }
 
 fn index_agrees(answer: IndexAnswer, refusal: u64, index: i64) -> bool {
@@ -100,7 +76,7 @@ fn buffer_agrees(answer: NeighbourAnswer, refusal: u64, out: &[i64], stored: &[i
         }
         NeighbourAnswer::Refused(number) => {
             if (0 < number) & (number == refusal) {
-                is_stamped(out)
+                stamps::is_stamped(out)
             } else {
                 false
             }
@@ -119,7 +95,7 @@ fn one_agrees(
     refusal: u64,
     stored: &[i64],
 ) -> bool {
-    stamp(out);
+    stamps::stamp(out);
     let answer = bzgrid::fill_neighboring_grid_points(
         out,
         point,
@@ -182,7 +158,7 @@ fn many_agrees(
     refusal: u64,
     stored: &[i64],
 ) -> bool {
-    stamp(out);
+    stamps::stamp(out);
     let answer = bzgrid::neighboring_grid_points_many(
         out,
         points,
@@ -261,7 +237,7 @@ fn crowd_agrees(
     stored: i64,
 ) -> bool {
     repeat(points, point);
-    stamp(out);
+    stamps::stamp(out);
     let answer = bzgrid::neighboring_grid_points_many(
         out,
         points,

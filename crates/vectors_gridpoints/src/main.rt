@@ -10,8 +10,7 @@
 //
 // Refusal 0 is an accepted call. Each block has its own grids and studies.
 ghost use mathlib.Core.Path.{_≡_};
-ghost use Prim.Native.Nat.{_≤_};
-ghost use lib.ListN.{length, take};
+ghost use lib.ListN.{length};
 use grid_point_weights::GridPointAnswer;
 use replay_input::kernel as input;
 use replay_input::kernel::Cursor;
@@ -19,6 +18,7 @@ use replay_input::kernel::compare;
 use replay_input::kernel::report;
 use replay_input::kernel::report::Count;
 use replay_input::kernel::report::Judged;
+use replay_input::kernel::stamps;
 use tetrahedron_method::WeightFunction;
 use triplet_addresses::CopyAnswer;
 use triplet_addresses::IsNAnswer;
@@ -47,71 +47,7 @@ fn many_reals() -> [f64; 65537]
     [0.0; 65537]
 }
 
-// A count that a buffer of length most can hold.
-fn at_most(n: u64, most: usize) -> usize
-    ensures { λ r. ⌜ r ≤ most ⌝ }
-{
-    if n < most as u64 { n as usize } else { most }
-}
-
-// How much of a buffer a count takes: the count, or all of the buffer where that is shorter.
-fn room_of(n: u64, buf: &[f64]) -> usize
-    ensures { λ r. ⌜ (r ≤ length (now (buf .entry))) × (r ≡ length (take r (now (buf .entry)))) ⌝ }
-{
-    at_most(n, buf.len())
-}
-
-// ---- what a buffer holds before a call
-
-// No component of a table here is so large.
-fn stamp_at(place: usize) -> i64 {
-    (5000000 + place % 1000) as i64
-}
-
-fn stamp(out: &mut [i64]) {
-    let mut i = 0;
-    while i < out.len() {
-        let value = stamp_at(i);
-        out[i] = value;
-        i += 1;
-    }
-}
-
-fn is_stamped(out: &[i64]) -> bool {
-    let mut i = 0;
-    while i < out.len() {
-        if out[i] != stamp_at(i) {
-            return false;
-        }
-        i += 1;
-    }
-    true
-}
-
-// No weight is so large.
-fn mark_at(place: usize) -> f64 {
-    if place % 2 == 0 { 1.5e300 } else { -2.5e300 }
-}
-
-fn mark(out: &mut [f64]) {
-    let mut i = 0;
-    while i < out.len() {
-        let value = mark_at(i);
-        out[i] = value;
-        i += 1;
-    }
-}
-
-fn is_marked(out: &[f64]) -> bool {
-    let mut i = 0;
-    while i < out.len() {
-        if !compare::same_bits(out[i], mark_at(i)) {
-            return false;
-        }
-        i += 1;
-    }
-    true
-}
+// ---- lists
 
 fn repeat(out: &mut [i64], value: i64) {
     let mut i = 0;
@@ -168,7 +104,7 @@ fn weights_agree(answer: GridPointAnswer, refusal: u64, iw: &[f64], stored: &[f6
         }
         GridPointAnswer::Refused(number) => {
             if (0 < number) & (number == refusal) {
-                is_marked(iw)
+                stamps::is_marked(iw)
             } else {
                 false
             }
@@ -207,7 +143,7 @@ fn call_agrees(
     refusal: u64,
     stored: &[f64],
 ) -> bool {
-    mark(iw);
+    stamps::mark(iw);
     let answer = grid_point_weights::integration_weights_at_grid_points(
         iw,
         points,
@@ -244,7 +180,7 @@ fn crowd_agrees(
     stored: f64,
 ) -> bool {
     repeat(grid_points, grid_point);
-    mark(iw);
+    stamps::mark(iw);
     let answer = grid_point_weights::integration_weights_at_grid_points(
         iw,
         points,
@@ -285,7 +221,7 @@ fn call_case(
     let mut stored = reals();
     let e = input::fill_reals(text, room.next, &mut stored);
     let mut iw = reals();
-    let n = room_of(room.value, &iw);
+    let n = input::room_of(room.value, &iw);
     let b = bands.value;
     let r = num_ir.value;
     let q = p.count;
@@ -337,7 +273,7 @@ fn crowd_case(
     let mut grid_points = many_numbers();
     let mut iw = many_reals();
     let q = input::part_of(times.value, &grid_points);
-    let n = room_of(room.value, &iw);
+    let n = input::room_of(room.value, &iw);
     let r = num_ir.value;
     let g = point.value;
     let v = stored.value;
@@ -491,7 +427,7 @@ fn copies_agree(answer: CopyAnswer, refusal: u64, out: &[i64], stored: &[i64]) -
         }
         CopyAnswer::Refused(number) => {
             if (0 < number) & (number == refusal) {
-                is_stamped(out)
+                stamps::is_stamped(out)
             } else {
                 false
             }
@@ -506,7 +442,7 @@ fn filled_agrees(
     refusal: u64,
     stored: &[i64],
 ) -> bool {
-    stamp(out);
+    stamps::stamp(out);
     let answer = triplet_addresses::set_relative_grid_address(out, table, tp_type);
     copies_agree(answer, refusal, out, stored)
 }

@@ -65,39 +65,18 @@ fn answers_buffer() -> [u64; 256]
     [0; 256]
 }
 
-// A count that a buffer of length most can hold.
-fn at_most(n: u64, most: usize) -> usize
-    ensures { λ r. ⌜ r ≤ most ⌝ }
-{
-    if n < most as u64 { n as usize } else { most }
-}
-
-// How much of the weights a count takes: the count, or all of them where they are fewer.
-fn room_of(n: u64, buf: &[f64]) -> usize
-    ensures { λ r. ⌜ (r ≤ length (now (buf .entry))) × (r ≡ length (take r (now (buf .entry)))) ⌝ }
-{
-    at_most(n, buf.len())
-}
-
-// The same of the flags.
-fn places_of(n: u64, buf: &[i8]) -> usize
-    ensures { λ r. ⌜ (r ≤ length (now (buf .entry))) × (r ≡ length (take r (now (buf .entry)))) ⌝ }
-{
-    at_most(n, buf.len())
-}
-
-// The same of the marks.
+// How much of the marks a count takes: the count, or all of them where they are fewer.
 fn pieces_of(n: u64, buf: &[u8]) -> usize
     ensures { λ r. ⌜ (r ≤ length (now (buf .entry))) × (r ≡ length (take r (now (buf .entry)))) ⌝ }
 {
-    at_most(n, buf.len())
+    input::at_most(n, buf.len())
 }
 
 // The same of answers and tallies.
 fn answers_of(n: u64, buf: &[u64]) -> usize
     ensures { λ r. ⌜ (r ≤ length (now (buf .entry))) × (r ≡ length (take r (now (buf .entry)))) ⌝ }
 {
-    at_most(n, buf.len())
+    input::at_most(n, buf.len())
 }
 
 // ---- the content of a sheet
@@ -785,8 +764,8 @@ fn list_case(text: &[u8], places: Places, c: Cursor, counts: &mut [u64]) {
     let mut weights = weights_buffer();
     let mut flags = flags_buffer();
     let mut marks = marks_buffer();
-    let nw = room_of(w.value, &weights);
-    let nf = places_of(f.value, &flags);
+    let nw = input::room_of(w.value, &weights);
+    let nf = input::places_of(f.value, &flags);
     let nm = pieces_of(m.value, &marks);
     calls(
         text,
@@ -833,7 +812,7 @@ fn open_case(text: &[u8], c: Cursor, counts: &mut [u64]) {
     let places = input::next_count(text, b2.next);
     let next = places.next;
     let mut flags = flags_buffer();
-    let m = places_of(places.value, &flags);
+    let m = input::places_of(places.value, &flags);
     let open = Counts {
         num_triplets: t.value,
         num_band0: b0.value,

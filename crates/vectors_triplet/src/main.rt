@@ -9,14 +9,15 @@
 //
 // Refusal 0 is an accepted call. Each block has its own grids and studies. Weights are compared by bits.
 ghost use mathlib.Core.Path.{_≡_};
-ghost use Prim.Native.Nat.{_≤_, _<_};
-ghost use lib.ListN.{length, take};
+ghost use Prim.Native.Nat.{_<_};
+ghost use lib.ListN.{length};
 use replay_input::kernel as input;
 use replay_input::kernel::Cursor;
 use replay_input::kernel::compare;
 use replay_input::kernel::report;
 use replay_input::kernel::report::Count;
 use replay_input::kernel::report::Judged;
+use replay_input::kernel::stamps;
 use triplet::Shape;
 use triplet::WeightsAnswer;
 
@@ -49,27 +50,6 @@ fn many_flags() -> [i8; 65540]
     ensures { λ r. ⌜ 65540 ≡ length r ⌝ }
 {
     [0; 65540]
-}
-
-// A count that a buffer of length most can hold.
-fn at_most(n: u64, most: usize) -> usize
-    ensures { λ r. ⌜ r ≤ most ⌝ }
-{
-    if n < most as u64 { n as usize } else { most }
-}
-
-// How much of the weights a count takes: the count, or all of them where they are fewer.
-fn room_of(n: u64, buf: &[f64]) -> usize
-    ensures { λ r. ⌜ (r ≤ length (now (buf .entry))) × (r ≡ length (take r (now (buf .entry)))) ⌝ }
-{
-    at_most(n, buf.len())
-}
-
-// The same of the flags.
-fn places_of(n: u64, buf: &[i8]) -> usize
-    ensures { λ r. ⌜ (r ≤ length (now (buf .entry))) × (r ≡ length (take r (now (buf .entry)))) ⌝ }
-{
-    at_most(n, buf.len())
 }
 
 // ---- lists over and over
@@ -135,23 +115,9 @@ fn same_flags(flags: &[i8], list: &[i64]) -> bool {
 
 // ---- what the buffers hold before a call
 
-// No weight is so large.
-fn mark_at(place: usize) -> f64 {
-    if place % 2 == 0 { 1.5e300 } else { -2.5e300 }
-}
-
 // No flag is such a number.
 fn sign_at(place: usize) -> i8 {
     if place % 2 == 0 { 5 } else { -6 }
-}
-
-fn mark(weights: &mut [f64]) {
-    let mut i = 0;
-    while i < weights.len() {
-        let value = mark_at(i);
-        weights[i] = value;
-        i += 1;
-    }
 }
 
 fn mark_flags(flags: &mut [i8]) {
@@ -161,17 +127,6 @@ fn mark_flags(flags: &mut [i8]) {
         flags[i] = value;
         i += 1;
     }
-}
-
-fn is_marked(weights: &[f64]) -> bool {
-    let mut i = 0;
-    while i < weights.len() {
-        if !compare::same_bits(weights[i], mark_at(i)) {
-            return false;
-        }
-        i += 1;
-    }
-    true
 }
 
 fn are_marked(flags: &[i8]) -> bool {
@@ -206,7 +161,7 @@ fn weights_agree(
         }
         WeightsAnswer::Refused(number) => {
             if (0 < number) & (number == refusal) {
-                is_marked(weights) & are_marked(flags)
+                stamps::is_marked(weights) & are_marked(flags)
             } else {
                 false
             }
@@ -276,7 +231,7 @@ fn call_agrees(
     stored_flags: &[i64],
 ) -> bool {
     repeat(list, triplets);
-    mark(weights);
+    stamps::mark(weights);
     mark_flags(flags);
     let answer = answer_of(
         record,
@@ -323,8 +278,8 @@ fn call_case(
     let mut weights = many_reals();
     let mut flags = many_flags();
     let q = input::part_of(count.value, &triplets);
-    let n = room_of(room.value, &weights);
-    let m = places_of(places.value, &flags);
+    let n = input::room_of(room.value, &weights);
+    let m = input::places_of(places.value, &flags);
     let one = [list[0], list[1], list[2]];
     let l = t.count;
     let k = w.count;

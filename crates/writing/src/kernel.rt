@@ -3,7 +3,6 @@ ghost use Prim.Native.Nat.{_+_, _≤_};
 ghost use mathlib.Core.List.{[], _∷_, _++_};
 ghost use mathlib.Core.Path.{_≡_};
 ghost use lib.ListN.{length};
-ghost use lib.Ieee.{binary64, toBits};
 ghost use Rattle.text.specs.Spelled.{decimal, hexadecimal};
 ghost use Rattle.writing.specs.Written.{written};
 
@@ -49,14 +48,4 @@ pub fn put_bits(out: &mut [u8], at: usize, n: u64, end: u8) -> usize
     let k = io::hex(n, 16, &mut digits);
     let p = put_slice(out, at, &digits[..k]);
     put_byte(out, p, end)
-}
-
-// The bit pattern of a float; of a NaN the one with only the highest digit set.
-pub fn bits_of(x: f64) -> u64
-    ensures { λ r. ⌜ r ≡ toBits binary64 x ⌝ }
-{
-    if x == x {
-        return f64::to_bits(x);
-    }
-    9221120237041090560
 }

@@ -4,6 +4,7 @@ ghost use lib.Dec.{eqb};
 ghost use lib.Ieee.{binary64, toBits};
 ghost use Rattle.replay_input.specs.Sameness.{sameNumbers, allAre};
 
+// Whether two lists are equal.
 pub fn same(a: &[i64], b: &[i64]) -> bool
     ensures { λ r. ⌜ r ≡ sameNumbers (now (a .entry)) (now (b .entry)) ⌝ }
 {
@@ -20,6 +21,7 @@ pub fn same(a: &[i64], b: &[i64]) -> bool
     ok
 }
 
+// Whether each number is the value.
 pub fn all_are(a: &[i64], value: i64) -> bool
     ensures { λ r. ⌜ r ≡ allAre (now (a .entry)) value ⌝ }
 {
@@ -32,8 +34,9 @@ pub fn all_are(a: &[i64], value: i64) -> bool
     ok
 }
 
+// Whether two floats have the same bits, all NaNs being one.
 pub fn same_bits(a: f64, b: f64) -> bool
     ensures { λ r. ⌜ r ≡ eqb (toBits binary64 a) (toBits binary64 b) ⌝ }
 {
-    crate::kernel::bits_of(a) == crate::kernel::bits_of(b)
+    text::kernel::bits_of(a) == text::kernel::bits_of(b)
 }

@@ -20,6 +20,7 @@ pub struct Judged {
     pub next: Cursor,
 }
 
+// No case yet.
 pub fn no_cases() -> Count
     ensures { λ r. ⌜ (r .cases ≡ 0) × (r .agree ≡ 0) × (r .differ ≡ 0) × (r .refused ≡ replicate 21 0) ⌝ }
 {
@@ -31,6 +32,7 @@ pub fn no_cases() -> Count
     }
 }
 
+// One more, up to the largest number.
 fn one_more(n: u64) -> u64
     ensures { λ r. ⌜ r ≡ oneMore n ⌝ }
 {
@@ -79,6 +81,7 @@ pub fn counted(name: &[u8], count: Count, refusal: u64, agrees: bool) -> Count
     }
 }
 
+// The refusals that occur, as number:count.
 fn print_refused(refused: [u64; 21]) {
     let mut k = 1;
     while k < 21 {

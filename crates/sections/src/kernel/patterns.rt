@@ -3,7 +3,7 @@ ghost use Prim.Native.Nat.{_+_, _≤_};
 ghost use mathlib.Core.Path.{_≡_};
 ghost use lib.ListN.{drop, length, take};
 ghost use Rattle.text.specs.Pieces.{ended, splitFrom};
-ghost use Rattle.sections.specs.Lines.{patternField, rows, sort, told, toldLine, toldRows, values};
+ghost use Rattle.sections.specs.Lines.{patternField, rows, lineKind, told, toldLine, toldRows, values};
 use crate::Line;
 use crate::Rows;
 use text::Magnitude;
@@ -38,7 +38,7 @@ pub fn parse_patterns(line: &[u8], p: usize, count: usize, out: &mut [u64], at: 
 // A line against a tag and n bit patterns. Where it is such a row, its patterns are then in out from index at on.
 pub fn parse_pattern_line(line: &[u8], tag: &[u8], n: usize, out: &mut [u64], at: usize) -> Line
     requires { ⌜ at + n ≤ length (now out) ⌝ }
-    ensures { λ r. ⌜ sort patternField (now (tag .entry)) n (now (line .entry)) ≡ toldLine r (take n (drop at (now (out .exit)))) ⌝ }
+    ensures { λ r. ⌜ lineKind patternField (now (tag .entry)) n (now (line .entry)) ≡ toldLine r (take n (drop at (now (out .exit)))) ⌝ }
     ensures { λ _. ⌜ take at (now (out .exit)) ≡ take at (now (out .entry)) ⌝ }
 {
     let t = text::kernel::cut(line, 0, 9);

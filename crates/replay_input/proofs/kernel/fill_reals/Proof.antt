@@ -14,8 +14,6 @@ use Rattle.replay_input.specs.Fields.{realFrom, afterBits, fieldPlace, R
 use Rattle.replay_input.proofs.kernel.fill_reals.Statement.{statement}
 use Rattle.replay_input.proofs.kernel.fill_reals.Tie as tie
 
--- `replay_input::kernel::fill_reals` meets its contract: the list lies within the buffer. The measure is what is left of the count. Assumes nothing.
-
 abbrev Inv-loop : tie.InvT-loop
 Inv-loop text out₀ count next₀ i₀ out next i =
     (length out ≡ length out₀) × (count ≤ length out₀) × (i ≤ count) × (out ≡ fronted i (realFrom text (next₀ .at)) out₀) × (next .at ≡ fieldPlace (afterBits text) (next₀ .at) i)

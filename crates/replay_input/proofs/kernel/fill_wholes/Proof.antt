@@ -16,8 +16,6 @@ use Rattle.replay_input.specs.Fields.{wholeFrom, afterWhole, fieldPlace,
 use Rattle.replay_input.proofs.kernel.fill_wholes.Statement.{statement}
 use Rattle.replay_input.proofs.kernel.fill_wholes.Tie as tie
 
--- `replay_input::kernel::fill_wholes` meets its contract: the list lies within the buffer. The measure is what is left of the count. Assumes nothing.
-
 abbrev Inv-loop : tie.InvT-loop
 Inv-loop text out₀ count next₀ i₀ out next i =
     (length out ≡ length out₀) × (count ≤ length out₀) × (i ≤ count) × (out ≡ fronted i (wholeFrom text (next₀ .at)) out₀) × (next .at ≡ fieldPlace (afterWhole text) (next₀ .at) i)

@@ -5,8 +5,8 @@ use mathlib.Core.Bool.{Bool, true, false}
 use native.Mathlib.Omega.{arith}
 use lib.ListN.{take, drop}
 use lib.Seq.{length-take-le}
-use Rattle.sections.specs.Lines.{wholeField, told, rowSort}
-use Rattle.sections.proofs.LineLaws.{sort-other, sort-is}
+use Rattle.sections.specs.Lines.{wholeField, told, rowKind}
+use Rattle.sections.proofs.LineLaws.{kind-other, kind-is}
 use borrow.Author.Needs.{needs}
 use Rattle.sections.proofs.kernel.parse_line.Statement.{statement}
 use Rattle.sections.proofs.kernel.parse_line.Tie as tie
@@ -35,18 +35,18 @@ same-length : tie.Need-same-length
 same-length c = search needs
 
 returns : tie.Need-returns
-unfolding rowSort
-returns c = (sort-is wholeField (c .before .before .before .before .before .before .before .before .before .before .args .line .now) (c .before .before .before .before .before .before .before .before .before .before .args .tag .now) (c .before .before .before .before .before .before .before .before .before .before .args .n) (c .before .before .before .before .before .before .before .cut .result) (omega (arith, c .before .before .before .before .before .before .before .cut .ensures .0)) (c .before .before .before .before .before .same .ensures .0 (c .before .before .before .before .if1 .taken)) _ (c .before .before .parse-wholes .ensures .0 ∙ ap (λ (t : Bool). told t (take (c .before .before .before .before .before .before .before .before .before .before .args .n) (drop (c .before .before .before .before .before .before .before .before .before .before .args .at) (c .before .before .parse-wholes .last .1 .1 .1 .0)))) (c .if2 .taken)), c .before .before .parse-wholes .ensures .1)
+unfolding rowKind
+returns c = (kind-is wholeField (c .before .before .before .before .before .before .before .before .before .before .args .line .now) (c .before .before .before .before .before .before .before .before .before .before .args .tag .now) (c .before .before .before .before .before .before .before .before .before .before .args .n) (c .before .before .before .before .before .before .before .cut .result) (omega (arith, c .before .before .before .before .before .before .before .cut .ensures .0)) (c .before .before .before .before .before .same .ensures .0 (c .before .before .before .before .if1 .taken)) _ (c .before .before .parse-wholes .ensures .0 ∙ ap (λ (t : Bool). told t (take (c .before .before .before .before .before .before .before .before .before .before .args .n) (drop (c .before .before .before .before .before .before .before .before .before .before .args .at) (c .before .before .parse-wholes .last .1 .1 .1 .0)))) (c .if2 .taken)), c .before .before .parse-wholes .ensures .1)
 
 same-length-2 : tie.Need-same-length-2
 same-length-2 c = search needs
 
 returns-2 : tie.Need-returns-2
-unfolding rowSort
-returns-2 c = (sort-is wholeField (c .before .before .before .before .before .before .before .before .before .before .args .line .now) (c .before .before .before .before .before .before .before .before .before .before .args .tag .now) (c .before .before .before .before .before .before .before .before .before .before .args .n) (c .before .before .before .before .before .before .before .cut .result) (omega (arith, c .before .before .before .before .before .before .before .cut .ensures .0)) (c .before .before .before .before .before .same .ensures .0 (c .before .before .before .before .if1 .taken)) _ (c .before .before .parse-wholes .ensures .0 ∙ ap (λ (t : Bool). told t (take (c .before .before .before .before .before .before .before .before .before .before .args .n) (drop (c .before .before .before .before .before .before .before .before .before .before .args .at) (c .before .before .parse-wholes .last .1 .1 .1 .0)))) (c .if2 .left)), c .before .before .parse-wholes .ensures .1)
+unfolding rowKind
+returns-2 c = (kind-is wholeField (c .before .before .before .before .before .before .before .before .before .before .args .line .now) (c .before .before .before .before .before .before .before .before .before .before .args .tag .now) (c .before .before .before .before .before .before .before .before .before .before .args .n) (c .before .before .before .before .before .before .before .cut .result) (omega (arith, c .before .before .before .before .before .before .before .cut .ensures .0)) (c .before .before .before .before .before .same .ensures .0 (c .before .before .before .before .if1 .taken)) _ (c .before .before .parse-wholes .ensures .0 ∙ ap (λ (t : Bool). told t (take (c .before .before .before .before .before .before .before .before .before .before .args .n) (drop (c .before .before .before .before .before .before .before .before .before .before .args .at) (c .before .before .parse-wholes .last .1 .1 .1 .0)))) (c .if2 .left)), c .before .before .parse-wholes .ensures .1)
 
 returns-3 : tie.Need-returns-3
-returns-3 c = (sort-other wholeField (c .before .before .before .before .before .before .args .line .now) (c .before .before .before .before .before .before .args .tag .now) (c .before .before .before .before .before .before .args .n) (c .before .before .before .cut .result) (omega (arith, c .before .before .before .cut .ensures .0)) (λ e. let z : _≡_ {A = ℕ} 0 1 = cc (c .before .same .ensures .1 e) in omega arith), refl)
+returns-3 c = (kind-other wholeField (c .before .before .before .before .before .before .args .line .now) (c .before .before .before .before .before .before .args .tag .now) (c .before .before .before .before .before .before .args .n) (c .before .before .before .cut .result) (omega (arith, c .before .before .before .cut .ensures .0)) (λ e. let z : _≡_ {A = ℕ} 0 1 = cc (c .before .same .ensures .1 e) in omega arith), refl)
 
 pub parse-line-spec : {M : Type 1} → statement M
 parse-line-spec =

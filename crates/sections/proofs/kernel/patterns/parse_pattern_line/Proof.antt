@@ -6,8 +6,8 @@ use lib.Seq.{length-take-le}
 use mathlib.Core.Bool.{Bool}
 use mathlib.Core.Path.{_∙_, ap, refl, sym}
 use native.Mathlib.Omega.{arith}
-use Rattle.sections.proofs.LineLaws.{sort-is, sort-other}
-use Rattle.sections.specs.Lines.{patternField, rowSort, told}
+use Rattle.sections.proofs.LineLaws.{kind-is, kind-other}
+use Rattle.sections.specs.Lines.{patternField, rowKind, told}
 use mathlib.Core.Path.{_≡_}
 use Rattle.sections.proofs.kernel.patterns.parse_pattern_line.Statement.{statement}
 use Rattle.sections.proofs.kernel.patterns.parse_pattern_line.Tie as tie
@@ -37,22 +37,22 @@ same-length c =
     search needs
 
 returns : tie.Need-returns
-unfolding rowSort
+unfolding rowKind
 returns c =
-    (sort-is patternField (c .before .before .before .before .before .before .before .before .before .before .before .before .args .line .now) (c .before .before .before .before .before .before .before .before .before .before .before .before .args .tag .now) (c .before .before .before .before .before .before .before .before .before .before .before .before .args .n) (c .before .before .before .before .before .before .before .before .cut .result) (omega (arith, c .before .before .before .before .before .before .before .before .cut .ensures .0)) (c .before .before .before .before .before .before .same .ensures .0 (c .before .before .before .before .before .if1 .taken)) _ (c .before .before .before .parse-patterns .ensures .0 ∙ ap (λ (t : Bool). told t (take (c .before .before .before .before .before .before .before .before .before .before .before .before .args .n) (drop (c .before .before .before .before .before .before .before .before .before .before .before .before .args .at) (c .before .before .before .parse-patterns .last .1 .1 .1 .0)))) (c .if2 .taken)), c .before .before .before .parse-patterns .ensures .1)
+    (kind-is patternField (c .before .before .before .before .before .before .before .before .before .before .before .before .args .line .now) (c .before .before .before .before .before .before .before .before .before .before .before .before .args .tag .now) (c .before .before .before .before .before .before .before .before .before .before .before .before .args .n) (c .before .before .before .before .before .before .before .before .cut .result) (omega (arith, c .before .before .before .before .before .before .before .before .cut .ensures .0)) (c .before .before .before .before .before .before .same .ensures .0 (c .before .before .before .before .before .if1 .taken)) _ (c .before .before .before .parse-patterns .ensures .0 ∙ ap (λ (t : Bool). told t (take (c .before .before .before .before .before .before .before .before .before .before .before .before .args .n) (drop (c .before .before .before .before .before .before .before .before .before .before .before .before .args .at) (c .before .before .before .parse-patterns .last .1 .1 .1 .0)))) (c .if2 .taken)), c .before .before .before .parse-patterns .ensures .1)
 
 same-length-2 : tie.Need-same-length-2
 same-length-2 c =
     search needs
 
 returns-2 : tie.Need-returns-2
-unfolding rowSort
+unfolding rowKind
 returns-2 c =
-    (sort-is patternField (c .before .before .before .before .before .before .before .before .before .before .before .before .args .line .now) (c .before .before .before .before .before .before .before .before .before .before .before .before .args .tag .now) (c .before .before .before .before .before .before .before .before .before .before .before .before .args .n) (c .before .before .before .before .before .before .before .before .cut .result) (omega (arith, c .before .before .before .before .before .before .before .before .cut .ensures .0)) (c .before .before .before .before .before .before .same .ensures .0 (c .before .before .before .before .before .if1 .taken)) _ (c .before .before .before .parse-patterns .ensures .0 ∙ ap (λ (t : Bool). told t (take (c .before .before .before .before .before .before .before .before .before .before .before .before .args .n) (drop (c .before .before .before .before .before .before .before .before .before .before .before .before .args .at) (c .before .before .before .parse-patterns .last .1 .1 .1 .0)))) (c .if2 .left)), c .before .before .before .parse-patterns .ensures .1)
+    (kind-is patternField (c .before .before .before .before .before .before .before .before .before .before .before .before .args .line .now) (c .before .before .before .before .before .before .before .before .before .before .before .before .args .tag .now) (c .before .before .before .before .before .before .before .before .before .before .before .before .args .n) (c .before .before .before .before .before .before .before .before .cut .result) (omega (arith, c .before .before .before .before .before .before .before .before .cut .ensures .0)) (c .before .before .before .before .before .before .same .ensures .0 (c .before .before .before .before .before .if1 .taken)) _ (c .before .before .before .parse-patterns .ensures .0 ∙ ap (λ (t : Bool). told t (take (c .before .before .before .before .before .before .before .before .before .before .before .before .args .n) (drop (c .before .before .before .before .before .before .before .before .before .before .before .before .args .at) (c .before .before .before .parse-patterns .last .1 .1 .1 .0)))) (c .if2 .left)), c .before .before .before .parse-patterns .ensures .1)
 
 returns-3 : tie.Need-returns-3
 returns-3 c =
-    (sort-other patternField (c .before .before .before .before .before .before .before .args .line .now) (c .before .before .before .before .before .before .before .args .tag .now) (c .before .before .before .before .before .before .before .args .n) (c .before .before .before .cut .result) (omega (arith, c .before .before .before .cut .ensures .0)) (λ e. let z : _≡_ {A = ℕ} 0 1 = cc (c .before .same .ensures .1 e) in omega arith), refl)
+    (kind-other patternField (c .before .before .before .before .before .before .before .args .line .now) (c .before .before .before .before .before .before .before .args .tag .now) (c .before .before .before .before .before .before .before .args .n) (c .before .before .before .cut .result) (omega (arith, c .before .before .before .cut .ensures .0)) (λ e. let z : _≡_ {A = ℕ} 0 1 = cc (c .before .same .ensures .1 e) in omega arith), refl)
 
 pub parse-pattern-line-spec : {M : Type 1} → statement M
 parse-pattern-line-spec =
