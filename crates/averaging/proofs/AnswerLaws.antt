@@ -1,6 +1,6 @@
 -- What an averaging that no question refuses may go by, and its answer by the number of the first no. Assumes nothing.
 use mathlib.Core.Path.{_≡_, refl, sym, _∙_}
-use mathlib.Core.Bool.{Bool, true, false, cond, _&&_}
+use mathlib.Core.Bool.{true, _&&_}
 use mathlib.Core.List.{List}
 use Prim.Native.Nat.{ℕ, zero, suc, _*_, _≤_}
 use native.Mathlib.Nat.{mul-assoc}
@@ -11,7 +11,7 @@ use lib.ListN.{length}
 use lib.Signed.{mag}
 use lib.Ieee.{Float}
 use borrow.Author.Tests.{eqb-true}
-use Rattle.list_laws.specs.Signed.{isNat, isBetween}
+use Rattle.list_laws.specs.Signed.{isBetween}
 use Rattle.list_laws.proofs.BoolLaws.{and-left, and-right}
 use Rattle.list_laws.proofs.SignedLaws.{between-high}
 use Rattle.questions.specs.Averages.{areDegenerateIds}
@@ -19,28 +19,16 @@ use Rattle.questions.specs.Counts.{isBandCount}
 use Rattle.questions.specs.TpTypes.{channelsOf}
 use Rattle.questions.proofs.AskLaws.{all-yes}
 use Rattle.questions.proofs.AverageLaws.{ids-length}
+use Rattle.questions.proofs.StudyLaws.{band-high}
 use Rattle.averaging.specs.Answers.{flagCount, averagingQuestions, averagingNo, answerOf}
 use Rattle.averaging.specs.declared.AveragingAnswer.the-variants.{Averaged, Refused}
 
 -- ---- sizes
 
-choice-le : (a b : Bool) → cond a 2 (cond b 3 1) ≤ 3
-choice-le true b = omega arith
-choice-le false true = omega arith
-choice-le false false = omega arith
-
-pub channels-le : (t : ℤ) → channelsOf t ≤ 3
-unfolding channelsOf
-channels-le t = choice-le (isNat t 2) (isNat t 3)
-
-pub bands-le : (bands : ℤ) → isBandCount bands ≡ true → mag bands ≤ 64
-unfolding isBandCount
-bands-le bands e = between-high 1 64 bands e
-
 -- question 9's yes bounds both counts
 pub counts-le : (points bands : ℤ) → (isBandCount bands && isBetween 1 1024 points) ≡ true → (mag bands ≤ 64) × (mag points ≤ 1024)
 counts-le points bands e =
-    (bands-le bands (and-left (isBandCount bands) (isBetween 1 1024 points) e), between-high 1 1024 points (and-right (isBandCount bands) (isBetween 1 1024 points) e))
+    (band-high bands (and-left (isBandCount bands) (isBetween 1 1024 points) e), between-high 1 1024 points (and-right (isBandCount bands) (isBetween 1 1024 points) e))
 
 -- ---- what an accepted call goes by
 

@@ -1,5 +1,5 @@
 -- From "every answer is yes" to a sound grid, and the answer by its number. Assumes nothing.
-use mathlib.Core.Path.{_≡_, refl, sym, _∙_}
+use mathlib.Core.Path.{_≡_, refl}
 use mathlib.Core.Bool.{Bool, true, false, cond}
 use mathlib.Core.List.{List}
 use Prim.Native.Nat.{ℕ, zero, suc}
@@ -8,9 +8,9 @@ use lib.IntN.{ℤ}
 use Rattle.list_laws.specs.Patch.{pick}
 use Rattle.list_laws.specs.Signed.{isNat}
 use Rattle.common.specs.Mesh.{countOf, meshOf}
-use Rattle.questions.specs.Ask.{firstNo, afterCall, AllYes, Numbered}
+use Rattle.questions.specs.Ask.{firstNo, AllYes, Numbered}
 use Rattle.questions.specs.Grids.{gridQuestions, triplesIn, isMap, isSparseMap, isDenseMap}
-use Rattle.questions.proofs.AskLaws.{all-yes, after-refused}
+use Rattle.questions.proofs.AskLaws.{all-yes}
 use Rattle.questions.proofs.GridLaws.{mesh-within}
 use Rattle.bzgrid.specs.declared.GridKind.the-variants.{Sparse, Dense}
 use Rattle.bzgrid.specs.declared.NeighbourAnswer.the-variants.{Filled, Refused}
@@ -42,7 +42,3 @@ filled-is (suc n) e = absurd (omega arith)
 pub refused-is : (n m : ℕ) → m ≡ n → (n ≡ 0 → ⊥) → Refused n ≡ neighbourAnswer m
 refused-is zero m e h = absurd (h refl)
 refused-is (suc n) m e h = rw e
-
--- a refused call leaves what was there
-pub kept : {A : Type 0} (n m : ℕ) (new old : A) → m ≡ n → (n ≡ 0 → ⊥) → old ≡ afterCall m new old
-kept n m new old e h = after-refused m new old (λ z. h (sym e ∙ z))

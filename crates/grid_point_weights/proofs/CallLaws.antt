@@ -1,5 +1,5 @@
 -- From "every answer is yes" to a sound study, and the answer by its number. Assumes nothing.
-use mathlib.Core.Path.{_≡_, refl, sym, _∙_}
+use mathlib.Core.Path.{_≡_, refl}
 use mathlib.Core.Bool.{true, _&&_}
 use mathlib.Core.List.{List}
 use Prim.Native.Nat.{ℕ, zero, suc, _*_, _≤_}
@@ -13,12 +13,11 @@ use lib.ListN.{length}
 use lib.Signed.{mag}
 use Rattle.list_laws.proofs.BoolLaws.{and-left, and-right}
 use Rattle.list_laws.proofs.SignedLaws.{between-low, between-high}
-use Rattle.questions.specs.Ask.{firstNo, afterCall, AllYes, Numbered}
+use Rattle.questions.specs.Ask.{firstNo, AllYes, Numbered}
 use Rattle.questions.specs.Counts.{isBandCount, isPointCount, isTripletCount}
 use Rattle.questions.specs.Frequencies.{arePoints}
 use Rattle.questions.specs.Grids.{gridQuestions, triplesIn}
 use Rattle.questions.specs.Irreducible.{areIrreducible}
-use Rattle.questions.proofs.AskLaws.{after-refused}
 use Rattle.questions.proofs.IrreducibleLaws.{frequencies-held, irreducible-length, irreducible-at}
 use Rattle.bzgrid.specs.Neighbours.{gridOf}
 use Rattle.bzgrid.proofs.CallLaws.{sound-grid}
@@ -87,7 +86,3 @@ filled-is (suc n) e = absurd (omega arith)
 pub refused-is : (n m : ℕ) → m ≡ n → (n ≡ 0 → ⊥) → Refused n ≡ gridPointAnswer m
 refused-is zero m e h = absurd (h refl)
 refused-is (suc n) m e h = rw e
-
--- a refused call leaves what was there
-pub kept : {A : Type 0} (n m : ℕ) (new old : A) → m ≡ n → (n ≡ 0 → ⊥) → old ≡ afterCall m new old
-kept n m new old e h = after-refused m new old (λ z. h (sym e ∙ z))

@@ -1,6 +1,6 @@
 -- The number of the first no is 0 exactly when every answer is yes, and n exactly when n is the first that says no. Assumes nothing.
 use mathlib.Core.Path.{_≡_, refl, sym, ap, _∙_}
-use mathlib.Core.Bool.{Bool, true, false}
+use mathlib.Core.Bool.{true, false}
 use mathlib.Core.List.{List, [], _∷_, _++_}
 use Prim.Native.Nat.{ℕ, zero, suc, _<_}
 use native.Mathlib.Omega.{arith}
@@ -67,3 +67,7 @@ after-done (suc n) new old e = absurd (omega arith)
 pub after-refused : {A : Type 0} (n : ℕ) (new old : A) → (n ≡ 0 → ⊥) → old ≡ afterCall n new old
 after-refused zero new old h = absurd (h refl)
 after-refused (suc n) new old h = refl
+
+-- the same, where another number tells that it is refused
+pub kept : {A : Type 0} (n m : ℕ) (new old : A) → m ≡ n → (n ≡ 0 → ⊥) → old ≡ afterCall m new old
+kept n m new old e h = after-refused m new old (λ z. h (sym e ∙ z))

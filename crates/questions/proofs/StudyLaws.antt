@@ -1,8 +1,8 @@
 -- What the answers yes to questions 3 to 11 say of a study. Assumes nothing.
-use mathlib.Core.Path.{_≡_, refl, sym, _∙_, ap}
-use mathlib.Core.Bool.{Bool, true, false, _&&_, _||_}
-use mathlib.Core.List.{List, [], _∷_, _++_}
-use Prim.Native.Nat.{ℕ, zero, suc, _+_, _*_, _/_, _%_, _<_, _≤_}
+use mathlib.Core.Path.{_≡_, refl}
+use mathlib.Core.Bool.{Bool, true, false, cond, _&&_, _||_}
+use mathlib.Core.List.{List}
+use Prim.Native.Nat.{ℕ, _*_, _/_, _%_, _<_, _≤_}
 use native.Mathlib.Omega.{arith}
 use borrow.Author.Tests.{leb-true, eqb-true}
 use lib.Dec.{leb, eqb}
@@ -11,17 +11,18 @@ use lib.Ieee.{Float}
 use lib.ListN.{length}
 use lib.Signed.{mag}
 use Rattle.list_laws.specs.Lists.{at}
+use Rattle.list_laws.specs.Signed.{isNat}
 use Rattle.list_laws.proofs.BoolLaws.{and-left, and-right, clash}
 use Rattle.list_laws.proofs.SignedLaws.{between-low, between-high}
-use Rattle.questions.specs.Ask.{Question, asks, firstNo, AllYes, Numbered}
+use Rattle.questions.specs.Ask.{firstNo, AllYes, Numbered}
 use Rattle.questions.specs.Counts.{isBandCount, isPointCount, isTripletCount, isProduct}
 use Rattle.questions.specs.Frequencies.{areFrequencies, arePoints}
 use Rattle.questions.specs.Grids.{areTriples, triplesIn, gridQuestions}
 use Rattle.questions.specs.Rows.{hasRows}
 use Rattle.questions.specs.Steps.{areGridPoints}
-use Rattle.questions.specs.TpTypes.{isTpType}
+use Rattle.questions.specs.TpTypes.{channelsOf}
 use Rattle.questions.specs.Tables.{isTable}
-use Rattle.questions.specs.Studies.{tripletsIn, areStudyCounts, areTriplets, holdFrequencies, areStudyFrequencies, tripletQuestions, studyQuestions}
+use Rattle.questions.specs.Studies.{tripletsIn, areStudyCounts, areTriplets, holdFrequencies, areStudyFrequencies, studyQuestions}
 use Rattle.questions.proofs.AskLaws.{all-yes}
 use Rattle.questions.proofs.StepLaws.{grid-points-at, product-yes}
 
@@ -37,13 +38,23 @@ table-rows n e = go (eqb n 288) refl (eqb n 576) refl (eqb n 864) refl (eqb n 11
     go false h false i false j true k e = let q : n ≡ 1152 = eqb-true n 1152 k in (omega arith, (omega arith, omega arith))
     go false h false i false j false k e = clash e
 
-band-low : (n : ℤ) → isBandCount n ≡ true → 1 ≤ mag n
+pub band-low : (n : ℤ) → isBandCount n ≡ true → 1 ≤ mag n
 unfolding isBandCount
 band-low n e = between-low 1 64 n e
 
-band-high : (n : ℤ) → isBandCount n ≡ true → mag n ≤ 64
+pub band-high : (n : ℤ) → isBandCount n ≡ true → mag n ≤ 64
 unfolding isBandCount
 band-high n e = between-high 1 64 n e
+
+-- three channels at most
+pub channels-le : (t : ℤ) → channelsOf t ≤ 3
+unfolding channelsOf
+channels-le t = go (isNat t 2) (isNat t 3)
+  where
+    go : (p q : Bool) → cond p 2 (cond q 3 1) ≤ 3
+    go true q = omega arith
+    go false true = omega arith
+    go false false = omega arith
 
 -- question 9's yes
 module _ (bands1 bands2 : ℤ) (points triplets : ℕ) (e : areStudyCounts bands1 bands2 points triplets ≡ true) where

@@ -10,13 +10,13 @@ use lib.Ieee.{Float}
 use lib.IntN.{ℤ}
 use lib.ListN.{length}
 use lib.Signed.{mag}
-use Rattle.list_laws.specs.Lists.{allBelow}
 use Rattle.list_laws.specs.Patch.{pick}
 use Rattle.list_laws.specs.Signed.{isBelow}
 use Rattle.list_laws.proofs.BoolLaws.{and-left, and-right}
 use Rattle.list_laws.proofs.SignedLaws.{below-lt}
 use Rattle.questions.specs.Ask.{Question, asks, firstNo, AllYes, Numbered}
-use Rattle.questions.specs.Averages.{areDegenerateIds, isDegenerateId}
+use Rattle.questions.specs.Averages.{areDegenerateIds}
+use Rattle.questions.proofs.AverageLaws.{ids-length}
 use Rattle.questions.proofs.AskLaws.{group-no, group-yes, all-yes, after-done, after-refused}
 use Rattle.triplet_piece.specs.declared.Sizes.{Sizes}
 use Rattle.triplet_study.specs.Given.{Given, givenQuestions, areLengths}
@@ -181,10 +181,6 @@ module _ (z : Sizes) (marks : List ℕ) (t b1 b2 : ℤ) where
       let y : AllYes (pieceQuestions z marks t b1 b2) = all-yes (pieceQuestions z marks t b1 b2) piece-numbered e in
       piece-on z t b1 b2 (y .0)
 
-id-count : (bands : ℕ) (ids : List ℤ) → areDegenerateIds bands ids ≡ true → length ids ≡ bands
-unfolding areDegenerateIds
-id-count bands ids e = eqb-true (length ids) bands (and-left (eqb (length ids) bands) (allBelow bands (isDegenerateId ids)) e)
-
 module _ (z : Sizes) (weights : List Float) (marks : List ℕ) (t : ℤ) (ids1 ids2 : List ℤ) where
   pub average-named : firstNo (averageQuestions z weights marks t ids1 ids2) ≡ 0
       → (mag t < z .triplets) × ((z .bands1 ≡ z .bands2) × ((length ids1 ≡ z .bands1) × (length ids2 ≡ z .bands1)))
@@ -195,8 +191,8 @@ module _ (z : Sizes) (weights : List Float) (marks : List ℕ) (t : ℤ) (ids1 i
         (
           eqb-true (z .bands1) (z .bands2) (y .1 .1 .0),
           (
-            id-count (z .bands1) ids1 (and-left (areDegenerateIds (z .bands1) ids1) (areDegenerateIds (z .bands1) ids2) (y .1 .1 .1 .0)),
-            id-count (z .bands1) ids2 (and-right (areDegenerateIds (z .bands1) ids1) (areDegenerateIds (z .bands1) ids2) (y .1 .1 .1 .0)),
+            ids-length (z .bands1) ids1 (and-left (areDegenerateIds (z .bands1) ids1) (areDegenerateIds (z .bands1) ids2) (y .1 .1 .1 .0)),
+            ids-length (z .bands1) ids2 (and-right (areDegenerateIds (z .bands1) ids1) (areDegenerateIds (z .bands1) ids2) (y .1 .1 .1 .0)),
           ),
         ),
       )

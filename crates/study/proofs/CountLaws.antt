@@ -1,31 +1,16 @@
 -- The product of the counts of a study stays small. Assumes nothing.
 use mathlib.Core.Path.{_≡_}
-use mathlib.Core.Bool.{Bool, true, false, cond, _&&_}
-use Prim.Native.Nat.{ℕ, _*_, _≤_, _<_}
+use mathlib.Core.Bool.{true}
+use Prim.Native.Nat.{ℕ, _*_, _≤_}
 use native.Mathlib.Nat.{mul-le-mul}
-use native.Mathlib.Omega.{arith}
 use lib.Dec.{leb}
 use lib.IntN.{ℤ}
 use lib.Signed.{mag}
 use borrow.Author.Tests.{leb-true}
-use Rattle.list_laws.specs.Signed.{isNat}
 use Rattle.list_laws.proofs.BoolLaws.{and-right}
-use Rattle.list_laws.proofs.SignedLaws.{between-high}
 use Rattle.questions.specs.Counts.{isBandCount, isPointCount, isTripletCount}
 use Rattle.questions.specs.TpTypes.{channelsOf}
-
-channels-le : (t : ℤ) → channelsOf t ≤ 3
-unfolding channelsOf
-channels-le t = go (isNat t 2) (isNat t 3)
-  where
-    go : (p q : Bool) → cond p 2 (cond q 3 1) ≤ 3
-    go true q = omega arith
-    go false true = omega arith
-    go false false = omega arith
-
-bands-le : (b : ℤ) → isBandCount b ≡ true → mag b ≤ 64
-unfolding isBandCount
-bands-le b e = between-high 1 64 b e
+use Rattle.questions.proofs.StudyLaws.{channels-le, band-high}
 
 points-le : (n : ℕ) → isPointCount n ≡ true → n ≤ 1024
 points-le n e = leb-true n 1024 (and-right (leb 1 n) (leb n 1024) e)
@@ -35,7 +20,7 @@ triplets-le n e = leb-true n 65536 e
 
 module _ (type b1 b2 : ℤ) (points triplets : ℕ) where
   pub bands-small : isBandCount b1 ≡ true → isBandCount b2 ≡ true → mag b1 * mag b2 ≤ 4096
-  bands-small e f = mul-le-mul (bands-le b1 e) (bands-le b2 f)
+  bands-small e f = mul-le-mul (band-high b1 e) (band-high b2 f)
 
   pub one-small : isTripletCount triplets ≡ true → channelsOf type * triplets ≤ 196608
   one-small t = mul-le-mul (channels-le type) (triplets-le triplets t)

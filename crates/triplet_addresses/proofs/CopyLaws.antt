@@ -1,12 +1,12 @@
 -- Copies of a list: the plain one is the list itself, and two of them fill a lent list. Assumes nothing.
-use mathlib.Core.Path.{_≡_, refl, sym, ap, _∙_}
+use mathlib.Core.Path.{_≡_, refl}
 use mathlib.Core.Bool.{Bool, true, false}
 use mathlib.Core.List.{List, append-nil}
 use Prim.Native.Nat.{ℕ, zero, suc, _-_, _*_, _≤_}
 use native.Mathlib.Omega.{arith}
-use borrow.Author.Tests.{leb-true, lt-ltb}
+use borrow.Author.Tests.{leb-true}
 use borrow.Rule.Slice.PartMut.{putMid}
-use lib.IntN.{ℤ, pos, negsuc, negℤ, _-ℤ_}
+use lib.IntN.{ℤ, pos, negsuc, negℤ}
 use lib.ListN.{length, drop, length-drop, drop-of-length-le}
 use lib.Seq.{ext-getD, take-at, drop-at}
 use mir.Syntax.{w64}
@@ -14,15 +14,8 @@ use mir.Val.{SFits}
 use Rattle.list_laws.specs.Lists.{at, tabulate}
 use Rattle.list_laws.specs.Signed.{within}
 use Rattle.list_laws.proofs.FillLaws.{length-tabulate, tabulate-at}
-use Rattle.questions.specs.Ask.{afterCall}
-use Rattle.questions.proofs.AskLaws.{after-refused}
 use Rattle.triplet_addresses.specs.declared.CopyAnswer.the-variants.{Filled, Refused}
 use Rattle.triplet_addresses.specs.Copies.{copyOf, copiesOf, copyAnswer}
-
-pub zero-sub : (z : ℤ) → pos 0 -ℤ z ≡ negℤ z
-zero-sub (pos zero) = refl
-zero-sub (pos (suc n)) = rw (lt-ltb 0 (suc n) (omega arith)) (ap negsuc (omega arith))
-zero-sub (negsuc n) = ap pos (omega arith)
 
 pub neg-fits : (z : ℤ) → within 4096 z ≡ true → SFits w64 (negℤ z)
 unfolding within
@@ -53,7 +46,3 @@ filled-is (suc n) e = absurd (omega arith)
 pub refused-is : (n m : ℕ) → m ≡ n → (n ≡ 0 → ⊥) → Refused n ≡ copyAnswer m
 refused-is zero m e h = absurd (h refl)
 refused-is (suc n) m e h = rw e
-
--- a refused call leaves what was there
-pub kept : {A : Type 0} (n m : ℕ) (new old : A) → m ≡ n → (n ≡ 0 → ⊥) → old ≡ afterCall m new old
-kept n m new old e h = after-refused m new old (λ z. h (sym e ∙ z))

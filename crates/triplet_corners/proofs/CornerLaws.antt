@@ -1,11 +1,11 @@
 -- The second copy of the steps is small and whole as the first is, and each corner number is the number of an address. Assumes nothing.
-use mathlib.Core.Path.{_≡_, refl, sym, _∙_, ap}
+use mathlib.Core.Path.{_≡_, refl, sym, _∙_}
 use mathlib.Core.Bool.{true}
 use mathlib.Core.List.{List, map}
-use Prim.Native.Nat.{ℕ, zero, suc, _-_, _*_, _%_, _<_}
+use Prim.Native.Nat.{ℕ, zero, suc, _*_, _%_, _<_}
 use native.Mathlib.Omega.{arith}
-use borrow.Author.Tests.{leb-true, lt-ltb, eq-eqb}
-use lib.IntN.{ℤ, pos, negsuc, negℤ, _-ℤ_}
+use borrow.Author.Tests.{leb-true, eq-eqb}
+use lib.IntN.{ℤ, pos, negsuc, negℤ}
 use lib.ListN.{getD, length, take, length-map, List·getD-map}
 use lib.Seq.{ext-getD}
 use mir.Syntax.{w64}
@@ -25,11 +25,6 @@ use Rattle.triplet_channels.specs.declared.TpType.{TpType}
 use Rattle.triplet_channels.specs.declared.TpType.the-variants.{Type2, Type3, Type4}
 use Rattle.triplet_channels.specs.Values.{Held}
 use Rattle.triplet_corners.specs.Corners.{stepOf, secondSteps, secondArea, cornerNumbers}
-
-pub zero-sub : (z : ℤ) → pos 0 -ℤ z ≡ negℤ z
-zero-sub (pos zero) = refl
-zero-sub (pos (suc n)) = rw (lt-ltb 0 (suc n) (omega arith)) (ap negsuc (omega arith))
-zero-sub (negsuc n) = ap pos (omega arith)
 
 pub small-neg : (z : ℤ) → within 4096 z ≡ true → within 4096 (negℤ z) ≡ true
 unfolding within

@@ -12,7 +12,8 @@ use Rattle.averaging.specs.Weights.{averagedPoints}
 use Rattle.averaging.specs.Flags.{averagedFlagPoints}
 use Rattle.averaging.specs.declared.AveragingAnswer.the-variants.{Refused}
 use Rattle.averaging.proofs.SizeLaws.{points-le}
-use Rattle.averaging.proofs.AnswerLaws.{channels-le, Accepted, accepted, answer-refused, answer-done}
+use Rattle.questions.proofs.StudyLaws.{channels-le}
+use Rattle.averaging.proofs.AnswerLaws.{Accepted, accepted, answer-refused, answer-done}
 use borrow.Author.Needs.{needs}
 use Rattle.averaging.proofs.average_weights_over_degenerate_sets.Statement.{statement}
 use Rattle.averaging.proofs.average_weights_over_degenerate_sets.Tie as tie

@@ -16,7 +16,8 @@ use Rattle.questions.specs.Counts.{isBandCount}
 use Rattle.questions.specs.TpTypes.{isTpType, channelsOf}
 use Rattle.averaging.specs.Answers.{flagCount}
 use Rattle.averaging.proofs.SizeLaws.{square-le, flags-le, weights-le}
-use Rattle.averaging.proofs.AnswerLaws.{channels-le, counts-le}
+use Rattle.questions.proofs.StudyLaws.{channels-le}
+use Rattle.averaging.proofs.AnswerLaws.{counts-le}
 use borrow.Author.Needs.{needs}
 use Rattle.averaging.proofs.averaging_no.Statement.{statement}
 use Rattle.averaging.proofs.averaging_no.Tie as tie

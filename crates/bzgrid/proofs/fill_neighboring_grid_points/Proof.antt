@@ -7,11 +7,11 @@ use mathlib.Core.Path.{_∙_, _≡_, sym}
 use mir.Syntax.{w64}
 use mir.ValLaws.{toZ-ofZ}
 use native.Mathlib.Omega.{arith}
-use Rattle.bzgrid.proofs.CallLaws.{filled-is, grid-numbered, kept, refused-is, sound-grid}
+use Rattle.bzgrid.proofs.CallLaws.{filled-is, grid-numbered, refused-is, sound-grid}
 use Rattle.bzgrid.specs.Calls.{stepQuestions}
 use Rattle.list_laws.proofs.SignedLaws.{below-lt}
 use Rattle.list_laws.specs.Lists.{at}
-use Rattle.questions.proofs.AskLaws.{after-done, all-yes, group-no, group-yes}
+use Rattle.questions.proofs.AskLaws.{after-done, all-yes, group-no, group-yes, kept}
 use Rattle.questions.proofs.StepLaws.{steps-triples}
 use Rattle.questions.specs.Ask.{AllYes, Question, firstNo}
 use Rattle.questions.specs.Grids.{gridQuestions, triplesIn}

@@ -8,10 +8,10 @@ use mathlib.Core.Path.{_∙_, _≡_, sym}
 use mir.Syntax.{w64}
 use mir.ValLaws.{toZ-ofZ}
 use Rattle.bzgrid.proofs.CallLaws.{grid-numbered}
-use Rattle.grid_point_weights.proofs.CallLaws.{filled-is, kept, refused-is, sound-study, weights-numbered}
+use Rattle.grid_point_weights.proofs.CallLaws.{filled-is, refused-is, sound-study, weights-numbered}
 use Rattle.grid_point_weights.specs.Calls.{weightsQuestions}
 use Rattle.list_laws.specs.Lists.{at}
-use Rattle.questions.proofs.AskLaws.{after-done, all-yes, group-no, group-yes}
+use Rattle.questions.proofs.AskLaws.{after-done, all-yes, group-no, group-yes, kept}
 use Rattle.questions.proofs.StepLaws.{product-yes}
 use Rattle.questions.specs.Ask.{AllYes, Question, firstNo}
 use Rattle.questions.specs.Grids.{gridQuestions, triplesIn}

@@ -7,11 +7,11 @@ use mir.Syntax.{w64}
 use mir.ValLaws.{toZ-ofZ}
 use native.Mathlib.Omega.{arith}
 use Rattle.list_laws.specs.Lists.{at}
-use Rattle.questions.proofs.AskLaws.{after-done, all-yes}
+use Rattle.questions.proofs.AskLaws.{after-done, all-yes, kept}
 use Rattle.questions.proofs.StepLaws.{product-yes}
 use Rattle.questions.proofs.TableLaws.{table-triples}
 use Rattle.questions.specs.Ask.{AllYes, Question, firstNo}
-use Rattle.triplet_addresses.proofs.CopyLaws.{filled-is, kept, refused-is}
+use Rattle.triplet_addresses.proofs.CopyLaws.{filled-is, refused-is}
 use Rattle.triplet_addresses.specs.Copies.{copyQuestions}
 use Rattle.triplet_addresses.proofs.set_relative_grid_address.Statement.{statement}
 use Rattle.triplet_addresses.proofs.set_relative_grid_address.Tie as tie

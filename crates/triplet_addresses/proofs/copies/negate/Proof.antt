@@ -2,7 +2,8 @@
 use lib.IntN.{negℤ, ℤ}
 use mir.Syntax.{w64}
 use mir.ValLaws.{toZ-ofZ}
-use Rattle.triplet_addresses.proofs.CopyLaws.{neg-fits, zero-sub}
+use Rattle.list_laws.proofs.SignedLaws.{zero-sub}
+use Rattle.triplet_addresses.proofs.CopyLaws.{neg-fits}
 use Rattle.triplet_addresses.proofs.copies.negate.Statement.{statement}
 use Rattle.triplet_addresses.proofs.copies.negate.Tie as tie
 

@@ -1,7 +1,8 @@
 -- `triplet_corners::kernel::negate` meets its contract. Assumes nothing.
 use mir.Syntax.{w64}
 use mir.ValLaws.{toZ-ofZ}
-use Rattle.triplet_corners.proofs.CornerLaws.{small-fits, small-neg, zero-sub}
+use Rattle.list_laws.proofs.SignedLaws.{zero-sub}
+use Rattle.triplet_corners.proofs.CornerLaws.{small-fits, small-neg}
 use Rattle.triplet_corners.proofs.kernel.negate.Statement.{statement}
 use Rattle.triplet_corners.proofs.kernel.negate.Tie as tie
 
