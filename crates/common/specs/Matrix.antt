@@ -5,6 +5,7 @@ use Prim.Native.Nat.{ℕ}
 use lib.IntN.{ℤ}
 use lib.ListN.{getD}
 use lib.Ieee.{Float, nan, binary64, ofBits, ofInt, le, add, mul}
+use Rattle.ieee_laws.specs.Zeros.{zeroF}
 use Rattle.list_laws.specs.Lists.{at}
 use Rattle.list_laws.specs.Patch.{pick}
 use Rattle.list_laws.specs.Signed.{within}
@@ -14,10 +15,6 @@ use Rattle.common.specs.declared.MatvecAnswer.{MatvecAnswer}
 -- 2^30
 abbrev pub latticeLimit : Float
 latticeLimit = ofBits binary64 0x41D0_0000_0000_0000
-
--- 0.0, in the vector of a refusal
-abbrev pub zeroF : Float
-zeroF = ofBits binary64 0
 
 -- "finite, magnitude at most 2^30"
 unfoldable pub isLatticeEntry : Float → Bool

@@ -11,12 +11,10 @@ use lib.Pow.{pow-pos}
 use lib.Ieee.{Float, Format, nan, inf, fin, up, down, lt, eq, neg, fits}
 use lib.Ieee.Fits.{up-pos}
 use Rattle.list_laws.proofs.BoolLaws.{clash}
+use Rattle.ieee_laws.specs.Zeros.{plusZero}
 use Rattle.ieee_laws.specs.Magnitude.{absolute}
 
-abbrev zeroF : Float
-zeroF = fin false 0 (pos 0)
-
-pub absolute-negative : (x : Float) → lt x zeroF ≡ true → neg x ≡ absolute x
+pub absolute-negative : (x : Float) → lt x plusZero ≡ true → neg x ≡ absolute x
 unfolding absolute lt neg
 absolute-negative nan e = clash e
 absolute-negative (inf false) e = clash e
@@ -28,7 +26,7 @@ absolute-negative (fin false m e) h = clash (sym (le-ltb (m * up e * 1) (0 * dow
 positive : (m : ℕ) (e : ℤ) → 0 < suc m * up e * 1
 positive m e = rw (mul-one (suc m * up e)) (mul-pos (zero-lt-suc m) (up-pos e))
 
-pub absolute-other : (x : Float) → lt x zeroF ≡ false → eq x zeroF ≡ false → x ≡ absolute x
+pub absolute-other : (x : Float) → lt x plusZero ≡ false → eq x plusZero ≡ false → x ≡ absolute x
 unfolding absolute lt eq
 absolute-other nan l q = refl
 absolute-other (inf false) l q = refl
@@ -44,7 +42,7 @@ one-way f s (pos zero) t = refl
 one-way f s (pos (suc k)) t = absurd (omega (arith, eqb→eq (2 ^ suc k * 1) 1 t, pow-suc 2 k, pow-pos k))
 one-way f s (negsuc k) t = absurd (omega (arith, eqb→eq (1 * 2 ^ suc k) 1 t, pow-suc 2 k, pow-pos k))
 
-pub absolute-zero : (f : Format) (x : Float) → T (fits f x) → eq x zeroF ≡ true → zeroF ≡ absolute x
+pub absolute-zero : (f : Format) (x : Float) → T (fits f x) → eq x plusZero ≡ true → plusZero ≡ absolute x
 unfolding absolute eq
 absolute-zero f nan t q = clash q
 absolute-zero f (inf s) t q = clash q

@@ -8,8 +8,9 @@ use lib.Dec.{ltb}
 use lib.Ieee.{Float}
 use lib.IntN.{ℤ, pos}
 use lib.ListN.{replicate}
+use Rattle.ieee_laws.specs.Zeros.{zeroF}
 use Rattle.list_laws.specs.Patch.{pick}
-use Rattle.common.specs.Matrix.{isLattice, isVector, matvecOf, matvecAnswer, zeroF}
+use Rattle.common.specs.Matrix.{isLattice, isVector, matvecOf, matvecAnswer}
 use Rattle.common.specs.Mesh.{meshOf}
 use Rattle.common.specs.declared.MatvecAnswer.{MatvecAnswer}
 use Rattle.grgrid.specs.Index.{addressOf, gridIndex, indexAnswer}

@@ -4,8 +4,8 @@ use mathlib.Core.Bool.{Bool, true, false, cond}
 use mathlib.Core.List.{List}
 use lib.ListN.{getD}
 use lib.Ieee.{Float, nan, ne, isNan, ofBits}
+use Rattle.ieee_laws.specs.Zeros.{zeroF}
 use Rattle.ieee_laws.proofs.NanLaws.{no-nan}
-use Rattle.tetrahedron_formulas.specs.Binary64.{zeroF}
 use Rattle.tetrahedron_formulas.specs.Choice.{values}
 use Rattle.tetrahedron_sort.specs.Sort.{sortedOf}
 use Rattle.tetrahedron_method.specs.Weight.{orZero}

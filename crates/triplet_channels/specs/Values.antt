@@ -6,7 +6,8 @@ use Prim.Native.Nat.{ℕ, zero, suc, _+_, _*_, _<_}
 use lib.ListN.{getD, length}
 use lib.Ieee.{Float, nan, lt, neg}
 use Rattle.list_laws.specs.Lists.{tabulate}
-use Rattle.tetrahedron_formulas.specs.Binary64.{zeroF as f0, _⊕_, _⊖_}
+use Rattle.ieee_laws.specs.Zeros.{zeroF as f0}
+use Rattle.tetrahedron_formulas.specs.Binary64.{_⊕_, _⊖_}
 use Rattle.triplet_channels.specs.declared.TpType.{TpType}
 use Rattle.triplet_channels.specs.declared.TpType.the-variants.{Type2, Type3, Type4}
 use Rattle.triplet_channels.specs.declared.ValueBox.{ValueBox}
