@@ -1,0 +1,103 @@
+#!/usr/bin/env python3
+"""Shows that the comparisons of studies and of sheet lists can fail: each change below of the checker or of the model must be seen.
+
+    model_mutants.py OUT
+
+OUT is a folder as build.sh leaves it. The scripts run without their own assertions, so that only the comparison with the proved
+program or library can see a change; its status must be 1, with differences counted. The status is 1 where a change was not seen.
+"""
+import os
+import shutil
+import subprocess
+import sys
+import tempfile
+
+here = os.path.dirname(os.path.abspath(__file__))
+
+# file, old text, new text
+STUDIES = [
+    ("scope.py", "all(1 <= d <= most for d in mesh)", "all(1 <= d <= most + 1 for d in mesh)"),
+    ("scope.py", "-4096 <= x <= 4096", "-4096 <= x <= 4097"),
+    ("scope.py", "not n <= p <= 8 * n", "not n <= p <= 8 * n + 1"),
+    ("scope.py", "len(gp_map) >= n + 1", "len(gp_map) == n + 1"),
+    ("scope.py", "gp_map[i] < gp_map[i + 1]", "gp_map[i] < gp_map[i + 1] < gp_map[i] + 8"),
+    ("scope.py", "0 <= v < p or v == 8 * n", "0 < v < p or v == 8 * n"),
+    ("scope.py", "LEAST, GREATEST = 2.0**-600, 2.0**30", "LEAST, GREATEST = 2.0**-601, 2.0**30"),
+    ("scope.py", "LEAST_POINT, GREATEST_POINT = 2.0**-660, 2.0**31", "LEAST_POINT, GREATEST_POINT = 2.0**-660, 2.0**32"),
+    ("studies/checker.py", "len(text) > 16384", "len(text) > 16385"),
+    ("studies/checker.py", "b1 * b2 > 4096", "b1 * b2 > 4097"),
+    ("studies/checker.py", "if type_ok and counts_ok and", "if type_ok and"),
+    ("studies/checker.py", "(?:0|-?[1-9][0-9]*)", "(?:-?[0-9]+)"),
+    ("studies/checker.py", "[0-9a-f]{16}", "[0-9a-fA-F]{16}"),
+    ("studies/checker.py", "-2**63 <= x < 2**63", "-2**63 <= x <= 2**63"),
+    ("studies/checker.py", "1 <= b1 <= 64", "1 <= b1 <= 65"),
+    ("studies/checker.py", "0 <= g < p for", "0 <= g < max(1, p - 1) for"),
+    ("studies/checker.py", "    if not type_ok:\n        return 8\n    if not counts_ok:\n        return 9\n",
+     "    if not counts_ok:\n        return 9\n    if not type_ok:\n        return 8\n"),
+]
+SHEETS = [("sheet/sheet_model.py", old, new) for old, new in (
+    ("sheet.tally + runs < 1 << 63", "sheet.tally + runs <= 1 << 63"),
+    ('"run": tuple(range(3, 16)) + (20,)', '"run": tuple(range(3, 15)) + (20,)'),
+    ('"carry_on": tuple(range(3, 14)) + (20,)', '"carry_on": (20,) + tuple(range(3, 14))'),
+    ('"average": tuple(range(3, 20))', '"average": tuple(range(3, 21))'),
+    ("        if any(m > 2 for m in marks):\n            return False\n", ""),
+    ("0 <= call[2] < s.bands[0]", "0 <= call[2] < min(s.bands)"),
+    ("return s.bands[0] == s.bands[1]", "return s.bands[0] == s.bands[1] > 1"),
+    ("x == i or (i > 0 and x == ids[i - 1])", "x <= i"),
+    ("return all(m == 1 for m in marks_of(s, sheet, call[1]))", "return any(m == 1 for m in marks_of(s, sheet, call[1]))"),
+    ("if b == SIGN or b & ~SIGN > power(60)", "if b & ~SIGN > power(60)"),
+    ("b & ~SIGN > power(60)", "b & ~SIGN > power(60) + 1"),
+    ("len(sheet.flags) == s.f * pieces", "len(sheet.flags) >= s.f * pieces"),
+    ("mean = bits(total / float(c1 * c2))", "mean = bits(total * (1.0 / float(c1 * c2)))"),
+    ("if any(matrix[i] == 0 for i in places)", "if all(matrix[i] == 0 for i in places)"),
+    ("if sheet.marks[mark_place(s, t, b1, b2)] == 0", "if sheet.marks[mark_place(s, t, b1, b2)] != 2"),
+    ("    sheet.marks[mark_place(s, t, b1, b2)] = 1", "    sheet.marks[mark_place(s, t, b1, b2)] = 1 if t else 0"),
+    ("if least <= omega <= greatest", "if least <= omega < greatest"),
+    ("            if s.type in (2, 3):\n                if f1", "            if s.type in (2, 3, 4):\n                if f1"),
+    ("g[0] + g[1] + g[2])", "g[0] + (g[1] + g[2]))"),
+    ("if abs(delta) < EPSILON", "if abs(delta) <= EPSILON"),
+    ("flag = min(piece(s, t, x, y)[point][1]", "flag = max(piece(s, t, x, y)[point][1]"),
+    ("                self.words[i] = AVERAGED", "                self.words[i] = COMPUTED"),
+)]
+
+
+def counted(said):
+    """The differences that the lines of kinds count."""
+    return sum(int(l.split("\t")[5]) for l in said.splitlines() if l.startswith("kind\t"))
+
+
+def seen(folder, change, command):
+    """Whether the changed scripts, run in a folder, tell differences."""
+    for part in ("compare", "foreign/python"):
+        shutil.copytree(os.path.join(here, "..", part), os.path.join(folder, part))
+    file, old, new = change
+    path = os.path.join(folder, "compare", file)
+    with open(path) as f:
+        text = f.read()
+    assert text.count(old) >= 1, change
+    with open(path, "w") as f:
+        f.write(text.replace(old, new, 1))
+    script = os.path.join(folder, "compare", command[0])
+    done = subprocess.run([sys.executable, "-O", script, *command[1:]], cwd=folder, capture_output=True, text=True)
+    differences = counted(done.stdout)
+    print("%s: %r: status %d, %d differences" % (file, new[:70], done.returncode, differences), flush=True)
+    return done.returncode == 1 and differences > 0
+
+
+def main():
+    if len(sys.argv) != 2:
+        sys.exit(__doc__)
+    out = os.path.abspath(sys.argv[1])
+    commands = [["studies/studies.py", "fuzz", out, "1", "1"], ["sheet/sheet_calls.py", os.path.join(out, "libpelmetsavory.so"), "1000", "1"]]
+    missed = changes = 0
+    for command, given in zip(commands, (STUDIES, SHEETS)):
+        for change in given:
+            with tempfile.TemporaryDirectory() as folder:
+                missed += not seen(folder, change, command)
+            changes += 1
+    print("%d changes, %d not seen" % (changes, missed))
+    return 1 if missed else 0
+
+
+if __name__ == "__main__":
+    sys.exit(main())
