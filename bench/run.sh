@@ -107,11 +107,9 @@ while read -r variant rust words; do
   beside "$words" "$(of "$variant")" "$(of "$rust")" "$ours" "$theirs"
 done <<'EOF'
 rust_i rust_i I the Rust
-given_i rust_i I rows as given
 entry_i rust_i I the entry, with its questions
 sorted_i rust_i I rows in order already
 rust_j rust_j J the Rust
-given_j rust_j J rows as given
 entry_j rust_j J the entry, with its questions
 sorted_j rust_j J rows in order already
 EOF

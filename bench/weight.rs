@@ -4,9 +4,9 @@ use crate::{calls, kernels};
 use phonors::tetrahedron_method::{integration_weight, WeightFunction};
 use std::hint::black_box;
 
-/// The Rust; the kernel on rows as given; the entry with its questions; the kernel on rows in order already. `none` makes no call.
-pub const VARIANTS: [&str; 9] = [
-    "none", "rust_i", "given_i", "entry_i", "sorted_i", "rust_j", "given_j", "entry_j", "sorted_j",
+/// The Rust; the entry with its questions; the kernel on rows in order already. `none` makes no call.
+pub const VARIANTS: [&str; 7] = [
+    "none", "rust_i", "entry_i", "sorted_i", "rust_j", "entry_j", "sorted_j",
 ];
 
 struct Set {
@@ -72,9 +72,9 @@ impl Inputs {
 
 #[inline(always)]
 fn one(variant: usize, s: &Set, omega: f64) -> f64 {
-    let i = variant < 5;
+    let i = variant < 4;
     match variant {
-        1 | 5 => {
+        1 | 4 => {
             let function = if i {
                 WeightFunction::I
             } else {
@@ -82,9 +82,8 @@ fn one(variant: usize, s: &Set, omega: f64) -> f64 {
             };
             integration_weight(omega, &s.rows, function)
         }
-        2 | 6 => kernels::area(i, omega, &s.given, 24),
-        3 | 7 => entry(i, omega, &s.given[..96]),
-        4 | 8 => kernels::sorted(i, omega, &s.sorted, &s.places, 24),
+        2 | 5 => entry(i, omega, &s.given[..96]),
+        3 | 6 => kernels::sorted(i, omega, &s.sorted, &s.places, 24),
         _ => omega,
     }
 }
@@ -101,16 +100,16 @@ pub fn compare() -> bool {
     let x = Inputs::new();
     let same = |q: usize, v: usize| {
         let (s, omega) = (&x.sets[q % 64], x.omegas[q / 64]);
-        let rust = if v < 5 { 1 } else { 5 };
+        let rust = if v < 4 { 1 } else { 4 };
         one(v, s, omega).to_bits() == one(rust, s, omega).to_bits()
     };
-    (0..4096).all(|q| (1..9).all(|v| same(q, v)))
+    (0..4096).all(|q| (1..7).all(|v| same(q, v)))
 }
 
 /// Nanoseconds of one weight, the variants in turn, medians of the rounds.
 pub fn time(weights: usize, rounds: usize) {
     let x = Inputs::new();
-    let mut took = vec![vec![]; 9];
+    let mut took = vec![vec![]; 7];
     for _ in 0..rounds {
         for (v, t) in took.iter_mut().enumerate() {
             let ms = clock(|| _ = x.run(v, weights));

@@ -19,9 +19,9 @@ STUDIES = [
     ("scope.py", "all(1 <= d <= most for d in mesh)", "all(1 <= d <= most + 1 for d in mesh)"),
     ("scope.py", "-4096 <= x <= 4096", "-4096 <= x <= 4097"),
     ("scope.py", "not n <= p <= 8 * n", "not n <= p <= 8 * n + 1"),
-    ("scope.py", "gp_map[0] == 0 and", ""),
-    ("scope.py", "gp_map[i] < gp_map[i + 1]", "gp_map[i] <= gp_map[i + 1]"),
-    ("scope.py", "0 <= v < p or v == 8 * n", "0 <= v < p or v >= 8 * n"),
+    ("scope.py", "len(gp_map) >= n + 1", "len(gp_map) == n + 1"),
+    ("scope.py", "gp_map[i] < gp_map[i + 1]", "gp_map[i] < gp_map[i + 1] < gp_map[i] + 8"),
+    ("scope.py", "0 <= v < p or v == 8 * n", "0 < v < p or v == 8 * n"),
     ("scope.py", "LEAST, GREATEST = 2.0**-600, 2.0**30", "LEAST, GREATEST = 2.0**-601, 2.0**30"),
     ("scope.py", "LEAST_POINT, GREATEST_POINT = 2.0**-660, 2.0**31", "LEAST_POINT, GREATEST_POINT = 2.0**-660, 2.0**32"),
     ("studies/checker.py", "len(text) > 16384", "len(text) > 16385"),
@@ -31,7 +31,7 @@ STUDIES = [
     ("studies/checker.py", "[0-9a-f]{16}", "[0-9a-fA-F]{16}"),
     ("studies/checker.py", "-2**63 <= x < 2**63", "-2**63 <= x <= 2**63"),
     ("studies/checker.py", "1 <= b1 <= 64", "1 <= b1 <= 65"),
-    ("studies/checker.py", "0 <= g < p for", "0 <= g <= p for"),
+    ("studies/checker.py", "0 <= g < p for", "0 <= g < max(1, p - 1) for"),
     ("studies/checker.py", "    if not type_ok:\n        return 8\n    if not counts_ok:\n        return 9\n",
      "    if not counts_ok:\n        return 9\n    if not type_ok:\n        return 8\n"),
 ]
@@ -41,8 +41,8 @@ SHEETS = [("sheet/sheet_model.py", old, new) for old, new in (
     ('"carry_on": tuple(range(3, 14)) + (20,)', '"carry_on": (20,) + tuple(range(3, 14))'),
     ('"average": tuple(range(3, 20))', '"average": tuple(range(3, 21))'),
     ("        if any(m > 2 for m in marks):\n            return False\n", ""),
-    ("0 <= call[2] < s.bands[0]", "0 <= call[2] <= s.bands[0]"),
-    ("return s.bands[0] == s.bands[1]", "return True"),
+    ("0 <= call[2] < s.bands[0]", "0 <= call[2] < min(s.bands)"),
+    ("return s.bands[0] == s.bands[1]", "return s.bands[0] == s.bands[1] > 1"),
     ("x == i or (i > 0 and x == ids[i - 1])", "x <= i"),
     ("return all(m == 1 for m in marks_of(s, sheet, call[1]))", "return any(m == 1 for m in marks_of(s, sheet, call[1]))"),
     ("if b == SIGN or b & ~SIGN > power(60)", "if b & ~SIGN > power(60)"),
@@ -51,7 +51,7 @@ SHEETS = [("sheet/sheet_model.py", old, new) for old, new in (
     ("mean = bits(total / float(c1 * c2))", "mean = bits(total * (1.0 / float(c1 * c2)))"),
     ("if any(matrix[i] == 0 for i in places)", "if all(matrix[i] == 0 for i in places)"),
     ("if sheet.marks[mark_place(s, t, b1, b2)] == 0", "if sheet.marks[mark_place(s, t, b1, b2)] != 2"),
-    ("    sheet.marks[mark_place(s, t, b1, b2)] = 1", "    sheet.marks[mark_place(s, t, b1, b2)] |= 1"),
+    ("    sheet.marks[mark_place(s, t, b1, b2)] = 1", "    sheet.marks[mark_place(s, t, b1, b2)] = 1 if t else 0"),
     ("if least <= omega <= greatest", "if least <= omega < greatest"),
     ("            if s.type in (2, 3):\n                if f1", "            if s.type in (2, 3, 4):\n                if f1"),
     ("g[0] + g[1] + g[2])", "g[0] + (g[1] + g[2]))"),
@@ -88,7 +88,7 @@ def main():
     if len(sys.argv) != 2:
         sys.exit(__doc__)
     out = os.path.abspath(sys.argv[1])
-    commands = [["studies/studies.py", "fuzz", out, "1", "1000"], ["sheet/sheet_calls.py", os.path.join(out, "libpelmetsavory.so"), "1000", "1"]]
+    commands = [["studies/studies.py", "fuzz", out, "1", "1"], ["sheet/sheet_calls.py", os.path.join(out, "libpelmetsavory.so"), "1000", "1"]]
     missed = changes = 0
     for command, given in zip(commands, (STUDIES, SHEETS)):
         for change in given:

@@ -249,6 +249,18 @@ pub fn triplets(s: &Study, weights: usize, flags: usize) -> u64 {
     })
 }
 
+/// A text that is well formed and at most 16,384 bytes long: at most 4,096 weights, a count that is not tested where 8 or 9 says no;
+/// then the study's questions.
+pub fn text(s: &Study) -> u64 {
+    let counted = || {
+        let [t, x, b1, b2] = entries(s).map(|n| n as i128);
+        !known_type(s.tp)
+            || !counts(&s.bands, s.points.len() as i64, triplets_begun(s))
+            || CHANNELS[s.tp as usize] as i128 * t * x * b1 * b2 <= 4096
+    };
+    then(first_no(&[(1, &counted)]), || study(s))
+}
+
 /// Each id is its own place or the id before it.
 fn ids(list: &[i64], bands: i64) -> bool {
     list.len() as i64 == bands

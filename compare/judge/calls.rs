@@ -111,6 +111,15 @@ pub fn one_triplet(s: &Study, triplet: [i64; 3], weights: &mut [f64], flags: &mu
     )
 }
 
+/// The greatest length of an answer in bytes.
+pub const ANSWER: usize = 118617;
+
+/// The answer to a study's text, at the start of `out`; its length.
+pub fn answer(text: &[u8], out: &mut [u8]) -> usize {
+    let out: &mut [u8; ANSWER] = out.try_into().expect("a buffer of that length");
+    unsafe { c::pelmetsavory_answer(text.as_ptr(), text.len(), out) }
+}
+
 /// Counts: triplets, points, both bands.
 pub fn open_count(counts: [i64; 4], flags: &[i8], triplet: i64, count: &mut u64) -> u64 {
     let [num_triplets, num_band0, num_band1, num_band2] = counts;

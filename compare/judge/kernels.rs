@@ -2,18 +2,9 @@
 
 #[link(name = "export", kind = "static")]
 extern "C" {
-    fn export_area_i(omega: f64, area: *const f64, rows: usize) -> f64;
-    fn export_area_j(omega: f64, area: *const f64, rows: usize) -> f64;
     fn export_sort(area: *mut f64, places: *mut usize, rows: usize);
     fn export_sorted_i(omega: f64, area: *const f64, places: *const usize, rows: usize) -> f64;
     fn export_sorted_j(omega: f64, area: *const f64, places: *const usize, rows: usize) -> f64;
-}
-
-/// The weight over rows as they are given.
-pub fn area(i: bool, omega: f64, area: &[f64; 384], rows: usize) -> f64 {
-    assert!(rows <= 96);
-    let call = if i { export_area_i } else { export_area_j };
-    unsafe { call(omega, area.as_ptr(), rows) }
 }
 
 /// Puts rows in order, and tells where the first value of each went.

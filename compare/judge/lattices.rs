@@ -61,9 +61,12 @@ fn index(r: &mut Rng, seen: &mut Seen) {
 fn lattice(r: &mut Rng) -> [f64; 9] {
     let a = 2.0 * r.unit() - 1.0;
     let skew = r.one_in(2);
-    let style = r.below(6);
+    let style = r.below(7);
     // wide exponents: of the whole lattice, and of its entries beside one another
     let (whole, spread) = (r.between(-700, 29), r.pick(&[1, 3, 30, 300]));
+    if style == 6 {
+        return rotated(r);
+    }
     let mut l = [0.0; 9];
     for (k, x) in l.iter_mut().enumerate() {
         *x = match style {
@@ -82,6 +85,36 @@ fn lattice(r: &mut Rng) -> [f64; 9] {
             4 => (2.0 * r.unit() - 1.0) * 2f64.powi((whole - r.below(spread) as i64) as i32),
             _ => nearly_cubic(r, k, a, skew),
         };
+    }
+    l
+}
+
+/// Three vectors at right angles, turned anyhow: all four lengths are the same but for rounding.
+fn rotated(r: &mut Rng) -> [f64; 9] {
+    let q = [0.0; 4].map(|_| 2.0 * r.unit() - 1.0);
+    let n = q.iter().map(|x| x * x).sum::<f64>();
+    let [w, x, y, z] = q;
+    let scale = [0.0; 3].map(|_| if r.one_in(2) { 1.0 } else { r.unit() + 0.5 });
+    let turned = [
+        [
+            n - 2.0 * (y * y + z * z),
+            2.0 * (x * y - z * w),
+            2.0 * (x * z + y * w),
+        ],
+        [
+            2.0 * (x * y + z * w),
+            n - 2.0 * (x * x + z * z),
+            2.0 * (y * z - x * w),
+        ],
+        [
+            2.0 * (x * z - y * w),
+            2.0 * (y * z + x * w),
+            n - 2.0 * (x * x + y * y),
+        ],
+    ];
+    let mut l = [0.0; 9];
+    for (k, e) in l.iter_mut().enumerate() {
+        *e = turned[k / 3][k % 3] * scale[k % 3];
     }
     l
 }

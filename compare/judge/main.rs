@@ -5,6 +5,7 @@
 //!
 //! It prints a line for each kind (report.rs). The status is 1 where an answer or a byte of a buffer differs, or where a number that a
 //! kind can answer, or acceptance, never came.
+mod answers;
 mod asks;
 mod averages;
 #[allow(dead_code)]
@@ -39,7 +40,7 @@ struct Group {
     share: u64,
 }
 
-static GROUPS: [Group; 8] = [
+static GROUPS: [Group; 9] = [
     Group {
         kinds: &lattices::KINDS,
         cases: lattices::cases,
@@ -56,7 +57,7 @@ static GROUPS: [Group; 8] = [
         kinds: &weights::KINDS,
         cases: weights::cases,
         rounds: 25000,
-        share: 25,
+        share: 20,
     },
     Group {
         kinds: &gridpoints::KINDS,
@@ -81,6 +82,12 @@ static GROUPS: [Group; 8] = [
         cases: sheets::cases,
         rounds: 2000,
         share: 15,
+    },
+    Group {
+        kinds: &answers::KINDS,
+        cases: answers::cases,
+        rounds: 2000,
+        share: 5,
     },
     Group {
         kinds: &nan::KINDS,
@@ -141,6 +148,7 @@ fn main() {
     let seed = number(0);
     // one thread, and the Rust's parallel loops in it
     let pool = rayon::ThreadPoolBuilder::new()
+        .stack_size(1 << 24)
         .num_threads(1)
         .build()
         .expect("a thread");

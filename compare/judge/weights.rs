@@ -1,4 +1,4 @@
-//! One weight I or J, by the entry and by two kernels; sorted rows.
+//! One weight I or J, by the entry and by the kernel on rows in order; sorted rows.
 use crate::lent::{same, Word};
 use crate::report::{Kind, Seen};
 use crate::rng::Rng;
@@ -8,10 +8,9 @@ use crate::{asks, calls, kernels};
 use phonors::probe::probe_sort_omegas;
 use phonors::tetrahedron_method::{integration_weight, WeightFunction};
 
-pub const KINDS: [Kind; 5] = [
+pub const KINDS: [Kind; 4] = [
     Kind::telling("weight I", &[7, 11], "are other than 0"),
     Kind::telling("weight J", &[7, 11], "are other than 0"),
-    Kind::new("kernel: rows as given", &[]),
     Kind::new("kernel: rows in order", &[]),
     Kind::new("rows sorted", &[]),
 ];
@@ -104,16 +103,14 @@ pub fn cases(r: &mut Rng, seen: &mut [Seen]) {
     let a = area(r, count);
     let (mut ordered, mut places) = (a.flat, [0; 96]);
     kernels::sort(&mut ordered, &mut places, count);
-    sorts(&a, &ordered, &places, &mut seen[4]);
+    sorts(&a, &ordered, &places, &mut seen[3]);
     for _ in 0..4 {
         let at = omega(r, &a);
         for i in [true, false] {
             let want = rust(&a.rows, at, i);
             entry(r, &a, at, i, want, &mut seen[1 - i as usize]);
-            let given = kernels::area(i, at, &a.flat, count);
-            kernel(&a, at, given, want, &mut seen[2]);
             let sorted = kernels::sorted(i, at, &ordered, &places, count);
-            kernel(&a, at, sorted, want, &mut seen[3]);
+            kernel(&a, at, sorted, want, &mut seen[2]);
         }
     }
     if r.one_in(4) {

@@ -1,7 +1,7 @@
 // What one row of four vertex values adds to a weight.
 ghost use mathlib.Core.Path.{_≡_};
 ghost use Rattle.tetrahedron_formulas.specs.Choice.{values};
-ghost use Rattle.tetrahedron_method.specs.Weight.{orZero, shareOf, sortedRowWeight, rowWeight};
+ghost use Rattle.tetrahedron_method.specs.Weight.{orZero, shareOf, sortedRowWeight};
 use crate::WeightFunction;
 
 // A product that is a NaN adds 0 instead.
@@ -39,13 +39,4 @@ pub fn sorted_row_weight(
     ensures { λ r. ⌜ r ≡ sortedRowWeight function omega (values a b c d) place ⌝ }
 {
     or_zero(share(function, place, omega, a, b, c, d))
-}
-
-// What a row adds.
-pub fn row_weight(function: WeightFunction, omega: f64, row: [f64; 4]) -> f64
-    ensures { λ r. ⌜ r ≡ rowWeight function omega row ⌝ }
-{
-    let sorted = tetrahedron_sort::kernel::sort_omegas(row);
-    let v = sorted.omegas;
-    sorted_row_weight(function, sorted.place, omega, v[0], v[1], v[2], v[3])
 }

@@ -1,18 +1,23 @@
-// The weight over rows as they are given: each row is sorted on the way.
+// The weight over rows as they are given: a copy of them is put in order first, so that all weights take one way.
 ghost use mathlib.Core.Path.{_≡_};
-ghost use Prim.Native.Nat.{_*_, _+_, _<_, _≤_};
-ghost use lib.ListN.{length};
-ghost use Rattle.tetrahedron_method.specs.Weight.{rowOf, weightOf};
+ghost use Prim.Native.Nat.{_*_, _≤_};
+ghost use lib.Ieee.{nan, binary64, ofBits};
+ghost use lib.ListN.{getD, length};
+ghost use Rattle.list_laws.specs.Lists.{area};
+ghost use Rattle.tetrahedron_method.specs.Weight.{weightOf};
 use crate::WeightFunction;
-use crate::kernel::row::row_weight;
+use crate::kernel::sorted::{sort_rows, sorted_weight};
 
-// Row k of a flat list.
-fn row_of(omegas: &[f64], k: usize) -> [f64; 4]
-    requires { ⌜ k * 4 + 3 < length (now omegas) ⌝ }
-    ensures { λ r. ⌜ r ≡ rowOf (now (omegas .entry)) k ⌝ }
+// The first n values of a flat list, at the start of a work area.
+fn copied(omegas: &[f64], n: usize) -> [f64; 384]
+    requires { ⌜ (n ≤ 384) × (n ≤ length (now omegas)) ⌝ }
+    ensures { λ r. ⌜ r ≡ area 384 n (λ i. getD (now (omegas .entry)) i nan) (ofBits binary64 0) ⌝ }
 {
-    let at = k * 4;
-    [omegas[at], omegas[at + 1], omegas[at + 2], omegas[at + 3]]
+    let mut vertices = [0.0; 384];
+    for j in 0..n {
+        vertices[j] = omegas[j];
+    }
+    vertices
 }
 
 // The weight at omega over the first rows of a flat list, each four values.
@@ -25,17 +30,8 @@ pub fn get_integration_weight(
     requires { ⌜ (rows ≤ 96) × (rows * 4 ≤ length (now omegas)) ⌝ }
     ensures { λ r. ⌜ r ≡ weightOf function omega (now (omegas .entry)) rows ⌝ }
 {
-    let mut sum = 0.0;
-    for k in 0..rows {
-        sum = sum + row_weight(function, omega, row_of(omegas, k));
-    }
-    sum / (rows as f64 / 4.0)
-}
-
-// The same over a work area.
-pub fn area_weight(function: WeightFunction, omega: f64, area: &[f64; 384], rows: usize) -> f64
-    requires { ⌜ rows ≤ 96 ⌝ }
-    ensures { λ r. ⌜ r ≡ weightOf function omega (now (area .entry)) rows ⌝ }
-{
-    get_integration_weight(function, omega, area, rows)
+    let mut vertices = copied(omegas, rows * 4);
+    let mut places = [0usize; 96];
+    sort_rows(&mut vertices, &mut places, rows);
+    sorted_weight(function, omega, &vertices, &places, rows)
 }

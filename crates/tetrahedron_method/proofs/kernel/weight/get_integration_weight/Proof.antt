@@ -1,66 +1,40 @@
 -- `tetrahedron_method::kernel::weight::get_integration_weight` meets its contract. Assumes nothing.
-use Rattle.tetrahedron_method.specs.Weight.{sumOf, weightOf}
-use lib.Dec.{le→leb}
-use lib.Ieee.{inFloat}
-use native.Mathlib.Numerals.{add-one}
-use Prim.Native.Nat.{_-_, _^_, _≤_, zero-le}
-use mathlib.Core.Path.{_≡_, refl}
+use Prim.Native.Nat.{ℕ, _*_}
+use lib.Ieee.{Float, nan, binary64, ofBits}
+use lib.ListN.{getD}
+use mathlib.Core.List.{List}
+use mathlib.Core.Path.{_∙_, _≡_, ap}
 use borrow.Author.Needs.{needs}
-use native.Mathlib.Omega.{arith}
+use Rattle.list_laws.proofs.FillLaws.{area-at}
+use Rattle.tetrahedron_method.specs.Weight.{weightOf}
+use Rattle.tetrahedron_method.proofs.SortedLaws.{weight-is, weight-same}
 use Rattle.tetrahedron_method.proofs.kernel.weight.get_integration_weight.Statement.{
   statement,
 }
 use Rattle.tetrahedron_method.proofs.kernel.weight.get_integration_weight.Tie as tie
 
-abbrev Inv-loop : tie.InvT-loop
-Inv-loop function omega omegas rows sum₀ k₀ sum k = (k ≤ rows) × (sum ≡ sumOf function omega omegas k)
+mul-copied : tie.Need-mul-copied
+mul-copied c = search needs
 
-abbrev μ-loop : tie.MeasureT-loop
-μ-loop function omega omegas rows sum₀ k₀ sum k = rows - k
+copied-requires : tie.Need-copied-requires
+copied-requires c κs = search needs
 
-loop-holds : tie.Need-loop-holds Inv-loop μ-loop
-unfolding sumOf
-loop-holds c =
-    (zero-le, refl)
+sort-rows-requires : tie.Need-sort-rows-requires
+sort-rows-requires c κs = search needs
 
-row-of-requires : tie.Need-row-of-requires Inv-loop μ-loop
-row-of-requires c κs = search needs
+sorted-weight-requires : tie.Need-sorted-weight-requires
+sorted-weight-requires c κs = search needs
 
-row-weight-requires : tie.Need-row-weight-requires Inv-loop μ-loop
-row-weight-requires c κs = search needs
-
-add-k : tie.Need-add-k Inv-loop μ-loop
-add-k c = search needs
-
-loop-less : tie.Need-loop-less Inv-loop μ-loop
-loop-less c = search needs
-
-loop-again : tie.Need-loop-again Inv-loop μ-loop
-unfolding sumOf
-loop-again c =
-    (search needs, simp (add-one, c .before .before .before .loop .inv .1, c .row-weight .ensures, c .before .row-of .ensures))
-
-int-to-float-result : tie.Need-int-to-float-result Inv-loop μ-loop
-unfolding inFloat
-int-to-float-result c =
-    le→leb (c .before .before .before .before .args .rows) (2 ^ 53) (omega arith)
-
-returns : tie.Need-returns Inv-loop μ-loop
-unfolding weightOf
+returns : tie.Need-returns
 returns c =
-    let end : c .before .before .loop .k ≡ c .before .before .before .before .args .rows = omega arith in simp (c .before .before .loop .inv .1, end)
+    let s : _ = c .before .before .before .before .before .before .before .before in
+    let f : ℕ → Float = λ (i : ℕ). getD (s .args .omegas .now) i nan in
+    c .sorted-weight .ensures
+    ∙ weight-is _ _ _ _ _ _ (c .before .before .before .sort-rows .ensures .sorted)
+    ∙ ap (λ (a : List Float). weightOf (s .args .function) (s .args .omega) a (s .args .rows)) (c .before .before .before .before .before .before .copied .ensures)
+    ∙ weight-same _ _ _ _ (s .args .rows) (λ i h. area-at 384 f (ofBits binary64 0) (s .args .rows * 4) nan i h)
 
 pub get-integration-weight-spec : {M : Type 1} → statement M
 get-integration-weight-spec =
     tie.close
-    (tie.spec
-    Inv-loop
-    μ-loop
-    loop-holds
-    row-of-requires
-    row-weight-requires
-    add-k
-    loop-less
-    loop-again
-    int-to-float-result
-    returns)
+    (tie.spec mul-copied copied-requires sort-rows-requires sorted-weight-requires returns)
