@@ -210,7 +210,9 @@ fn table_agrees(answer: TableAnswer, refusal: u64, number: u64) -> bool {
 
 // A lattice of a record.
 struct Lattice {
-    rows: [[f64; 3]; 3],
+    first: [f64; 3],
+    second: [f64; 3],
+    third: [f64; 3],
     next: Cursor,
 }
 
@@ -222,11 +224,9 @@ fn next_lattice(text: &[u8], c: Cursor) -> Lattice {
     let u = a.values;
     let v = b.values;
     Lattice {
-        rows: [
-            [u[0], u[1], u[2]],
-            [u[3], v[0], v[1]],
-            [v[2], v[3], last.value],
-        ],
+        first: [u[0], u[1], u[2]],
+        second: [u[3], v[0], v[1]],
+        third: [v[2], v[3], last.value],
         next,
     }
 }
@@ -236,8 +236,14 @@ fn lattice_case(text: &[u8], c: Cursor) -> Judged {
     let refusal = input::next_count(text, lattice.next);
     let number = input::next_count(text, refusal.next);
     let next = number.next;
-    let rows = lattice.rows;
-    let answer = relative_grid_address::relative_grid_address(rows);
+    let a = lattice.first;
+    let b = lattice.second;
+    let d = lattice.third;
+    let answer = relative_grid_address::relative_grid_address([
+        [a[0], a[1], a[2]],
+        [b[0], b[1], b[2]],
+        [d[0], d[1], d[2]],
+    ]);
     Judged {
         refusal: refusal.value,
         agrees: table_agrees(answer, refusal.value, number.value),
@@ -274,9 +280,14 @@ fn product_case(text: &[u8], c: Cursor) -> Judged {
     let y = input::next_real(text, x.next);
     let z = input::next_real(text, y.next);
     let next = z.next;
-    let rows = lattice.rows;
-    let b = vector.value;
-    let answer = common::matvec_di(rows, b);
+    let a = lattice.first;
+    let b = lattice.second;
+    let d = lattice.third;
+    let v = vector.value;
+    let answer = common::matvec_di(
+        [[a[0], a[1], a[2]], [b[0], b[1], b[2]], [d[0], d[1], d[2]]],
+        v,
+    );
     Judged {
         refusal: refusal.value,
         agrees: product_agrees(answer, refusal.value, x.value, y.value, z.value),
