@@ -4,8 +4,9 @@
     mutants.py SOURCES OUT [SEED]
 
 SOURCES is the folder of the original's Rust sources, OUT a folder as build.sh leaves it (its proved side is used as it is; its judge is
-replaced). For each change a judge is built and run (`times 1`); its status must be 1. The kinds that saw the change are printed. The
-status is 1 where a change was not seen.
+replaced). For each change a judge is built and run (`times 1`); it must tell differences, and its status must not be 0 (where the
+questions take too much, the Rust may panic on it afterwards). The kinds that saw the change are printed. The status is 1 where a change
+was not seen.
 """
 import pathlib
 import shutil
@@ -56,8 +57,7 @@ CHANGES = [
     ("asks", "(0..n).all(|i| g.map[i] < g.map[i + 1])", "(0..n).all(|i| g.map[i] <= g.map[i + 1])"),
     ("asks", "(averaged == 0 || averaged == m.len())", "(averaged == 0 || averaged > 0)"),
     ("asks", "(before as u128 + runs as u128) < 1 << 63", "(before as u128 + runs as u128) <= 1 << 63"),
-    ("asks", "(10, &|| s.triplets.len() % 3 == 0 && on_grid(&s.grid, &s.triplets)),\n            (11, &|| study_frequencies(s)),",
-     "(11, &|| study_frequencies(s)),\n            (10, &|| s.triplets.len() % 3 == 0 && on_grid(&s.grid, &s.triplets)),"),
+    ("asks", "(7, &|| table(t)),\n        (8, &|| known_type(tp)),", "(8, &|| known_type(tp)),\n        (7, &|| table(t)),"),
 ]
 
 
@@ -88,9 +88,9 @@ def tried(sources, out, seed, change):
         module = change[0]
         changed(room / "compare/judge/asks.rs" if module == "asks" else source_file(room / "sources", module), *change[1:])
         subprocess.run([room / "compare/build.sh", room / "sources", out, "judge"], check=True, stdout=subprocess.DEVNULL)
-        end = subprocess.run([out / "judge", str(seed), "times", "1"], stdout=subprocess.PIPE, text=True)
+        end = subprocess.run([out / "judge", str(seed), "times", "1"], stdout=subprocess.PIPE, stderr=subprocess.DEVNULL, text=True)
         kinds = seen_by(end.stdout)
-        seen = end.returncode == 1 and kinds != []
+        seen = end.returncode != 0 and kinds != []
         print("%s\t%s: %s\t%s" % ("seen" if seen else "NOT SEEN", module, " ".join(change[1].split()), "; ".join(kinds)), flush=True)
         return seen
 
