@@ -1,7 +1,7 @@
 -- The answer by its number. Assumes nothing.
-use mathlib.Core.Path.{_≡_, refl, sym, ap, _∙_}
-use mathlib.Core.Bool.{Bool, true, false, cond}
-use mathlib.Core.List.{List, [], _∷_, _++_}
+use mathlib.Core.Path.{_≡_, refl}
+use mathlib.Core.Bool.{true, false}
+use mathlib.Core.List.{List}
 use Prim.Native.Nat.{ℕ, zero, suc, _+_, _≤_, _<_}
 use native.Mathlib.Omega.{arith}
 use lib.Ieee.{Float}
@@ -18,7 +18,7 @@ use Rattle.listing_length.proofs.ListingLengthLaws.{refusal-short}
 use Rattle.triplet_study.specs.declared.Shape.{Shape}
 use Rattle.triplet_study.specs.Given.{Given, given, givenQuestions, studyOf}
 use Rattle.answer_weights.specs.Asked.{questionsOf}
-use Rattle.answer_weights.specs.Answers.{listingFor, answerBy, answerTo}
+use Rattle.answer_weights.specs.Answers.{listingFor, answerTo}
 
 pub diagonal-lt : (z : ℤ) → isBetween 0 3 z ≡ true → mag z < 4
 diagonal-lt z e = omega (arith, between-high 0 3 z e)

@@ -1,16 +1,14 @@
 -- A study that a text holds: its numbers lie within the buffers, and its answer is the text's. Assumes nothing.
-use mathlib.Core.Path.{_≡_, refl, sym, ap, _∙_}
-use mathlib.Core.Bool.{Bool, true}
-use mathlib.Core.List.{List, [], _∷_, _++_}
+use mathlib.Core.Path.{_≡_, refl, ap, _∙_}
+use mathlib.Core.Bool.{true}
+use mathlib.Core.List.{List}
 use mathlib.Core.Logic.{_⊎_, inl, inr}
 use Prim.Native.Nat.{ℕ, zero, suc, _+_, _/_, _≤_, _<_}
 use native.Mathlib.Nat.{zero-add}
 use native.Mathlib.Omega.{arith}
 use lib.IntN.{ℤ}
-use lib.Ieee.{Float}
 use lib.ListN.{length, take, drop, length-append}
-use lib.Seq.{take-all, length-take-le}
-use Rattle.list_laws.specs.Lists.{tabulate}
+use lib.Seq.{take-all}
 use Rattle.list_laws.specs.Signed.{isBetween}
 use Rattle.list_laws.proofs.BoolLaws.{lt-or-le}
 use Rattle.list_laws.proofs.FillLaws.{length-tabulate}

@@ -6,7 +6,7 @@ use Prim.Native.Nat.{ℕ, _%_, _<_}
 use native.Mathlib.Omega.{arith}
 use lib.Ieee.{Float, nan, binary64, ofBits, eq, le, lt}
 use lib.ListN.{length, getD}
-use Rattle.list_laws.specs.Lists.{allBelow, tabulate}
+use Rattle.list_laws.specs.Lists.{allBelow}
 use Rattle.list_laws.proofs.BelowLaws.{below-at}
 use Rattle.list_laws.proofs.FillLaws.{tabulate-at}
 use Rattle.ieee_laws.specs.Magnitude.{absolute}

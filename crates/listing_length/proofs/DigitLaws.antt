@@ -1,7 +1,7 @@
 -- How many digits numbers below 10,000 have, by themselves, together and in pairs. Assumes nothing.
 use Prim.Native.Nat.{ℕ, zero, suc, _+_, _-_, _*_, _/_, _%_, _≤_, _<_}
 use mathlib.Core.Path.{_≡_, refl, sym, ap, _∙_}
-use mathlib.Core.Bool.{Bool, true, false, cond}
+use mathlib.Core.Bool.{Bool, true, false}
 use native.Mathlib.Nat.{mul-le-mul-left, mul-le-mul-right, div-add-mod', mod-lt}
 use native.Mathlib.Omega.{arith}
 use lib.Dec.{ltb}

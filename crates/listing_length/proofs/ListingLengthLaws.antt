@@ -1,8 +1,8 @@
 -- How long a listing is, and how long it can be: at most 118,617 bytes where it has at most 4,096 weights, 1,170 triplets and 712 points. Assumes nothing.
-use Prim.Native.Nat.{ℕ, _+_, _-_, _*_, _/_, _%_, _≤_, _<_}
-use mathlib.Core.Path.{_≡_, refl, sym, ap, _∙_}
+use Prim.Native.Nat.{ℕ, _+_, _*_, _/_, _%_, _≤_, _<_}
+use mathlib.Core.Path.{_≡_, refl, ap, _∙_}
 use mathlib.Core.Bool.{Bool, true, false, cond}
-use mathlib.Core.List.{List, [], _∷_, _++_}
+use mathlib.Core.List.{List, [], _∷_}
 use mathlib.Core.Logic.{_⊎_, inl, inr}
 use native.Mathlib.Nat.{mul-le-mul-right}
 use native.Mathlib.Omega.{arith}
@@ -14,7 +14,7 @@ use Rattle.list_laws.specs.Signed.{eqZ}
 use Rattle.list_laws.proofs.BoolLaws.{lt-or-le}
 use Rattle.text.specs.Spelled.{places, decimal, hexadecimal}
 use Rattle.text.proofs.SpelledLaws.{length-decimal, length-hexadecimal, places-le}
-use Rattle.listing.specs.Listings.{number, frontOf, weightEnd, weightOf, weightsOf, flagAt, lineOf, linesOf, listingOf, refusalOf}
+use Rattle.listing.specs.Listings.{number, weightEnd, weightOf, weightsOf, flagAt, lineOf, linesOf, listingOf, refusalOf}
 use Rattle.listing.proofs.ListingLaws.{front-lengths, line-length, listing-length, refusal-length}
 use Rattle.listing_length.specs.Totals.{total, digitsOf, digitsBelow}
 use Rattle.listing_length.proofs.TotalLaws.{rows-length, total-is, total-add, total-same, total-grid}

@@ -1,6 +1,6 @@
 -- What the answer yes to question 11 says of the frequencies of irreducible points and of the map to them. Assumes nothing.
 use mathlib.Core.Path.{_≡_}
-use mathlib.Core.Bool.{Bool, true, _&&_}
+use mathlib.Core.Bool.{true, _&&_}
 use mathlib.Core.List.{List}
 use Prim.Native.Nat.{ℕ, _*_, _<_}
 use borrow.Author.Tests.{eqb-true}

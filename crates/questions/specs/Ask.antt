@@ -13,7 +13,7 @@ unfoldable pub firstNo : List Question → ℕ
 firstNo [] = 0
 firstNo (asks n b ∷ qs) = cond b (firstNo qs) n
 
--- "A refused call changes no lent buffer": what a buffer holds after a call, by the number of its first no
+-- Demand 1, a refused call changes no lent buffer: what a buffer holds after a call, by the number of its first no
 abbrev pub afterCall : {A : Type 0} → ℕ → A → A → A
 afterCall zero new old = new
 afterCall (suc n) new old = old

@@ -15,7 +15,7 @@ use Rattle.questions.specs.Ask.{Question, asks}
 unfoldable pub isGridKind : ℤ → Bool
 isGridKind kind = isNat kind 1 || isNat kind 2
 
--- Question 4: "Is each mesh number 1 to 128 (the grid index alone: 1 to 256)?" The number is top.
+-- Question 4: "Is each mesh number 1 to 128 (the grid index alone: 1 to 256, ..)?" The number is top.
 unfoldable pub isMesh : ℕ → List ℤ → Bool
 isMesh top diag = (isBetween 1 top (at diag 0) && isBetween 1 top (at diag 1)) && isBetween 1 top (at diag 2)
 

@@ -9,7 +9,7 @@ use Rattle.list_laws.specs.Lists.{allBelow, at}
 use Rattle.list_laws.specs.Signed.{isBelow}
 use Rattle.questions.specs.Grids.{areTriples}
 
--- Question 7, of a neighbour call: "one triple or more, components within ±4,096".
+-- Question 7, of a neighbour call: "one triple or more), components within ±4,096".
 unfoldable pub areSteps : List ℤ → Bool
 areSteps steps = areTriples steps && leb 3 (length steps)
 

@@ -10,7 +10,7 @@ use lib.Signed.{mag}
 use Rattle.questions.specs.Ask.{Question, asks}
 use Rattle.questions.specs.Counts.{isBandCount, isPointCount, isTripletCount, isProduct}
 use Rattle.questions.specs.Frequencies.{areFrequencies, arePoints}
-use Rattle.questions.specs.Grids.{areTriples, triplesIn, gridQuestions}
+use Rattle.questions.specs.Grids.{triplesIn, gridQuestions}
 use Rattle.questions.specs.Tables.{isTable}
 use Rattle.questions.specs.Steps.{areGridPoints}
 use Rattle.questions.specs.TpTypes.{isTpType}
@@ -28,7 +28,7 @@ areStudyCounts bands1 bands2 points triplets =
 unfoldable pub areTriplets : ℕ → List ℤ → Bool
 areTriplets p triplets = eqb (length triplets % 3) 0 && areGridPoints p triplets
 
--- Question 11: "Do frequencies hold P times bands values, each zero or of magnitude 2^-600 to 2^30?"
+-- Question 11: "Do frequencies hold P times bands values .., each zero or of magnitude 2^-600 to 2^30?"
 unfoldable pub holdFrequencies : ℕ → ℕ → List Float → Bool
 holdFrequencies p bands frequencies = isProduct p bands (length frequencies) && areFrequencies frequencies
 

@@ -1,22 +1,22 @@
 -- The parts of a study, by what each section is. Assumes nothing.
-use mathlib.Core.Path.{_≡_, refl, sym, ap, _∙_}
-use mathlib.Core.Bool.{Bool, true, false, cond, _&&_}
+use mathlib.Core.Path.{_≡_, refl, ap, _∙_}
+use mathlib.Core.Bool.{true, false}
 use mathlib.Core.List.{List, [], _∷_}
 use Prim.Native.Nat.{ℕ, suc, _+_, _-_, _≤_, _<_}
 use native.Mathlib.Omega.{arith}
-use lib.Dec.{leb, eqb}
+use lib.Dec.{eqb}
 use lib.IntN.{ℤ}
 use lib.ListN.{length, getD, take, drop}
 use lib.Seq.{take-all}
-use borrow.Author.Tests.{le-leb, lt-leb, eq-eqb, ne-eqb}
+use borrow.Author.Tests.{le-leb, lt-leb, ne-eqb}
 use Rattle.list_laws.specs.Lists.{at}
 use Rattle.list_laws.specs.Signed.{isBetween}
 use Rattle.text.specs.Pieces.{index, ended}
 use Rattle.text.proofs.FieldLaws.{drop-past}
 use Rattle.text.proofs.PieceLaws.{ended-step}
-use Rattle.sections.specs.Lines.{Part, read, wrong, andThen, once, rows, wholeField, patternField}
+use Rattle.sections.specs.Lines.{read, wrong, once, rows, wholeField, patternField}
 use Rattle.study.specs.declared.Head.{Head}
-use Rattle.study.specs.Studies.{gridTag, diagTag, typeTag, bandsTag, addrTag, mapTag, f1Tag, f2Tag, pointTag, tripletTag, headFrom, headPart, gridPart, floatsPart, Study, Holds, holds, holdsNone, whole, studyOfLines, endsLine, studyIn}
+use Rattle.study.specs.Studies.{gridTag, diagTag, typeTag, bandsTag, addrTag, mapTag, f1Tag, f2Tag, pointTag, tripletTag, headFrom, headPart, gridPart, floatsPart, holds, holdsNone, whole, studyOfLines, endsLine, studyIn}
 
 -- ---- the head
 

@@ -14,7 +14,7 @@ use Rattle.study.specs.declared.FloatsRead.{FloatsRead}
 use Rattle.study.specs.declared.FloatsRead.the-variants as F
 use Rattle.study.specs.declared.StudyRead.{StudyRead}
 use Rattle.study.specs.declared.StudyRead.the-variants as S
-use Rattle.study.specs.Studies.{Study, Holds, holds, holdsNone}
+use Rattle.study.specs.Studies.{Holds, holds, holdsNone}
 
 -- of `parse_head`
 abbrev pub toldHead : HeadRead → List ℕ → Part Head

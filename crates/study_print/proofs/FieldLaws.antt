@@ -2,15 +2,15 @@
 use Prim.Native.Nat.{ℕ, zero, suc, _+_, _/_, _%_, _^_, _≤_, _<_}
 use mathlib.Core.Path.{_≡_, refl, ap}
 use mathlib.Core.Bool.{Bool, true, false, cond}
-use mathlib.Core.List.{List, [], _∷_, _++_}
+use mathlib.Core.List.{[], _∷_}
 use native.Mathlib.Omega.{arith}
 use lib.Dec.{ltb, eqb}
 use lib.IntN.{ℤ, pos, negsuc}
 use lib.Signed.{mag}
 use borrow.Author.Tests.{ne-eqb}
-use Rattle.io.specs.Digits.{glyph, digits, Fewest}
+use Rattle.io.specs.Digits.{glyph, digits}
 use Rattle.text.specs.Spelled.{places, decimal, signed, hexadecimal}
-use Rattle.text.proofs.RoundTrip.{Text, plain, minus, whole-read, bits-read}
+use Rattle.text.proofs.RoundTrip.{plain, minus, whole-read, bits-read}
 use Rattle.text.proofs.SpelledLaws.{places-fewest}
 use Rattle.sections.specs.Lines.{wholeGot, wholeField, patternGot, patternField}
 use Rattle.study_print.proofs.LineLaws.{absent, absent-append, Spells}

@@ -1,6 +1,6 @@
 -- How many bytes the sections of a study take at least, and so how many numbers a text can hold. Assumes nothing.
-use Prim.Native.Nat.{ℕ, zero, suc, _+_, _*_, _/_, _≤_, _<_}
-use mathlib.Core.Path.{_≡_, refl, sym, ap, _∙_}
+use Prim.Native.Nat.{ℕ, zero, suc, _+_, _*_, _/_, _≤_}
+use mathlib.Core.Path.{_≡_, sym, ap}
 use mathlib.Core.Bool.{Bool, true, false, cond}
 use mathlib.Core.List.{List, [], _∷_, _++_}
 use native.Mathlib.Nat.{zero-mul, suc-mul, mul-one}
@@ -9,7 +9,7 @@ use lib.Dec.{ltb}
 use lib.IntN.{ℤ, pos, negsuc}
 use lib.ListN.{length, take, drop, length-append, length-drop}
 use lib.Seq.{length-take-le}
-use Rattle.text.specs.Spelled.{places, decimal, signed, hexadecimal}
+use Rattle.text.specs.Spelled.{places, signed, hexadecimal}
 use Rattle.text.proofs.SpelledLaws.{length-decimal, length-hexadecimal}
 use Rattle.study.specs.Studies.{Study, addrTag, mapTag, f1Tag, f2Tag, pointTag, tripletTag}
 use Rattle.study_print.specs.Printed.{fields, line, section, textOf, headLines, studyLines, printed, Printable}

@@ -1,16 +1,16 @@
 -- What is printed is read back: fields, lines, sections, and the lines of a text. Assumes nothing.
-use Prim.Native.Nat.{ℕ, zero, suc, _+_, _-_, _*_, _≤_, _<_}
-use mathlib.Core.Path.{_≡_, refl, sym, ap, subst, _∙_}
-use mathlib.Core.Bool.{Bool, true, false, cond, _&&_}
-use mathlib.Core.List.{List, [], _∷_, _++_, append-assoc, append-nil}
+use Prim.Native.Nat.{ℕ, zero, suc, _+_, _-_, _*_}
+use mathlib.Core.Path.{_≡_, refl, ap, subst, _∙_}
+use mathlib.Core.Bool.{Bool, true, false, cond}
+use mathlib.Core.List.{List, [], _∷_, _++_, append-nil}
 use native.Mathlib.Nat.{zero-mul, suc-mul}
 use native.Mathlib.Omega.{arith}
-use lib.Dec.{eqb, leb}
+use lib.Dec.{eqb}
 use lib.ListN.{length, getD, take, drop, length-append, length-drop, take-append-drop}
 use lib.Seq.{take-append-seam, drop-append-add, length-take-le, getD-append-seam, getD-append-add}
-use borrow.Author.Tests.{eq-eqb, ne-eqb, le-leb}
+use borrow.Author.Tests.{eq-eqb, le-leb}
 use Rattle.text.specs.Pieces.{after, index, onto, cutOr, split, ended, splitFrom, same}
-use Rattle.sections.specs.Lines.{Got, got, none, Row, is, bad, front, next, values, tagOf, afterTag, Part, read, wrong, joined, rows, once}
+use Rattle.sections.specs.Lines.{Got, got, is, front, next, values, tagOf, afterTag, read, joined, rows, once}
 use Rattle.sections.proofs.LineLaws.{same-yes}
 use Rattle.study_print.specs.Printed.{fields, line, section, textOf}
 

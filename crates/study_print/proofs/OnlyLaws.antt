@@ -2,24 +2,22 @@
 use Prim.Native.Nat.{ℕ, zero, suc, _+_, _-_, _*_, _^_, _≤_, _<_}
 use mathlib.Core.Path.{_≡_, refl, sym, ap, subst, _∙_}
 use mathlib.Core.Bool.{Bool, true, false, cond}
-use mathlib.Core.List.{List, [], _∷_, _++_, append-assoc, append-nil}
+use mathlib.Core.List.{List, [], _∷_, _++_, append-nil}
 use native.Mathlib.Nat.{zero-mul, suc-mul}
 use native.Mathlib.Numerals.{add-one}
 use native.Mathlib.Omega.{arith}
 use lib.Dec.{eqb, leb, ltb}
-use lib.IntN.{ℤ, pos, negsuc}
+use lib.IntN.{ℤ}
 use lib.ListN.{length, getD, take, drop, length-append}
 use lib.Seq.{take-at, drop-at}
-use lib.Signed.{mag}
 use borrow.Author.Tests.{eqb-true, eqb-false, leb-true}
-use Rattle.io.specs.Digits.{digits}
 use Rattle.text.specs.declared.Magnitude.{Magnitude}
 use Rattle.text.specs.declared.Magnitude.the-variants as M
 use Rattle.text.specs.declared.Whole.{Whole}
 use Rattle.text.specs.declared.Whole.the-variants as W
 use Rattle.text.specs.Fields.{digitOf, value, whole, bits}
 use Rattle.text.specs.Pieces.{after, index, onto, cutOr, split, ended, splitFrom, same}
-use Rattle.text.specs.Spelled.{decimal, signed, hexadecimal}
+use Rattle.text.specs.Spelled.{signed, hexadecimal}
 use Rattle.text.proofs.RoundTrip.{Text, plain, minus, whole-only, bits-only}
 use Rattle.text.proofs.SpelledLaws.{decimal-is}
 use Rattle.sections.specs.Lines.{Got, got, none, Row, is, bad, front, next, values, tagOf, afterTag, Part, read, wrong, joined, rows, once, wholeGot, wholeField, patternGot, patternField}

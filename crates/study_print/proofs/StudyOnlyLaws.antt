@@ -1,6 +1,6 @@
 -- A text that holds a study is that study printed, and the study can be printed. With `read-printed`: a text is well formed exactly when it is the
 -- printing of a study. Assumes nothing.
-use Prim.Native.Nat.{ℕ, zero, suc, _+_, _-_, _*_, _/_, _≤_, _<_}
+use Prim.Native.Nat.{ℕ, suc, _-_, _*_, _/_, _≤_}
 use mathlib.Core.Path.{_≡_, refl, sym, ap, subst, _∙_}
 use mathlib.Core.Bool.{Bool, true, false, cond, _&&_}
 use mathlib.Core.List.{List, [], _∷_, _++_, append-nil}
@@ -16,10 +16,10 @@ use Rattle.text.specs.Pieces.{ended}
 use Rattle.text.specs.Spelled.{signed, hexadecimal}
 use Rattle.sections.specs.Lines.{Got, Part, read, wrong, andThen, rows, once, wholeField, patternField}
 use Rattle.study.specs.declared.Head.{Head}
-use Rattle.study.specs.Studies.{Study, Holds, holds, holdsNone, whole, studyIn, studyOfLines, endsLine, headPart, gridPart, floatsPart, headFrom, gridTag, diagTag, typeTag, bandsTag, addrTag, mapTag, f1Tag, f2Tag, pointTag, tripletTag}
+use Rattle.study.specs.Studies.{Study, holds, holdsNone, whole, studyIn, studyOfLines, endsLine, headPart, gridPart, floatsPart, headFrom, gridTag, diagTag, typeTag, bandsTag, addrTag, mapTag, f1Tag, f2Tag, pointTag, tripletTag}
 use Rattle.study_print.specs.Printed.{line, section, textOf, headLines, studyLines, printed, Each, Signed64, Pattern64, Printable}
 use Rattle.study_print.proofs.StudyTextLaws.{read-printed}
-use Rattle.study_print.proofs.OnlyLaws.{Only, only-signed, only-pattern, lines-only, Lined, once-only, Sectioned, rows-only}
+use Rattle.study_print.proofs.OnlyLaws.{Only, only-signed, only-pattern, lines-only, once-only, Sectioned, rows-only}
 
 -- ---- parts one after another
 

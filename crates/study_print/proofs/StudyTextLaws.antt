@@ -1,20 +1,20 @@
 -- Reading the text of a study gives the study back. Assumes nothing.
-use Prim.Native.Nat.{ℕ, zero, suc, _+_, _*_, _/_, _^_, _≤_, _<_}
+use Prim.Native.Nat.{ℕ, _*_, _/_}
 use mathlib.Core.Path.{_≡_, refl, sym, ap, subst, _∙_}
-use mathlib.Core.Bool.{Bool, true, false}
+use mathlib.Core.Bool.{true, false}
 use mathlib.Core.List.{List, [], _∷_, _++_, append-nil}
 use native.Mathlib.Nat.{mul-one}
 use native.Mathlib.Omega.{arith}
 use lib.IntN.{ℤ}
-use lib.ListN.{length, getD, drop}
+use lib.ListN.{length, drop}
 use lib.Seq.{drop-length}
 use borrow.Author.Tests.{eq-eqb}
 use Rattle.text.specs.Pieces.{ended, same}
 use Rattle.text.specs.Spelled.{signed, hexadecimal}
-use Rattle.sections.specs.Lines.{Got, Part, read, rows, once, wholeField, patternField}
+use Rattle.sections.specs.Lines.{Got, read, rows, wholeField, patternField}
 use Rattle.study.specs.Studies.{Study, holds, studyIn, endsLine, headPart, gridPart, floatsPart, headFrom, gridTag, diagTag, typeTag, bandsTag, addrTag, mapTag, f1Tag, f2Tag, pointTag, tripletTag}
 use Rattle.study.proofs.StudyLaws.{head-read, grid-read, floats-read, study-read}
-use Rattle.study_print.specs.Printed.{line, section, textOf, headLines, studyLines, printed, Each, Signed64, Pattern64, Printable}
+use Rattle.study_print.specs.Printed.{line, section, headLines, studyLines, printed, Each, Signed64, Pattern64, Printable}
 use Rattle.study_print.proofs.LineLaws.{absent, AllSpell, Stops, once-read, section-read, stops-through, Clean, clean-append, clean-line, clean-section, lines-read, last-byte}
 use Rattle.study_print.proofs.FieldLaws.{spells-signed, spells-pattern}
 

@@ -6,7 +6,7 @@ use lib.ListN.{length, take, length-set}
 use Rattle.list_laws.specs.Lists.{tabulate}
 use Rattle.list_laws.proofs.FillLaws.{fill-none, fill-next, fill-end}
 use Rattle.list_laws.proofs.SignedLaws.{back}
-use Rattle.tetrahedron_tables.specs.Tables.{tableOf, component, flat}
+use Rattle.tetrahedron_tables.specs.Tables.{tableOf, component}
 use Rattle.tetrahedron_tables.proofs.TableLaws.{flat-is}
 use Rattle.tetrahedron_tables.proofs.kernel.copy_table.Statement.{statement}
 use Rattle.tetrahedron_tables.proofs.kernel.copy_table.Tie as tie

@@ -1,11 +1,8 @@
 -- `text::kernel::parse_magnitude` meets its contract. Assumes nothing.
 use borrow.Author.Needs.{needs}
-use borrow.Author.Tests.{le-ltb, lt-ltb, eq-eqb, ne-eqb}
-use mathlib.Core.Path.{_∙_, sym}
+use mathlib.Core.Path.{_∙_}
 use mathlib.Core.Logic.{⊎-elim}
 use native.Mathlib.Omega.{arith}
-use lib.ListN.{length, getD}
-use Rattle.text.specs.Fields.{value}
 use Rattle.text.proofs.FieldLaws.{magnitude-none, magnitude-zero, magnitude-one, magnitude-more}
 use Rattle.text.proofs.kernel.parse_magnitude.Statement.{statement}
 use Rattle.text.proofs.kernel.parse_magnitude.Tie as tie

@@ -1,7 +1,5 @@
 -- `text::kernel::parse_whole` meets its contract. Assumes nothing.
-use Prim.Native.Nat.{_^_}
-use mathlib.Core.Path.{_∙_, sym, ap}
-use native.Mathlib.Omega.{arith}
+use mathlib.Core.Path.{_∙_, ap}
 use borrow.Author.Needs.{needs}
 use Rattle.text.specs.Fields.{magnitude, negative, positive}
 use Rattle.text.proofs.FieldLaws.{whole-none, whole-negative, whole-positive, part-from}

@@ -3,7 +3,7 @@ use Prim.Native.Nat.{ℕ, _*_}
 use lib.Ieee.{Float, nan, binary64, ofBits}
 use lib.ListN.{getD}
 use mathlib.Core.List.{List}
-use mathlib.Core.Path.{_∙_, _≡_, ap}
+use mathlib.Core.Path.{_∙_, ap}
 use borrow.Author.Needs.{needs}
 use Rattle.list_laws.proofs.FillLaws.{area-at}
 use Rattle.tetrahedron_method.specs.Weight.{weightOf}
