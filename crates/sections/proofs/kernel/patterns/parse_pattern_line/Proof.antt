@@ -8,6 +8,7 @@ use mathlib.Core.Path.{_∙_, ap, refl, sym}
 use native.Mathlib.Omega.{arith}
 use Rattle.sections.proofs.LineLaws.{kind-is, kind-other}
 use Rattle.sections.specs.Lines.{patternField, rowKind, told}
+use mathlib.Core.Path.{_≡_}
 use Rattle.sections.proofs.kernel.patterns.parse_pattern_line.Statement.{statement}
 use Rattle.sections.proofs.kernel.patterns.parse_pattern_line.Tie as tie
 
