@@ -56,7 +56,14 @@ folder_of() { case $1 in bench) echo "$repo/bench" ;; *) echo "$here/$1" ;; esac
   printf '[package]\nname = "phonors"\nversion = "0.0.0"\nedition = "2021"\npublish = false\n[dependencies]\nrayon = "1"\n'
   for p in $programs; do printf '[[bin]]\nname = "%s"\npath = "%s/main.rs"\n' "$p" "$(folder_of "$p")"; done
 } > "$rust/Cargo.toml"
-printf '[source.crates-io]\nreplace-with = "local"\n[source.local]\ndirectory = "%s"\n[net]\noffline = true\n' "$registry" > "$rust/.cargo/config.toml"
+cat > "$rust/.cargo/config.toml" <<EOF
+[source.crates-io]
+replace-with = "local"
+[source.local]
+directory = "$registry"
+[net]
+offline = true
+EOF
 (cd "$rust" && RUSTFLAGS="-L native=$out" cargo build --release --offline --quiet --bins)
 for p in $programs; do cp "$rust/target/release/$p" "$out/$p"; done
 rustc --version
