@@ -6,7 +6,8 @@ ghost use lib.ListN.{getD, length};
 ghost use Rattle.list_laws.specs.Lists.{area};
 ghost use Rattle.tetrahedron_method.specs.Weight.{weightOf};
 use crate::WeightFunction;
-use crate::kernel::sorted::{sort_rows, sorted_weight};
+use crate::kernel::sorted::sort_rows;
+use crate::kernel::sorted::sorted_weight;
 
 // The first n values of a flat list, at the start of a work area.
 fn copied(omegas: &[f64], n: usize) -> [f64; 384]
