@@ -1,7 +1,6 @@
 """The pieces of one sheet on worker processes, some of them killed: in every bit the sheet of one process that carries on."""
 import glob, multiprocessing, sys, tempfile, time
-import numpy as np
-import pelmetsavory as pm
+import numpy as np, pelmetsavory as pm
 
 # with phono3py: bz_grid.D_diag, bz_grid.addresses, bz_grid.gp_map; frequencies at those addresses; sampling points; triplets
 addresses = [(0, 0, 0), (1, 0, 0), (-1, 0, 0), (0, 1, 0), (0, -1, 0), (1, 1, 0), (0, 0, 1), (0, 0, -1), (1, 0, 1), (0, 1, 1), (1, 1, 1), (-1, -1, -1)]
