@@ -11,7 +11,7 @@ use Rattle.list_laws.proofs.BelowLaws.{below-at}
 use Rattle.list_laws.proofs.FillLaws.{tabulate-at}
 use Rattle.ieee_laws.specs.Magnitude.{absolute}
 use Rattle.ieee_laws.proofs.PatternLaws.{nan-of-pattern}
-use Rattle.questions.specs.Frequencies.{inRange, areInRange}
+use Rattle.question_values.specs.Frequencies.{inRange, areInRange}
 use Rattle.answer.specs.Texts.{floatsOf}
 use Rattle.answer.proofs.HeldLaws.{length-floats}
 

@@ -7,12 +7,12 @@ use lib.ListN.{length}
 use lib.Signed.{mag}
 use Rattle.list_laws.specs.Lists.{allBelow}
 use Rattle.list_laws.specs.Signed.{within, isBetween}
-use Rattle.questions.specs.Ask.{firstNo}
+use Rattle.question_grids.specs.Ask.{firstNo}
 use Rattle.common.specs.Mesh.{countOf, meshOf}
-use Rattle.questions.specs.Grids.{areTriples, triplesIn, isGridKind, isMesh, areAddresses, isMap}
+use Rattle.question_grids.specs.Grids.{areTriples, triplesIn, isGridKind, isMesh, areAddresses, isMap}
 use Rattle.questions.specs.Studies.{tripletsIn, areStudyCounts, areTriplets, areStudyFrequencies}
-use Rattle.questions.specs.TpTypes.{isTpType}
-use Rattle.questions.specs.Tables.{isTable}
+use Rattle.question_values.specs.TpTypes.{isTpType}
+use Rattle.question_grids.specs.Tables.{isTable}
 use Rattle.tetrahedron_tables.specs.Tables.{tableOf, flat, table0, table1, table2, table3}
 use Rattle.triplet_study.specs.declared.Shape.{Shape}
 use Rattle.triplet_study.specs.Given.{Given}

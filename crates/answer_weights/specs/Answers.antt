@@ -1,7 +1,7 @@
 -- The bytes that answer a study.
 use mathlib.Core.List.{List}
 use Prim.Native.Nat.{ℕ, zero, suc}
-use Rattle.questions.specs.Ask.{firstNo}
+use Rattle.question_grids.specs.Ask.{firstNo}
 use Rattle.triplet_piece.specs.Study.{Study, sizesOf}
 use Rattle.triplet_study.specs.Given.{Given, studyOf}
 use Rattle.triplet_iw.specs.Whole.{allWeights, allFlags}

@@ -2,7 +2,7 @@
 ghost use mathlib.Core.Path.{_≡_};
 ghost use Prim.Native.Nat.{_/_, _≤_};
 ghost use lib.ListN.{length};
-ghost use Rattle.questions.specs.Ask.{firstNo};
+ghost use Rattle.question_grids.specs.Ask.{firstNo};
 ghost use Rattle.triplet_piece.specs.Study.{Ready};
 ghost use Rattle.triplet_study.specs.Given.{given, givenQuestions, studyOf};
 ghost use Rattle.writing.specs.Written.{written};

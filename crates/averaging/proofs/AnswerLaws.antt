@@ -14,11 +14,11 @@ use borrow.Author.Tests.{eqb-true}
 use Rattle.list_laws.specs.Signed.{isBetween}
 use Rattle.list_laws.proofs.BoolLaws.{and-left, and-right}
 use Rattle.list_laws.proofs.SignedLaws.{between-high}
-use Rattle.questions.specs.Averages.{areDegenerateIds}
-use Rattle.questions.specs.Counts.{isBandCount}
-use Rattle.questions.specs.TpTypes.{channelsOf}
-use Rattle.questions.proofs.AskLaws.{all-yes}
-use Rattle.questions.proofs.AverageLaws.{ids-length}
+use Rattle.question_values.specs.Averages.{areDegenerateIds}
+use Rattle.question_values.specs.Counts.{isBandCount}
+use Rattle.question_values.specs.TpTypes.{channelsOf}
+use Rattle.question_grids.proofs.AskLaws.{all-yes}
+use Rattle.question_values.proofs.AverageLaws.{ids-length}
 use Rattle.questions.proofs.StudyLaws.{band-high}
 use Rattle.averaging.specs.Answers.{flagCount, averagingQuestions, averagingNo, answerOf}
 use Rattle.averaging.specs.declared.AveragingAnswer.the-variants.{Averaged, Refused}

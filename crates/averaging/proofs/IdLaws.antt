@@ -10,8 +10,8 @@ use Rattle.list_laws.specs.Lists.{at}
 use Rattle.list_laws.specs.Signed.{eqZ}
 use Rattle.list_laws.proofs.BoolLaws.{true-or-false}
 use Rattle.list_laws.proofs.EqualLaws.{nat-pos, equal-is}
-use Rattle.questions.specs.Averages.{isDegenerateId, areDegenerateIds}
-use Rattle.questions.proofs.AverageLaws.{ids-at}
+use Rattle.question_values.specs.Averages.{isDegenerateId, areDegenerateIds}
+use Rattle.question_values.proofs.AverageLaws.{ids-at}
 use Rattle.averaging.specs.Sets.{startsAt, startOf}
 
 or-second : (a b : Bool) → (a || b) ≡ true → a ≡ false → b ≡ true

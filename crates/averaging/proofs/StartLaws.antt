@@ -19,8 +19,8 @@ use Rattle.list_laws.proofs.FillLaws.{tabulate-ext}
 use Rattle.list_laws.proofs.MatrixLaws.{each-ext}
 use Rattle.ieee_laws.specs.Zeros.{plusZero, minusZero, isNegativeZero}
 use Rattle.ieee_laws.proofs.ZeroLaws.{minus-zero-add, plus-zero-add, add-not-minus}
-use Rattle.questions.specs.Averages.{areWeights}
-use Rattle.questions.proofs.AverageLaws.{weight-plain}
+use Rattle.question_values.specs.Averages.{areWeights}
+use Rattle.question_values.proofs.AverageLaws.{weight-plain}
 use Rattle.averaging.specs.Sets.{startsAt, blockOf}
 use Rattle.averaging.specs.Weights.{rowSum, blockSum, mean, averagedIn, averagedFrom, averaged, averagedPoints}
 use Rattle.averaging.proofs.WeightLaws.{averaged-many, averaged-one}

@@ -9,10 +9,10 @@ use lib.ListN.{length}
 use lib.Signed.{mag}
 use lib.Ieee.{Float}
 use Rattle.list_laws.specs.Signed.{isBetween}
-use Rattle.questions.specs.Ask.{Question, asks, firstNo, afterCall}
-use Rattle.questions.specs.Averages.{areDegenerateIds, areWeights}
-use Rattle.questions.specs.Counts.{isBandCount}
-use Rattle.questions.specs.TpTypes.{isTpType, channelsOf}
+use Rattle.question_grids.specs.Ask.{Question, asks, firstNo, afterCall}
+use Rattle.question_values.specs.Averages.{areDegenerateIds, areWeights}
+use Rattle.question_values.specs.Counts.{isBandCount}
+use Rattle.question_values.specs.TpTypes.{isTpType, channelsOf}
 use Rattle.averaging.specs.Weights.{averagedPoints}
 use Rattle.averaging.specs.Flags.{averagedFlagPoints}
 use Rattle.averaging.specs.declared.AveragingAnswer.{AveragingAnswer}

@@ -3,11 +3,11 @@ ghost use mathlib.Core.Path.{_≡_};
 ghost use Rattle.averaging.specs.Answers.{averagingNo, averagingAnswer, weightsAfter, flagsAfter};
 use common::kernel::is_between;
 use common::kernel::magnitude;
-use questions::kernel::averages::degenerate_ids_ok;
-use questions::kernel::averages::weights_ok;
-use questions::kernel::counts::band_count_ok;
-use questions::kernel::tp_type::channels_of;
-use questions::kernel::tp_type::tp_type_ok;
+use question_values::kernel::averages::degenerate_ids_ok;
+use question_values::kernel::averages::weights_ok;
+use question_values::kernel::counts::band_count_ok;
+use question_values::kernel::tp_type::channels_of;
+use question_values::kernel::tp_type::tp_type_ok;
 
 pub mod kernel;
 

@@ -10,7 +10,7 @@ use lib.IntN.{ℤ}
 use lib.ListN.{length, replicate}
 use Rattle.list_laws.specs.Lists.{tabulate, fronted}
 use Rattle.list_laws.proofs.FillLaws.{tabulate-ext, front-all}
-use Rattle.questions.specs.Ask.{afterCall}
+use Rattle.question_grids.specs.Ask.{afterCall}
 use Rattle.triplet_study.specs.Given.{Given}
 use Rattle.sheet_step.specs.declared.SheetAnswer.{SheetAnswer}
 use Rattle.sheet_step.specs.Steps.{Sheet, sheet, Call, verdict, effect, step, stepAnswer, sheetAnswer}

@@ -10,8 +10,8 @@ use lib.ListN.{length, getD, replicate, length-replicate, getD-replicate}
 use lib.Seq.{ext-getD}
 use Rattle.list_laws.proofs.BoolLaws.{and-left, and-right}
 use Rattle.list_laws.proofs.BelowLaws.{below-at}
-use Rattle.questions.specs.Ask.{AllYes}
-use Rattle.questions.proofs.AskLaws.{all-yes}
+use Rattle.question_grids.specs.Ask.{AllYes}
+use Rattle.question_grids.proofs.AskLaws.{all-yes}
 use Rattle.sheet_step.specs.Marks.{isOpenAt}
 use Rattle.book.specs.declared.ReplayAnswer.the-variants.{Done, Refused}
 use Rattle.book.specs.Replay.{areReplayLengths, areOpen, replayQuestions, replayNo, replayAnswer}

@@ -5,7 +5,7 @@ use Prim.Native.Nat.{ℕ, zero, suc, _*_}
 use lib.Dec.{eqb}
 use lib.ListN.{length}
 use Rattle.list_laws.specs.Lists.{allBelow}
-use Rattle.questions.specs.Ask.{Question, asks, firstNo}
+use Rattle.question_grids.specs.Ask.{Question, asks, firstNo}
 use Rattle.triplet_study.specs.Given.{Given}
 use Rattle.sheet_step.specs.declared.SheetAnswer.{SheetAnswer}
 use Rattle.sheet_step.specs.declared.SheetAnswer.the-variants.{Done, Refused}

@@ -8,10 +8,10 @@ use lib.IntN.{ℤ}
 use Rattle.list_laws.specs.Patch.{pick}
 use Rattle.list_laws.specs.Signed.{isNat}
 use Rattle.common.specs.Mesh.{countOf, meshOf}
-use Rattle.questions.specs.Ask.{firstNo, AllYes, Numbered}
-use Rattle.questions.specs.Grids.{gridQuestions, triplesIn, isMap, isSparseMap, isDenseMap}
-use Rattle.questions.proofs.AskLaws.{all-yes}
-use Rattle.questions.proofs.GridLaws.{mesh-within}
+use Rattle.question_grids.specs.Ask.{firstNo, AllYes, Numbered}
+use Rattle.question_grids.specs.Grids.{gridQuestions, triplesIn, isMap, isSparseMap, isDenseMap}
+use Rattle.question_grids.proofs.AskLaws.{all-yes}
+use Rattle.question_grids.proofs.GridLaws.{mesh-within}
 use Rattle.bzgrid.specs.declared.GridKind.the-variants.{Sparse, Dense}
 use Rattle.bzgrid.specs.declared.NeighbourAnswer.the-variants.{Filled, Refused}
 use Rattle.bzgrid.specs.Neighbours.{kindOf, gridOf, mapFits, SoundGrid}

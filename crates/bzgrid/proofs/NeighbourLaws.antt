@@ -17,8 +17,8 @@ use Rattle.common.specs.Mesh.{countOf, doubledMesh, MeshWithin}
 use Rattle.common.proofs.MeshLaws.{doubled, count-le, count-doubled}
 use Rattle.grgrid.specs.Index.{gridIndex}
 use Rattle.grgrid.proofs.IndexLaws.{index-lt}
-use Rattle.questions.specs.Grids.{triplesIn, isPlace, isSparseMap, isDenseMap}
-use Rattle.questions.proofs.GridLaws.{addresses-low, addresses-high, sparse-at, dense-step, dense-top}
+use Rattle.question_grids.specs.Grids.{triplesIn, isPlace, isSparseMap, isDenseMap}
+use Rattle.question_grids.proofs.GridLaws.{addresses-low, addresses-high, sparse-at, dense-step, dense-top}
 use Rattle.bzgrid.specs.declared.GridKind.{GridKind}
 use Rattle.bzgrid.specs.declared.GridKind.the-variants.{Sparse, Dense}
 use Rattle.bzgrid.specs.declared.BzGrid.{BzGrid}

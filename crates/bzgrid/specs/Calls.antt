@@ -5,10 +5,10 @@ use lib.Dec.{eqb}
 use lib.IntN.{ℤ}
 use lib.ListN.{length}
 use Rattle.list_laws.specs.Signed.{isBelow}
-use Rattle.questions.specs.Ask.{Question, asks}
-use Rattle.questions.specs.Grids.{gridQuestions, triplesIn}
-use Rattle.questions.specs.Steps.{areSteps, areGridPoints}
-use Rattle.questions.specs.Counts.{isTripletCount, isProduct}
+use Rattle.question_grids.specs.Ask.{Question, asks}
+use Rattle.question_grids.specs.Grids.{gridQuestions, triplesIn}
+use Rattle.question_grids.specs.Steps.{areSteps, areGridPoints}
+use Rattle.question_values.specs.Counts.{isTripletCount, isProduct}
 use Rattle.bzgrid.specs.declared.NeighbourAnswer.{NeighbourAnswer}
 use Rattle.bzgrid.specs.declared.NeighbourAnswer.the-variants.{Filled, Refused}
 

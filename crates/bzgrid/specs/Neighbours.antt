@@ -14,7 +14,7 @@ use Rattle.common.specs.declared.Address.{Address}
 use Rattle.common.specs.declared.Mesh.{Mesh}
 use Rattle.common.specs.Mesh.{countOf, meshOf, doubledMesh, MeshWithin}
 use Rattle.grgrid.specs.Index.{gridIndex}
-use Rattle.questions.specs.Grids.{areAddresses, isSparseMap, isDenseMap, triplesIn}
+use Rattle.question_grids.specs.Grids.{areAddresses, isSparseMap, isDenseMap, triplesIn}
 use Rattle.bzgrid.specs.declared.GridKind.{GridKind}
 use Rattle.bzgrid.specs.declared.GridKind.the-variants.{Sparse, Dense}
 use Rattle.bzgrid.specs.declared.BzGrid.{BzGrid}

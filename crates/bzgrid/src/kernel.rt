@@ -5,9 +5,9 @@ ghost use Prim.Native.Nat.{_+_, _-_, _*_, _/_, _≤_, _<_};
 ghost use lib.ListN.{length};
 ghost use Rattle.list_laws.specs.Lists.{firstAt};
 ghost use Rattle.common.specs.Mesh.{MeshWithin, countOf};
-ghost use Rattle.questions.specs.Ask.{firstNo};
-ghost use Rattle.questions.specs.Grids.{areTriples, triplesIn, isDenseMap};
-ghost use Rattle.questions.specs.Steps.{areGridPoints};
+ghost use Rattle.question_grids.specs.Ask.{firstNo};
+ghost use Rattle.question_grids.specs.Grids.{areTriples, triplesIn, isDenseMap};
+ghost use Rattle.question_grids.specs.Steps.{areGridPoints};
 ghost use Rattle.bzgrid.specs.Neighbours.{gridOf, kindOf, isAddress, sparseNeighbour, inGroup, denseNeighbour, moved, wantedAddress, neighbourOf, neighboursOf, neighboursOfAll, SoundGrid};
 ghost use Rattle.bzgrid.specs.Calls.{stepQuestions, stepsQuestions};
 use crate::BzGrid;
@@ -200,7 +200,7 @@ pub fn fill_many(
 pub fn point_no(grid_point: i64, steps: &[i64], p: usize, out_len: usize) -> u64
     ensures { λ r. ⌜ r ≡ firstNo (stepQuestions (now (steps .entry)) «grid_point» p «out_len») ⌝ }
 {
-    if !questions::kernel::steps::steps_ok(steps) {
+    if !question_grids::kernel::steps::steps_ok(steps) {
         return questions::BAD_TABLE;
     }
     if !common::kernel::is_below(grid_point, p) {
@@ -216,16 +216,16 @@ pub fn point_no(grid_point: i64, steps: &[i64], p: usize, out_len: usize) -> u64
 pub fn many_no(grid_points: &[i64], steps: &[i64], p: usize, out_len: usize) -> u64
     ensures { λ r. ⌜ r ≡ firstNo (stepsQuestions (now (steps .entry)) (now («grid_points» .entry)) p «out_len») ⌝ }
 {
-    if !questions::kernel::steps::steps_ok(steps) {
+    if !question_grids::kernel::steps::steps_ok(steps) {
         return questions::BAD_TABLE;
     }
-    if !questions::kernel::counts::triplet_count_ok(grid_points.len()) {
+    if !question_values::kernel::counts::triplet_count_ok(grid_points.len()) {
         return questions::BAD_COUNT;
     }
-    if !questions::kernel::steps::grid_points_ok(p, grid_points) {
+    if !question_grids::kernel::steps::grid_points_ok(p, grid_points) {
         return questions::BAD_GRID_POINT;
     }
-    if !questions::kernel::counts::length_ok(grid_points.len(), steps.len() / 3, out_len) {
+    if !question_values::kernel::counts::length_ok(grid_points.len(), steps.len() / 3, out_len) {
         return questions::BAD_LENGTH;
     }
     0

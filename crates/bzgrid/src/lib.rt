@@ -2,7 +2,7 @@
 ghost use mathlib.Core.Path.{_≡_};
 ghost use lib.ListN.{length};
 ghost use lib.Signed.{mag};
-ghost use Rattle.questions.specs.Ask.{firstNo, afterCall};
+ghost use Rattle.question_grids.specs.Ask.{firstNo, afterCall};
 ghost use Rattle.bzgrid.specs.Neighbours.{gridOf, neighboursOf, neighboursOfAll};
 ghost use Rattle.bzgrid.specs.Calls.{pointQuestions, manyQuestions, neighbourAnswer};
 
@@ -41,7 +41,7 @@ pub fn fill_neighboring_grid_points(
         (neighboursOf (gridOf «bz_grid_type» «d_diag») (now (addresses .entry)) (now («gp_map» .entry)) (now («relative_grid_address» .entry)) (mag «grid_point»))
         (now (out .entry)) ⌝ }
 {
-    let grid_no = questions::kernel::grid::grid_no(bz_grid_type, d_diag, addresses, gp_map);
+    let grid_no = question_grids::kernel::grid::grid_no(bz_grid_type, d_diag, addresses, gp_map);
     if grid_no != 0 {
         return NeighbourAnswer::Refused(grid_no);
     }
@@ -75,7 +75,7 @@ pub fn neighboring_grid_points_many(
         (neighboursOfAll (gridOf «bz_grid_type» «d_diag») (now (addresses .entry)) (now («gp_map» .entry)) (now («relative_grid_address» .entry)) (now («grid_points» .entry)))
         (now (out .entry)) ⌝ }
 {
-    let grid_no = questions::kernel::grid::grid_no(bz_grid_type, d_diag, addresses, gp_map);
+    let grid_no = question_grids::kernel::grid::grid_no(bz_grid_type, d_diag, addresses, gp_map);
     if grid_no != 0 {
         return NeighbourAnswer::Refused(grid_no);
     }

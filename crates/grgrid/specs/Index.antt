@@ -8,7 +8,7 @@ use Rattle.list_laws.specs.Signed.{remEuclid}
 use Rattle.common.specs.declared.Address.{Address}
 use Rattle.common.specs.declared.Mesh.{Mesh}
 use Rattle.common.specs.Mesh.{meshOf}
-use Rattle.questions.specs.Grids.{isMesh}
+use Rattle.question_grids.specs.Grids.{isMesh}
 use Rattle.grgrid.specs.declared.IndexAnswer.{IndexAnswer}
 use Rattle.grgrid.specs.declared.IndexAnswer.the-variants.{Index, Refused}
 

@@ -13,7 +13,7 @@ pub enum IndexAnswer {
 pub fn grid_index_from_address(address: [i64; 3], d_diag: [i64; 3]) -> IndexAnswer
     ensures { λ r. ⌜ r ≡ indexAnswer address «d_diag» ⌝ }
 {
-    if !questions::kernel::grid::mesh_ok(256, d_diag) {
+    if !question_grids::kernel::grid::mesh_ok(256, d_diag) {
         return IndexAnswer::Refused(questions::BAD_MESH);
     }
     let m = common::kernel::mesh_of(d_diag);

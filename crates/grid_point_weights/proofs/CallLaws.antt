@@ -13,10 +13,10 @@ use lib.ListN.{length}
 use lib.Signed.{mag}
 use Rattle.list_laws.proofs.BoolLaws.{and-left, and-right}
 use Rattle.list_laws.proofs.SignedLaws.{between-low, between-high}
-use Rattle.questions.specs.Ask.{firstNo, AllYes, Numbered}
-use Rattle.questions.specs.Counts.{isBandCount, isPointCount, isTripletCount}
-use Rattle.questions.specs.Frequencies.{arePoints}
-use Rattle.questions.specs.Grids.{gridQuestions, triplesIn}
+use Rattle.question_grids.specs.Ask.{firstNo, AllYes, Numbered}
+use Rattle.question_values.specs.Counts.{isBandCount, isPointCount, isTripletCount}
+use Rattle.question_values.specs.Frequencies.{arePoints}
+use Rattle.question_grids.specs.Grids.{gridQuestions, triplesIn}
 use Rattle.questions.specs.Irreducible.{areIrreducible}
 use Rattle.questions.proofs.IrreducibleLaws.{frequencies-held, irreducible-length, irreducible-at}
 use Rattle.bzgrid.specs.Neighbours.{gridOf}

@@ -12,9 +12,9 @@ use Rattle.list_laws.proofs.FillLaws.{area-at, tabulate-at}
 use Rattle.list_laws.proofs.ProductLaws.{digit-lt}
 use Rattle.list_laws.proofs.ColumnLaws.{columns-all}
 use Rattle.list_laws.proofs.MatrixLaws.{replaced-as}
-use Rattle.questions.specs.Grids.{triplesIn}
-use Rattle.questions.specs.Tables.{rowsIn}
-use Rattle.questions.proofs.TableLaws.{corners-whole}
+use Rattle.question_grids.specs.Grids.{triplesIn}
+use Rattle.question_grids.specs.Tables.{rowsIn}
+use Rattle.question_grids.proofs.TableLaws.{corners-whole}
 use Rattle.bzgrid.specs.Neighbours.{wantedAddress}
 use Rattle.bzgrid.proofs.NeighbourLaws.{neighbour-lt}
 use Rattle.tetrahedron_method.proofs.SortedLaws.{weight-same}

@@ -6,13 +6,13 @@ use lib.IntN.{ℤ}
 use lib.Ieee.{Float}
 use lib.ListN.{length}
 use lib.Signed.{mag}
-use Rattle.questions.specs.Ask.{Question, asks}
-use Rattle.questions.specs.Grids.{gridQuestions, triplesIn}
-use Rattle.questions.specs.Tables.{isTable}
-use Rattle.questions.specs.Counts.{isBandCount, isPointCount, isTripletCount, isProduct}
-use Rattle.questions.specs.Steps.{areGridPoints}
+use Rattle.question_grids.specs.Ask.{Question, asks}
+use Rattle.question_grids.specs.Grids.{gridQuestions, triplesIn}
+use Rattle.question_grids.specs.Tables.{isTable}
+use Rattle.question_values.specs.Counts.{isBandCount, isPointCount, isTripletCount, isProduct}
+use Rattle.question_grids.specs.Steps.{areGridPoints}
 use Rattle.questions.specs.Irreducible.{areIrreducible}
-use Rattle.questions.specs.Frequencies.{arePoints}
+use Rattle.question_values.specs.Frequencies.{arePoints}
 use Rattle.grid_point_weights.specs.declared.GridPointAnswer.{GridPointAnswer}
 use Rattle.grid_point_weights.specs.declared.GridPointAnswer.the-variants.{Filled, Refused}
 

@@ -8,8 +8,8 @@ use lib.Ieee.{Float, nan, binary64, ofBits}
 use lib.ListN.{getD, length}
 use lib.Signed.{mag}
 use Rattle.list_laws.specs.Lists.{at, tabulate, rows, area}
-use Rattle.questions.specs.Grids.{triplesIn}
-use Rattle.questions.specs.Tables.{isTable, rowsIn}
+use Rattle.question_grids.specs.Grids.{triplesIn}
+use Rattle.question_grids.specs.Tables.{isTable, rowsIn}
 use Rattle.bzgrid.specs.declared.BzGrid.{BzGrid}
 use Rattle.bzgrid.specs.Neighbours.{neighbourOf, wantedAddress, SoundGrid}
 use Rattle.tetrahedron_method.specs.declared.WeightFunction.{WeightFunction}

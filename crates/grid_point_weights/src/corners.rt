@@ -5,7 +5,7 @@ ghost use Prim.Native.Nat.{_≤_, _<_};
 ghost use lib.ListN.{length};
 ghost use Rattle.list_laws.specs.Lists.{area};
 ghost use Rattle.bzgrid.specs.Neighbours.{SoundGrid};
-ghost use Rattle.questions.specs.Grids.{areTriples, triplesIn};
+ghost use Rattle.question_grids.specs.Grids.{areTriples, triplesIn};
 ghost use Rattle.grid_point_weights.specs.Weights.{cornerOf};
 use bzgrid::BzGrid;
 

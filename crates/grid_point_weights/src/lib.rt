@@ -3,7 +3,7 @@ ghost use mathlib.Core.Path.{_≡_};
 ghost use lib.ListN.{length};
 ghost use lib.Signed.{mag};
 ghost use Rattle.bzgrid.specs.Neighbours.{gridOf};
-ghost use Rattle.questions.specs.Ask.{firstNo, afterCall};
+ghost use Rattle.question_grids.specs.Ask.{firstNo, afterCall};
 ghost use Rattle.grid_point_weights.specs.Weights.{study, weightsOfAll};
 ghost use Rattle.grid_point_weights.specs.Calls.{gridPointQuestions, gridPointAnswer};
 use tetrahedron_method::WeightFunction;
@@ -42,7 +42,7 @@ pub fn integration_weights_at_grid_points(
         (weightsOfAll (study (gridOf «bz_grid_type» «d_diag») (now (addresses .entry)) (now («gp_map» .entry)) (now («relative_grid_address» .entry)) (now («gp2irgp_map» .entry)) (now (frequencies .entry)) (mag «num_band») (now («frequency_points» .entry)) function) (now («grid_points» .entry)))
         (now (iw .entry)) ⌝ }
 {
-    let grid_no = questions::kernel::grid::grid_no(bz_grid_type, d_diag, addresses, gp_map);
+    let grid_no = question_grids::kernel::grid::grid_no(bz_grid_type, d_diag, addresses, gp_map);
     if grid_no != 0 {
         return GridPointAnswer::Refused(grid_no);
     }

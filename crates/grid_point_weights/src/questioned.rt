@@ -1,15 +1,15 @@
 // The questions after those on the grid.
 ghost use mathlib.Core.Path.{_≡_};
-ghost use Rattle.questions.specs.Ask.{firstNo};
+ghost use Rattle.question_grids.specs.Ask.{firstNo};
 ghost use Rattle.grid_point_weights.specs.Calls.{areCounts, weightsQuestions};
 
 // Question 9: bands, frequency points, grid points.
 fn counts_ok(num_band: i64, points: usize, grid_points: usize) -> bool
     ensures { λ r. ⌜ r ≡ areCounts «num_band» points «grid_points» ⌝ }
 {
-    (questions::kernel::counts::band_count_ok(num_band)
-        & questions::kernel::counts::point_count_ok(points))
-        & questions::kernel::counts::triplet_count_ok(grid_points)
+    (question_values::kernel::counts::band_count_ok(num_band)
+        & question_values::kernel::counts::point_count_ok(points))
+        & question_values::kernel::counts::triplet_count_ok(grid_points)
 }
 
 // The number of the first question, after those on the grid, that is answered no, or 0.
@@ -26,24 +26,24 @@ pub fn weights_no(
 ) -> u64
     ensures { λ r. ⌜ r ≡ firstNo (weightsQuestions (now («relative_grid_address» .entry)) «num_band» (now («frequency_points» .entry)) (now («grid_points» .entry)) p «num_ir» (now (frequencies .entry)) (now («gp2irgp_map» .entry)) «iw_len») ⌝ }
 {
-    if !questions::kernel::tables::table_ok(relative_grid_address) {
+    if !question_grids::kernel::tables::table_ok(relative_grid_address) {
         return questions::BAD_TABLE;
     }
     if !counts_ok(num_band, frequency_points.len(), grid_points.len()) {
         return questions::BAD_COUNT;
     }
-    if !questions::kernel::steps::grid_points_ok(p, grid_points) {
+    if !question_grids::kernel::steps::grid_points_ok(p, grid_points) {
         return questions::BAD_GRID_POINT;
     }
     let bands = common::kernel::magnitude(num_band);
     if !questions::kernel::irreducible::irreducible_ok(num_ir, bands, p, frequencies, gp2irgp_map) {
         return questions::BAD_FREQUENCY;
     }
-    if !questions::kernel::frequencies::points_ok(frequency_points) {
+    if !question_values::kernel::frequencies::points_ok(frequency_points) {
         return questions::BAD_FREQUENCY;
     }
     let size = frequency_points.len() * bands;
-    if !questions::kernel::counts::length_ok(grid_points.len(), size, iw_len) {
+    if !question_values::kernel::counts::length_ok(grid_points.len(), size, iw_len) {
         return questions::BAD_LENGTH;
     }
     0

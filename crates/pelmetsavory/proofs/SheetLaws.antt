@@ -5,7 +5,7 @@ use Prim.Native.Nat.{ℕ, zero, suc}
 use native.Mathlib.Omega.{arith}
 use lib.Ieee.{Float}
 use lib.IntN.{ℤ}
-use Rattle.questions.proofs.AskLaws.{after-refused}
+use Rattle.question_grids.proofs.AskLaws.{after-refused}
 use Rattle.triplet_study.specs.Given.{Given}
 use Rattle.sheet_marks.specs.declared.Tally.{Tally}
 use Rattle.sheet_step.specs.declared.SheetAnswer.{SheetAnswer}

@@ -7,9 +7,9 @@ use lib.Ieee.{Float}
 use lib.IntN.{ℤ}
 use Rattle.list_laws.specs.Patch.{pick}
 use Rattle.common.specs.Matrix.{isLattice, isVector}
-use Rattle.questions.specs.Ask.{Question, asks}
-use Rattle.questions.specs.Grids.{isMesh}
-use Rattle.questions.specs.TpTypes.{isTpType}
+use Rattle.question_grids.specs.Ask.{Question, asks}
+use Rattle.question_grids.specs.Grids.{isMesh}
+use Rattle.question_values.specs.TpTypes.{isTpType}
 use Rattle.tetrahedron_method.specs.declared.WeightFunction.{WeightFunction}
 use Rattle.tetrahedron_method.specs.declared.WeightFunction.the-variants.{I, J}
 

@@ -3,7 +3,7 @@ ghost use mathlib.Core.Path.{_≡_};
 ghost use Prim.Native.Nat.{_*_, _+_};
 ghost use lib.ListN.{length};
 ghost use lib.Signed.{mag};
-ghost use Rattle.questions.specs.Ask.{firstNo, afterCall};
+ghost use Rattle.question_grids.specs.Ask.{firstNo, afterCall};
 ghost use Rattle.triplet_study.specs.Given.{given};
 ghost use Rattle.sheet_step.specs.Steps.{sheet, run, carry, average, step, verdict, tallyQuestions};
 ghost use Rattle.sheet_marks.specs.OpenCount.{openQuestions, zerosFrom, cellsPerTriplet};

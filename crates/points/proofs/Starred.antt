@@ -14,15 +14,16 @@ use Rattle.relative_grid_address.specs.Answer.{tableAnswer}
 use Rattle.relative_grid_address.specs.Diagonal.{mainDiagonalOf}
 use Rattle.averaging.specs.Weights.{averagedPoints}
 use Rattle.averaging.specs.Flags.{averagedFlagPoints}
-use Rattle.questions.specs.Ask.{firstNo}
-use Rattle.questions.specs.Averages.{isDegenerateId, areDegenerateIds, isWeight, areWeights}
-use Rattle.questions.specs.Counts.{isBandCount, isProduct}
-use Rattle.questions.specs.Frequencies.{inRange, areInRange}
-use Rattle.questions.specs.Grids.{isGridKind, isMesh, areTriples, areAddresses, isMap, isDenseMap, isSparseMap}
-use Rattle.questions.specs.Steps.{areSteps, areGridPoints}
-use Rattle.questions.specs.TpTypes.{isTpType, channelsOf}
-use Rattle.tetrahedron_formulas.specs.Choice.{branchOf, iOf, gOf, jOf, nOf}
-use Rattle.tetrahedron_formulas.specs.Fraction.{isSmall, fraction}
+use Rattle.question_grids.specs.Ask.{firstNo}
+use Rattle.question_values.specs.Averages.{isDegenerateId, areDegenerateIds, isWeight, areWeights}
+use Rattle.question_values.specs.Counts.{isBandCount, isProduct}
+use Rattle.question_values.specs.Frequencies.{inRange, areInRange}
+use Rattle.question_grids.specs.Grids.{isGridKind, isMesh, areTriples, areAddresses, isMap, isDenseMap, isSparseMap}
+use Rattle.question_grids.specs.Steps.{areSteps, areGridPoints}
+use Rattle.question_values.specs.TpTypes.{isTpType, channelsOf}
+use Rattle.tetrahedron_formulas.specs.Choice.{iOf, gOf, jOf, nOf}
+use Rattle.tetrahedron_fractions.specs.Branch.{branchOf}
+use Rattle.tetrahedron_fractions.specs.Fraction.{isSmall, fraction}
 use Rattle.tetrahedron_method.specs.Weight.{weightOf, sumOf, rowWeight, shareOf, orZero}
 use Rattle.tetrahedron_sort.specs.Sort.{sortedOf, placeOf}
 use Rattle.points.specs.Points.{Every, points}

@@ -6,7 +6,7 @@ use lib.IntN.{ℤ, pos, negsuc}
 use lib.ListN.{length}
 use lib.Ieee.{Float, binary64, ofBits}
 use Rattle.ieee_laws.specs.Zeros.{zeroF}
-use Rattle.questions.specs.Ask.{firstNo}
+use Rattle.question_grids.specs.Ask.{firstNo}
 use Rattle.bzgrid.specs.Calls.{manyQuestions, neighbourAnswer}
 use Rattle.bzgrid.specs.Neighbours.{gridOf, neighboursOfAll}
 use Rattle.bzgrid.specs.declared.NeighbourAnswer.the-variants.{Filled}
@@ -14,8 +14,8 @@ use Rattle.relative_grid_address.specs.Answer.{tableAnswer}
 use Rattle.tetrahedron_tables.specs.Tables.{tableOf, flat}
 use Rattle.averaging.specs.Answers.{averagingAnswer, weightsAfter, flagsAfter}
 use Rattle.averaging.specs.declared.AveragingAnswer.the-variants.{Averaged}
-use Rattle.tetrahedron_formulas.specs.Binary64.{one, three, four}
-use Rattle.tetrahedron_formulas.specs.Choice.{values}
+use Rattle.tetrahedron_fractions.specs.Binary64.{one, three, four}
+use Rattle.tetrahedron_fractions.specs.Branch.{values}
 use Rattle.tetrahedron_method.specs.Answer.{integrationWeightAnswer}
 use Rattle.tetrahedron_method.specs.declared.WeightAnswer.the-variants.{Weight}
 use Rattle.tetrahedron_method.specs.declared.WeightFunction.{WeightFunction}

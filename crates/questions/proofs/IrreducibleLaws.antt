@@ -11,11 +11,11 @@ use lib.ListN.{length}
 use lib.Signed.{nonNeg, mag}
 use Rattle.list_laws.specs.Lists.{at}
 use Rattle.list_laws.proofs.BoolLaws.{and-left, and-right}
-use Rattle.questions.specs.Counts.{isProduct}
-use Rattle.questions.specs.Frequencies.{areFrequencies}
-use Rattle.questions.specs.Steps.{areGridPoints}
+use Rattle.question_values.specs.Counts.{isProduct}
+use Rattle.question_values.specs.Frequencies.{areFrequencies}
+use Rattle.question_grids.specs.Steps.{areGridPoints}
 use Rattle.questions.specs.Irreducible.{isIrreducibleMap, areIrreducible}
-use Rattle.questions.proofs.StepLaws.{grid-points-at, product-yes}
+use Rattle.question_grids.proofs.StepLaws.{grid-points-at, product-yes}
 
 module _ (r : ℤ) (bands p : ℕ) (frequencies : List Float) (map : List ℤ) (e : areIrreducible r bands p frequencies map ≡ true) where
   first : ((nonNeg r && leb 1 (mag r)) && isProduct (mag r) bands (length frequencies)) ≡ true

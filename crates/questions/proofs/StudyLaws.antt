@@ -14,17 +14,17 @@ use Rattle.list_laws.specs.Lists.{at}
 use Rattle.list_laws.specs.Signed.{isNat}
 use Rattle.list_laws.proofs.BoolLaws.{and-left, and-right, clash}
 use Rattle.list_laws.proofs.SignedLaws.{between-low, between-high}
-use Rattle.questions.specs.Ask.{firstNo, AllYes, Numbered}
-use Rattle.questions.specs.Counts.{isBandCount, isPointCount, isTripletCount, isProduct}
-use Rattle.questions.specs.Frequencies.{areFrequencies, arePoints}
-use Rattle.questions.specs.Grids.{areTriples, triplesIn, gridQuestions}
-use Rattle.questions.specs.Rows.{hasRows}
-use Rattle.questions.specs.Steps.{areGridPoints}
-use Rattle.questions.specs.TpTypes.{channelsOf}
-use Rattle.questions.specs.Tables.{isTable}
+use Rattle.question_grids.specs.Ask.{firstNo, AllYes, Numbered}
+use Rattle.question_values.specs.Counts.{isBandCount, isPointCount, isTripletCount, isProduct}
+use Rattle.question_values.specs.Frequencies.{areFrequencies, arePoints}
+use Rattle.question_grids.specs.Grids.{areTriples, triplesIn, gridQuestions}
+use Rattle.question_values.specs.Rows.{hasRows}
+use Rattle.question_grids.specs.Steps.{areGridPoints}
+use Rattle.question_values.specs.TpTypes.{channelsOf}
+use Rattle.question_grids.specs.Tables.{isTable}
 use Rattle.questions.specs.Studies.{tripletsIn, areStudyCounts, areTriplets, holdFrequencies, areStudyFrequencies, studyQuestions}
-use Rattle.questions.proofs.AskLaws.{all-yes}
-use Rattle.questions.proofs.StepLaws.{grid-points-at, product-yes}
+use Rattle.question_grids.proofs.AskLaws.{all-yes}
+use Rattle.question_grids.proofs.StepLaws.{grid-points-at, product-yes}
 
 -- a table has 24, 48, 72 or 96 rows of twelve numbers
 pub table-rows : (n : ℕ) → hasRows 12 n ≡ true → (1 ≤ n / 12) × ((n / 12 ≤ 96) × (n ≡ n / 12 * 12))

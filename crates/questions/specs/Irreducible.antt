@@ -7,9 +7,9 @@ use lib.IntN.{ℤ}
 use lib.Ieee.{Float}
 use lib.ListN.{length}
 use lib.Signed.{nonNeg, mag}
-use Rattle.questions.specs.Counts.{isProduct}
-use Rattle.questions.specs.Frequencies.{areFrequencies}
-use Rattle.questions.specs.Steps.{areGridPoints}
+use Rattle.question_values.specs.Counts.{isProduct}
+use Rattle.question_values.specs.Frequencies.{areFrequencies}
+use Rattle.question_grids.specs.Steps.{areGridPoints}
 
 -- "P map values 0 to R-1"
 unfoldable pub isIrreducibleMap : ℕ → ℕ → List ℤ → Bool

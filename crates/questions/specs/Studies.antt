@@ -7,13 +7,13 @@ use lib.IntN.{ℤ}
 use lib.Ieee.{Float}
 use lib.ListN.{length}
 use lib.Signed.{mag}
-use Rattle.questions.specs.Ask.{Question, asks}
-use Rattle.questions.specs.Counts.{isBandCount, isPointCount, isTripletCount, isProduct}
-use Rattle.questions.specs.Frequencies.{areFrequencies, arePoints}
-use Rattle.questions.specs.Grids.{triplesIn, gridQuestions}
-use Rattle.questions.specs.Tables.{isTable}
-use Rattle.questions.specs.Steps.{areGridPoints}
-use Rattle.questions.specs.TpTypes.{isTpType}
+use Rattle.question_grids.specs.Ask.{Question, asks}
+use Rattle.question_values.specs.Counts.{isBandCount, isPointCount, isTripletCount, isProduct}
+use Rattle.question_values.specs.Frequencies.{areFrequencies, arePoints}
+use Rattle.question_grids.specs.Grids.{triplesIn, gridQuestions}
+use Rattle.question_grids.specs.Tables.{isTable}
+use Rattle.question_grids.specs.Steps.{areGridPoints}
+use Rattle.question_values.specs.TpTypes.{isTpType}
 
 -- how many triplets a flat list holds, an unfinished one counted
 abbrev pub tripletsIn : List ℤ → ℕ

@@ -6,13 +6,13 @@ pub const BAD_TEXT: u64 = 1;
 
 pub const BAD_LATTICE: u64 = common::BAD_LATTICE;
 
-pub const BAD_GRID_TYPE: u64 = 3;
+pub const BAD_GRID_TYPE: u64 = question_grids::BAD_GRID_TYPE;
 
-pub const BAD_MESH: u64 = 4;
+pub const BAD_MESH: u64 = question_grids::BAD_MESH;
 
-pub const BAD_ADDRESSES: u64 = 5;
+pub const BAD_ADDRESSES: u64 = question_grids::BAD_ADDRESSES;
 
-pub const BAD_MAP: u64 = 6;
+pub const BAD_MAP: u64 = question_grids::BAD_MAP;
 
 pub const BAD_TABLE: u64 = common::BAD_TABLE;
 

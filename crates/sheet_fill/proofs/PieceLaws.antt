@@ -14,7 +14,7 @@ use Rattle.list_laws.proofs.PatchLaws.{length-patch}
 use Rattle.triplet_channels.specs.declared.Outputs.{Outputs}
 use Rattle.triplet_piece.specs.declared.Sizes.{Sizes}
 use Rattle.triplet_piece.specs.Layout.{pieceWeights, pieceFlags}
-use Rattle.questions.specs.Tables.{rowsIn}
+use Rattle.question_grids.specs.Tables.{rowsIn}
 use Rattle.triplet_piece.specs.Study.{Study, outputsOfCorners, firstCorners, secondCorners, outputsOf, sizesOf, computedWeights, computedFlags}
 use Rattle.triplet_piece.proofs.LayoutLaws.{weights-same, flags-same}
 use Rattle.triplet_piece.proofs.StudyLaws.{piece-weights, piece-flags, weights-join, flags-join, weights-alike, flags-alike}

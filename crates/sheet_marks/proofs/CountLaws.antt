@@ -9,7 +9,7 @@ use Rattle.list_laws.proofs.BoolLaws.{and-left, and-right}
 use Rattle.list_laws.proofs.SignedLaws.{between-high}
 use Rattle.sheet_marks.specs.declared.Counts.{Counts}
 use Rattle.sheet_marks.specs.declared.OpenAnswer.the-variants.{Refused}
-use Rattle.questions.specs.Counts.{isBandCount}
+use Rattle.question_values.specs.Counts.{isBandCount}
 use Rattle.sheet_marks.specs.OpenCount.{areCounts, cellsPerTriplet, openAnswer}
 
 module _ (c : Counts) (e : areCounts c ≡ true) where

@@ -4,7 +4,7 @@ ghost use mathlib.Core.Bool.{true};
 ghost use Prim.Native.Nat.{_+_, _*_, _≤_, _<_};
 ghost use lib.ListN.{length};
 ghost use Rattle.list_laws.specs.Lists.{oneIf};
-ghost use Rattle.questions.specs.Ask.{firstNo};
+ghost use Rattle.question_grids.specs.Ask.{firstNo};
 ghost use Rattle.sheet_marks.specs.OpenCount.{areCounts, cellsPerTriplet, openQuestions, isZeroAt, zerosFrom};
 use crate::Counts;
 

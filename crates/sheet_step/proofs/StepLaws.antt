@@ -14,10 +14,10 @@ use Rattle.list_laws.specs.Patch.{pick}
 use Rattle.list_laws.specs.Signed.{isBelow}
 use Rattle.list_laws.proofs.BoolLaws.{and-left, and-right}
 use Rattle.list_laws.proofs.SignedLaws.{below-lt}
-use Rattle.questions.specs.Ask.{Question, asks, firstNo, AllYes, Numbered}
-use Rattle.questions.specs.Averages.{areDegenerateIds}
-use Rattle.questions.proofs.AverageLaws.{ids-length}
-use Rattle.questions.proofs.AskLaws.{group-no, group-yes, all-yes, after-done, after-refused}
+use Rattle.question_grids.specs.Ask.{Question, asks, firstNo, AllYes, Numbered}
+use Rattle.question_values.specs.Averages.{areDegenerateIds}
+use Rattle.question_values.proofs.AverageLaws.{ids-length}
+use Rattle.question_grids.proofs.AskLaws.{group-no, group-yes, all-yes, after-done, after-refused}
 use Rattle.triplet_piece.specs.declared.Sizes.{Sizes}
 use Rattle.triplet_study.specs.Given.{Given, givenQuestions, areLengths}
 use Rattle.triplet_study.proofs.GivenLaws.{given-numbered, lengths-say}

@@ -8,8 +8,8 @@ use lib.IntN.{ℤ}
 use lib.Signed.{mag}
 use borrow.Author.Tests.{leb-true}
 use Rattle.list_laws.proofs.BoolLaws.{and-right}
-use Rattle.questions.specs.Counts.{isBandCount, isPointCount, isTripletCount}
-use Rattle.questions.specs.TpTypes.{channelsOf}
+use Rattle.question_values.specs.Counts.{isBandCount, isPointCount, isTripletCount}
+use Rattle.question_values.specs.TpTypes.{channelsOf}
 use Rattle.questions.proofs.StudyLaws.{channels-le, band-high}
 
 points-le : (n : ℕ) → isPointCount n ≡ true → n ≤ 1024

@@ -4,8 +4,8 @@ use Prim.Native.Nat.{ℕ, _*_}
 use lib.Dec.{leb}
 use lib.IntN.{ℤ}
 use lib.Signed.{mag}
-use Rattle.questions.specs.Counts.{isBandCount, isPointCount, isTripletCount}
-use Rattle.questions.specs.TpTypes.{isTpType, channelsOf}
+use Rattle.question_values.specs.Counts.{isBandCount, isPointCount, isTripletCount}
+use Rattle.question_values.specs.TpTypes.{isTpType, channelsOf}
 
 -- the number of weights, "channels counted"
 unfoldable pub weightCount : ℤ → ℤ → ℤ → ℕ → ℕ → ℕ

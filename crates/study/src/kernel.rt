@@ -214,22 +214,22 @@ pub fn weight_count_ok(
 ) -> bool
     ensures { λ r. ⌜ r ≡ fewWeights «tp_type» «num_band1» «num_band2» points triplets ⌝ }
 {
-    if !questions::kernel::tp_type::tp_type_ok(tp_type) {
+    if !question_values::kernel::tp_type::tp_type_ok(tp_type) {
         return true;
     }
-    if !questions::kernel::counts::band_count_ok(num_band1) {
+    if !question_values::kernel::counts::band_count_ok(num_band1) {
         return true;
     }
-    if !questions::kernel::counts::band_count_ok(num_band2) {
+    if !question_values::kernel::counts::band_count_ok(num_band2) {
         return true;
     }
-    if !questions::kernel::counts::point_count_ok(points) {
+    if !question_values::kernel::counts::point_count_ok(points) {
         return true;
     }
-    if !questions::kernel::counts::triplet_count_ok(triplets) {
+    if !question_values::kernel::counts::triplet_count_ok(triplets) {
         return true;
     }
-    let channels = questions::kernel::tp_type::channels_of(tp_type);
+    let channels = question_values::kernel::tp_type::channels_of(tp_type);
     let bands = common::kernel::magnitude(num_band1) * common::kernel::magnitude(num_band2);
     channels * triplets * points * bands <= 4096
 }

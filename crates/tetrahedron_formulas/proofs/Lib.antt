@@ -1,3 +1,2 @@
 -- The laws.
 pub mod ChoiceLaws
-pub mod FractionLaws

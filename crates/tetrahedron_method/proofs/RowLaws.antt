@@ -6,7 +6,7 @@ use lib.ListN.{getD}
 use lib.Ieee.{Float, nan, ne, isNan, ofBits}
 use Rattle.ieee_laws.specs.Zeros.{zeroF}
 use Rattle.ieee_laws.proofs.NanLaws.{no-nan}
-use Rattle.tetrahedron_formulas.specs.Choice.{values}
+use Rattle.tetrahedron_fractions.specs.Branch.{values}
 use Rattle.tetrahedron_sort.specs.Sort.{sortedOf}
 use Rattle.tetrahedron_method.specs.Weight.{orZero}
 

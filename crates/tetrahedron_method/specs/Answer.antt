@@ -4,9 +4,9 @@ use mathlib.Core.Bool.{_&&_}
 use mathlib.Core.List.{List, [], _∷_}
 use lib.ListN.{length}
 use lib.Ieee.{Float}
-use Rattle.questions.specs.Ask.{Question, asks, firstNo}
-use Rattle.questions.specs.Frequencies.{arePoints, isPoint}
-use Rattle.questions.specs.Rows.{hasRows}
+use Rattle.question_grids.specs.Ask.{Question, asks, firstNo}
+use Rattle.question_values.specs.Frequencies.{arePoints, isPoint}
+use Rattle.question_values.specs.Rows.{hasRows}
 use Rattle.tetrahedron_method.specs.declared.WeightAnswer.{WeightAnswer}
 use Rattle.tetrahedron_method.specs.declared.WeightAnswer.the-variants.{Weight, Refused}
 use Rattle.tetrahedron_method.specs.declared.WeightFunction.{WeightFunction}

@@ -6,7 +6,7 @@ use lib.IntN.{pos}
 use lib.ListN.{getD, set, length}
 use lib.Ieee.{Float, nan, binary64, ofInt}
 use Rattle.ieee_laws.specs.Zeros.{zeroF as z}
-use Rattle.tetrahedron_formulas.specs.Binary64.{four, _⊕_, _⊘_}
+use Rattle.tetrahedron_fractions.specs.Binary64.{four, _⊕_, _⊘_}
 use Rattle.tetrahedron_sort.specs.Sort.{sortedOf, placeOf}
 use Rattle.tetrahedron_method.specs.declared.WeightFunction.{WeightFunction}
 use Rattle.tetrahedron_method.specs.Weight.{rowOf, sortedRowWeight}

@@ -6,8 +6,9 @@ use lib.IntN.{pos}
 use lib.ListN.{getD}
 use lib.Ieee.{Float, nan, binary64, ofInt, ne}
 use Rattle.ieee_laws.specs.Zeros.{zeroF as z}
-use Rattle.tetrahedron_formulas.specs.Binary64.{four, _⊕_, _⊘_}
-use Rattle.tetrahedron_formulas.specs.Choice.{branchOf, densityShare, statesShare}
+use Rattle.tetrahedron_fractions.specs.Binary64.{four, _⊕_, _⊘_}
+use Rattle.tetrahedron_formulas.specs.Choice.{densityShare, statesShare}
+use Rattle.tetrahedron_fractions.specs.Branch.{branchOf}
 use Rattle.tetrahedron_sort.specs.Sort.{sortedOf, placeOf}
 use Rattle.tetrahedron_method.specs.declared.WeightFunction.{WeightFunction}
 use Rattle.tetrahedron_method.specs.declared.WeightFunction.the-variants.{I, J}

@@ -27,13 +27,13 @@ pub fn integration_weight(
 ) -> WeightAnswer
     ensures { λ r. ⌜ r ≡ integrationWeightAnswer omega (now («tetrahedra_omegas» .entry)) function ⌝ }
 {
-    if !questions::kernel::rows::vertices_ok(tetrahedra_omegas.len()) {
+    if !question_values::kernel::rows::vertices_ok(tetrahedra_omegas.len()) {
         return WeightAnswer::Refused(questions::BAD_TABLE);
     }
-    if !questions::kernel::frequencies::points_ok(tetrahedra_omegas) {
+    if !question_values::kernel::frequencies::points_ok(tetrahedra_omegas) {
         return WeightAnswer::Refused(questions::BAD_FREQUENCY);
     }
-    if !questions::kernel::frequencies::point_ok(omega) {
+    if !question_values::kernel::frequencies::point_ok(omega) {
         return WeightAnswer::Refused(questions::BAD_FREQUENCY);
     }
     let rows = tetrahedra_omegas.len() / 4;

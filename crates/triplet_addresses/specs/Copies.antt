@@ -6,10 +6,10 @@ use lib.IntN.{ℤ, negℤ}
 use lib.ListN.{length}
 use Rattle.list_laws.specs.Lists.{at, tabulate}
 use Rattle.list_laws.specs.Signed.{isNat}
-use Rattle.questions.specs.Ask.{Question, asks}
-use Rattle.questions.specs.Counts.{isProduct}
-use Rattle.questions.specs.Tables.{isTable}
-use Rattle.questions.specs.TpTypes.{isTpType}
+use Rattle.question_grids.specs.Ask.{Question, asks}
+use Rattle.question_values.specs.Counts.{isProduct}
+use Rattle.question_grids.specs.Tables.{isTable}
+use Rattle.question_values.specs.TpTypes.{isTpType}
 use Rattle.triplet_addresses.specs.declared.CopyAnswer.{CopyAnswer}
 use Rattle.triplet_addresses.specs.declared.CopyAnswer.the-variants.{Filled, Refused}
 

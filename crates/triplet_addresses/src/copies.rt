@@ -6,21 +6,21 @@ ghost use lib.IntN.{negℤ};
 ghost use lib.ListN.{length};
 ghost use Rattle.list_laws.specs.Lists.{at};
 ghost use Rattle.list_laws.specs.Signed.{within};
-ghost use Rattle.questions.specs.Ask.{firstNo};
-ghost use Rattle.questions.specs.Grids.{areTriples};
+ghost use Rattle.question_grids.specs.Ask.{firstNo};
+ghost use Rattle.question_grids.specs.Grids.{areTriples};
 ghost use Rattle.triplet_addresses.specs.Copies.{isNegated, stepOf, copyOf, copiesOf, copyQuestions};
 
 // The number of the first question that is answered no, or 0.
 pub fn copy_no(relative_grid_address: &[i64], tp_type: i64, out_len: usize) -> u64
     ensures { λ r. ⌜ r ≡ firstNo (copyQuestions (now («relative_grid_address» .entry)) «tp_type» «out_len») ⌝ }
 {
-    if !questions::kernel::tables::table_ok(relative_grid_address) {
+    if !question_grids::kernel::tables::table_ok(relative_grid_address) {
         return questions::BAD_TABLE;
     }
-    if !questions::kernel::tp_type::tp_type_ok(tp_type) {
+    if !question_values::kernel::tp_type::tp_type_ok(tp_type) {
         return questions::BAD_TP_TYPE;
     }
-    if !questions::kernel::counts::length_ok(2, relative_grid_address.len(), out_len) {
+    if !question_values::kernel::counts::length_ok(2, relative_grid_address.len(), out_len) {
         return questions::BAD_LENGTH;
     }
     0

@@ -1,7 +1,7 @@
 // Addresses of triplets: whether they add to zero, and both copies of the neighbour table.
 ghost use mathlib.Core.Path.{_≡_};
 ghost use lib.ListN.{length};
-ghost use Rattle.questions.specs.Ask.{firstNo, afterCall};
+ghost use Rattle.question_grids.specs.Ask.{firstNo, afterCall};
 ghost use Rattle.triplet_addresses.specs.Normal.{isNQuestions, isNAnswer, isNormal};
 ghost use Rattle.triplet_addresses.specs.Copies.{copyQuestions, copyAnswer, bothCopies};
 
@@ -17,7 +17,7 @@ pub enum IsNAnswer {
 pub fn is_n(triplet: [i64; 3], bz_grid_addresses: &[i64]) -> IsNAnswer
     ensures { λ r. ⌜ r ≡ isNAnswer (firstNo (isNQuestions triplet (now («bz_grid_addresses» .entry)))) (isNormal triplet (now («bz_grid_addresses» .entry))) ⌝ }
 {
-    if !questions::kernel::grid::triples_ok(bz_grid_addresses) {
+    if !question_grids::kernel::grid::triples_ok(bz_grid_addresses) {
         return IsNAnswer::Refused(questions::BAD_ADDRESSES);
     }
     if !normal::on_grid(triplet, bz_grid_addresses.len() / 3) {

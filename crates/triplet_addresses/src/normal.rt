@@ -6,7 +6,7 @@ ghost use lib.ListN.{length};
 ghost use lib.Signed.{mag};
 ghost use Rattle.list_laws.specs.Lists.{at};
 ghost use Rattle.list_laws.specs.Signed.{isBelow, isNat};
-ghost use Rattle.questions.specs.Grids.{areTriples, triplesIn};
+ghost use Rattle.question_grids.specs.Grids.{areTriples, triplesIn};
 ghost use Rattle.triplet_addresses.specs.Normal.{isOnGrid, componentSum, isNormal};
 
 // The grid point at place i of a triplet.

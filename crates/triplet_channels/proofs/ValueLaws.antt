@@ -12,8 +12,8 @@ use lib.ListN.{getD, length, set}
 use lib.Seq.{getD-set-same, getD-set-other}
 use Rattle.list_laws.specs.Patch.{pick}
 use Rattle.list_laws.specs.Signed.{isNat}
-use Rattle.tetrahedron_formulas.specs.Binary64.{_⊕_}
-use Rattle.questions.specs.TpTypes.{channelsOf}
+use Rattle.tetrahedron_fractions.specs.Binary64.{_⊕_}
+use Rattle.question_values.specs.TpTypes.{channelsOf}
 use Rattle.triplet_channels.specs.declared.TpType.{TpType}
 use Rattle.triplet_channels.specs.declared.TpType.the-variants.{Type2, Type3, Type4}
 use Rattle.triplet_channels.specs.Types.{tpTypeOf, channelCount}

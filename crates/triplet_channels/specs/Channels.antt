@@ -6,7 +6,7 @@ use lib.IntN.{ℤ, pos}
 use lib.Ieee.{Float, le}
 use Rattle.list_laws.specs.Patch.{pick}
 use Rattle.ieee_laws.specs.Zeros.{zeroF as f0}
-use Rattle.tetrahedron_formulas.specs.Binary64.{_⊕_, _⊖_}
+use Rattle.tetrahedron_fractions.specs.Binary64.{_⊕_, _⊖_}
 use Rattle.tetrahedron_method.specs.Weight.{weightOf}
 use Rattle.tetrahedron_method.specs.declared.WeightFunction.the-variants.{I}
 use Rattle.triplet_channels.specs.declared.TpType.{TpType}

@@ -7,7 +7,7 @@ use lib.ListN.{getD, length}
 use lib.Ieee.{Float, nan, lt, neg}
 use Rattle.list_laws.specs.Lists.{tabulate}
 use Rattle.ieee_laws.specs.Zeros.{zeroF as f0}
-use Rattle.tetrahedron_formulas.specs.Binary64.{_⊕_, _⊖_}
+use Rattle.tetrahedron_fractions.specs.Binary64.{_⊕_, _⊖_}
 use Rattle.triplet_channels.specs.declared.TpType.{TpType}
 use Rattle.triplet_channels.specs.declared.TpType.the-variants.{Type2, Type3, Type4}
 use Rattle.triplet_channels.specs.declared.ValueBox.{ValueBox}

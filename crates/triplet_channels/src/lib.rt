@@ -22,7 +22,7 @@ impl TpType {
     pub fn try_from_i64(tp_type: i64) -> TpTypeAnswer
         ensures { λ r. ⌜ r ≡ tpTypeAnswer «tp_type» ⌝ }
     {
-        if questions::kernel::tp_type::tp_type_ok(tp_type) {
+        if question_values::kernel::tp_type::tp_type_ok(tp_type) {
             let tp = kernel::types::tp_type_of(tp_type);
             TpTypeAnswer::Known(tp)
         } else {

@@ -16,8 +16,8 @@ use Rattle.list_laws.proofs.BoolLaws.{and-both}
 use Rattle.list_laws.proofs.BelowLaws.{below-all}
 use Rattle.list_laws.proofs.FillLaws.{length-tabulate, tabulate-at, area-at, area-front}
 use Rattle.list_laws.proofs.ProductLaws.{digit-lt}
-use Rattle.questions.specs.Grids.{areTriples, triplesIn}
-use Rattle.questions.proofs.GridLaws.{triples-at, triples-whole}
+use Rattle.question_grids.specs.Grids.{areTriples, triplesIn}
+use Rattle.question_grids.proofs.GridLaws.{triples-at, triples-whole}
 use Rattle.bzgrid.specs.declared.BzGrid.{BzGrid}
 use Rattle.bzgrid.specs.Neighbours.{neighbourOf, wantedAddress, SoundGrid}
 use Rattle.bzgrid.proofs.NeighbourLaws.{neighbour-lt}

@@ -4,7 +4,7 @@ use Prim.Native.Nat.{ℕ}
 use lib.IntN.{ℤ, pos, negℤ}
 use lib.ListN.{length}
 use Rattle.list_laws.specs.Lists.{at, area}
-use Rattle.questions.specs.Grids.{triplesIn}
+use Rattle.question_grids.specs.Grids.{triplesIn}
 use Rattle.bzgrid.specs.declared.BzGrid.{BzGrid}
 use Rattle.bzgrid.specs.Neighbours.{neighbourOf, wantedAddress}
 use Rattle.triplet_channels.specs.declared.TpType.{TpType}

@@ -6,7 +6,7 @@ ghost use lib.IntN.{negℤ};
 ghost use lib.ListN.{length};
 ghost use Rattle.list_laws.specs.Lists.{at};
 ghost use Rattle.list_laws.specs.Signed.{within};
-ghost use Rattle.questions.specs.Grids.{areTriples, triplesIn};
+ghost use Rattle.question_grids.specs.Grids.{areTriples, triplesIn};
 ghost use Rattle.bzgrid.specs.Neighbours.{SoundGrid};
 ghost use Rattle.triplet_corners.specs.Corners.{stepOf, secondArea, cornerNumbers};
 use bzgrid::BzGrid;

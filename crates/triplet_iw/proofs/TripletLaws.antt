@@ -18,7 +18,7 @@ use Rattle.triplet_corners.specs.Corners.{secondSteps}
 use Rattle.triplet_corners.proofs.CornerLaws.{corners-held, second-length}
 use Rattle.triplet_piece.specs.declared.Sizes.{Sizes}
 use Rattle.triplet_piece.specs.Layout.{pieceWeights, pieceFlags, Fitting}
-use Rattle.questions.specs.Tables.{rowsIn}
+use Rattle.question_grids.specs.Tables.{rowsIn}
 use Rattle.triplet_piece.specs.Study.{Study, outputsOfCorners, firstCorners, secondCorners, outputsOf, sizesOf, computedWeights, computedFlags, Ready}
 use Rattle.triplet_piece.proofs.LayoutLaws.{weights-same, flags-same}
 use Rattle.triplet_piece.proofs.StudyLaws.{study-fits, piece-weights, piece-flags, weights-join, flags-join, weights-nothing, flags-nothing, weights-alike, flags-alike}

@@ -1,7 +1,7 @@
 -- The questions of the weights of triplets, and their answer.
 use mathlib.Core.List.{List, [], _∷_, _++_}
 use Prim.Native.Nat.{ℕ, zero, suc}
-use Rattle.questions.specs.Ask.{Question, asks}
+use Rattle.question_grids.specs.Ask.{Question, asks}
 use Rattle.triplet_piece.specs.Study.{sizesOf}
 use Rattle.triplet_study.specs.Given.{Given, givenQuestions, studyOf, areLengths}
 use Rattle.triplet_iw.specs.declared.WeightsAnswer.{WeightsAnswer}

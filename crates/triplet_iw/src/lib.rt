@@ -1,7 +1,7 @@
 // Integration weights of triplets.
 ghost use mathlib.Core.Path.{_≡_};
 ghost use lib.ListN.{length};
-ghost use Rattle.questions.specs.Ask.{firstNo, afterCall};
+ghost use Rattle.question_grids.specs.Ask.{firstNo, afterCall};
 ghost use Rattle.triplet_study.specs.Given.{given, studyOf};
 ghost use Rattle.triplet_iw.specs.Whole.{allWeights, allFlags};
 ghost use Rattle.triplet_iw.specs.Calls.{weightsQuestions, weightsAnswer};

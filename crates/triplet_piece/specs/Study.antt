@@ -9,8 +9,8 @@ use lib.ListN.{getD, length}
 use lib.Signed.{mag}
 use Rattle.list_laws.specs.Lists.{at}
 use Rattle.list_laws.specs.Patch.{patch}
-use Rattle.questions.specs.Grids.{areTriples, triplesIn}
-use Rattle.questions.specs.Tables.{rowsIn}
+use Rattle.question_grids.specs.Grids.{areTriples, triplesIn}
+use Rattle.question_grids.specs.Tables.{rowsIn}
 use Rattle.bzgrid.specs.declared.BzGrid.{BzGrid}
 use Rattle.bzgrid.specs.Neighbours.{SoundGrid}
 use Rattle.triplet_channels.specs.declared.TpType.{TpType}

@@ -5,8 +5,8 @@ use native.Mathlib.Omega.{arith}
 use lib.Signed.{mag}
 use mir.Syntax.{w64}
 use mir.ValLaws.{toZ-ofZ}
-use Rattle.questions.specs.TpTypes.{channelsOf}
-use Rattle.questions.proofs.AskLaws.{after-done, after-refused}
+use Rattle.question_values.specs.TpTypes.{channelsOf}
+use Rattle.question_grids.proofs.AskLaws.{after-done, after-refused}
 use Rattle.averaging.specs.Answers.{averagingNo}
 use Rattle.averaging.specs.Weights.{averagedPoints}
 use Rattle.averaging.specs.Flags.{averagedFlagPoints}

@@ -10,10 +10,10 @@ use mir.Syntax.{w64}
 use mir.ValLaws.{toZ-ofZ}
 use Rattle.list_laws.specs.Signed.{isBetween}
 use Rattle.list_laws.proofs.BoolLaws.{yes-of, no-of}
-use Rattle.questions.specs.Ask.{firstNo}
-use Rattle.questions.specs.Averages.{areDegenerateIds}
-use Rattle.questions.specs.Counts.{isBandCount}
-use Rattle.questions.specs.TpTypes.{isTpType, channelsOf}
+use Rattle.question_grids.specs.Ask.{firstNo}
+use Rattle.question_values.specs.Averages.{areDegenerateIds}
+use Rattle.question_values.specs.Counts.{isBandCount}
+use Rattle.question_values.specs.TpTypes.{isTpType, channelsOf}
 use Rattle.averaging.specs.Answers.{flagCount}
 use Rattle.averaging.proofs.SizeLaws.{square-le, flags-le, weights-le}
 use Rattle.questions.proofs.StudyLaws.{channels-le}

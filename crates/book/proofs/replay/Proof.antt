@@ -7,7 +7,7 @@ use mathlib.Core.Path.{_∙_, _≡_, sym}
 use Rattle.book.proofs.ReplayLaws.{answer-done, answer-refused, replay-yes}
 use Rattle.book.specs.Calls.{callsOf}
 use Rattle.book.specs.Replay.{bookNumbers, bookSheet, bookTallies, replayNo}
-use Rattle.questions.proofs.AskLaws.{after-done, after-refused}
+use Rattle.question_grids.proofs.AskLaws.{after-done, after-refused}
 use Rattle.sheet_step.specs.Steps.{Call, Sheet, sheet}
 use Rattle.triplet_study.specs.Given.{Given, given}
 use Rattle.book.proofs.replay.Statement.{statement}

@@ -8,7 +8,7 @@ use common::kernel;
 fn irreducible_map_ok(p: usize, r: usize, gp2irgp_map: &[i64]) -> bool
     ensures { λ yes. ⌜ yes ≡ isIrreducibleMap p r (now («gp2irgp_map» .entry)) ⌝ }
 {
-    (gp2irgp_map.len() == p) & crate::kernel::steps::grid_points_ok(r, gp2irgp_map)
+    (gp2irgp_map.len() == p) & question_grids::kernel::steps::grid_points_ok(r, gp2irgp_map)
 }
 
 // Question 11, of R, the frequencies and the map.
@@ -24,7 +24,7 @@ pub fn irreducible_ok(
 {
     let r = kernel::magnitude(num_ir);
     ((kernel::nonneg(num_ir) & (1 <= r))
-        & crate::kernel::counts::length_ok(r, bands, frequencies.len()))
-        & (crate::kernel::frequencies::frequencies_ok(frequencies)
+        & question_values::kernel::counts::length_ok(r, bands, frequencies.len()))
+        & (question_values::kernel::frequencies::frequencies_ok(frequencies)
             & irreducible_map_ok(p, r, gp2irgp_map))
 }

@@ -2,13 +2,13 @@
 ghost use mathlib.Core.Path.{_≡_};
 ghost use Prim.Native.Nat.{_<_};
 ghost use lib.ListN.{length};
-ghost use Rattle.questions.specs.Ask.{firstNo};
+ghost use Rattle.question_grids.specs.Ask.{firstNo};
 ghost use Rattle.questions.specs.Studies.{areStudyCounts, areTriplets, holdFrequencies, tripletQuestions, studyQuestions};
-use crate::kernel::counts;
-use crate::kernel::frequencies;
-use crate::kernel::grid;
-use crate::kernel::steps;
 use common::kernel::magnitude;
+use question_grids::kernel::grid;
+use question_grids::kernel::steps;
+use question_values::kernel::counts;
+use question_values::kernel::frequencies;
 
 // Question 9, of a study.
 pub fn study_counts_ok(num_band1: i64, num_band2: i64, points: usize, triplets: usize) -> bool
@@ -50,10 +50,10 @@ fn triplet_no(
     ensures { λ r. ⌜ r ≡ firstNo (tripletQuestions p «tp_type» «num_band1» «num_band2» (now («relative_grid_address» .entry))
         (now (frequencies1 .entry)) (now (frequencies2 .entry)) (now («frequency_points» .entry)) (now (triplets .entry))) ⌝ }
 {
-    if !crate::kernel::tables::table_ok(relative_grid_address) {
+    if !question_grids::kernel::tables::table_ok(relative_grid_address) {
         return crate::BAD_TABLE;
     }
-    if !crate::kernel::tp_type::tp_type_ok(tp_type) {
+    if !question_values::kernel::tp_type::tp_type_ok(tp_type) {
         return crate::BAD_TP_TYPE;
     }
     let count = (triplets.len() + 2) / 3;

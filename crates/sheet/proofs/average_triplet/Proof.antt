@@ -6,7 +6,7 @@ use mathlib.Core.List.{List}
 use mathlib.Core.Path.{_∙_, _≡_, ap, refl, sym}
 use mir.Syntax.{w64}
 use mir.ValLaws.{toZ-ofZ}
-use Rattle.questions.specs.Ask.{Question, firstNo}
+use Rattle.question_grids.specs.Ask.{Question, firstNo}
 use Rattle.sheet_step.proofs.CountLaws.{marks-place}
 use Rattle.sheet_step.proofs.StepLaws.{average-named, common-refused, commonOf, counts-yes, done-call, given-yes, lengths-yes, refused-call, verdict-own}
 use Rattle.sheet_step.specs.Marks.{averagedMarks}

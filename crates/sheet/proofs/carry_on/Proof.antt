@@ -5,7 +5,7 @@ use mathlib.Core.Path.{_∙_, _≡_, ap, sym}
 use native.Mathlib.Omega.{arith}
 use Rattle.bzgrid.specs.Neighbours.{gridOf}
 use Rattle.list_laws.proofs.SignedLaws.{back}
-use Rattle.questions.specs.Ask.{firstNo}
+use Rattle.question_grids.specs.Ask.{firstNo}
 use Rattle.sheet_marks.specs.Tallies.{addedTo}
 use Rattle.sheet_step.proofs.StepLaws.{common-refused, commonOf, done-call, given-yes, lengths-yes, no-room, refused-call, room, verdict-own}
 use Rattle.sheet_step.specs.Marks.{isOpenAt, openPieces}

@@ -12,8 +12,8 @@ use native.Mathlib.Omega.{arith}
 use Rattle.bzgrid.specs.Neighbours.{gridOf}
 use Rattle.list_laws.proofs.ProductLaws.{digit-lt}
 use Rattle.list_laws.proofs.SignedLaws.{back}
-use Rattle.questions.proofs.AskLaws.{group-no, group-yes}
-use Rattle.questions.specs.Ask.{Question, firstNo}
+use Rattle.question_grids.proofs.AskLaws.{group-no, group-yes}
+use Rattle.question_grids.specs.Ask.{Question, firstNo}
 use Rattle.sheet_step.proofs.StepLaws.{common-refused, commonOf, counts-yes, done-call, given-yes, lengths-yes, no-room, piece-named, piece-numbered, refused-call, room, verdict-own}
 use Rattle.sheet_step.specs.Steps.{Call, Sheet, countsOf, effect, pieceOf, pieceQuestions, run, sheet, tallyQuestions, verdict}
 use Rattle.sheet.proofs.EntryLaws.{ready-made, study-made}

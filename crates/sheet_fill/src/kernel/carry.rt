@@ -3,7 +3,7 @@ ghost use mathlib.Core.Path.{_≡_};
 ghost use Prim.Native.Nat.{_+_, _*_, _/_, _%_, _<_, _≤_};
 ghost use lib.ListN.{length, set};
 ghost use Rattle.list_laws.specs.Patch.{pick};
-ghost use Rattle.questions.specs.Tables.{rowsIn};
+ghost use Rattle.question_grids.specs.Tables.{rowsIn};
 ghost use Rattle.triplet_channels.specs.Values.{Held};
 ghost use Rattle.triplet_corners.specs.Corners.{secondSteps};
 ghost use Rattle.triplet_piece.specs.Layout.{pieceWeights, pieceFlags, Fitting, Areas};

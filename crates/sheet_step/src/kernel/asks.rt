@@ -3,7 +3,7 @@ ghost use mathlib.Core.Path.{_≡_};
 ghost use mathlib.Core.List.{_++_};
 ghost use Prim.Native.Nat.{_+_, _*_, _<_};
 ghost use lib.ListN.{length};
-ghost use Rattle.questions.specs.Ask.{firstNo};
+ghost use Rattle.question_grids.specs.Ask.{firstNo};
 ghost use Rattle.triplet_study.specs.Given.{given, givenQuestions};
 ghost use Rattle.sheet_step.specs.Steps.{countsOf, sheetQuestions, pieceQuestions, averageQuestions, areTripletWeights, Counted};
 use crate::kernel::marks;
@@ -92,7 +92,7 @@ fn triplet_weights_ok(z: Sizes, t: usize, weights: &[f64]) -> bool
     while c < channels {
         let start = c * cells + base;
         let end = start + size;
-        ok = ok & questions::kernel::averages::weights_ok(&weights[start..end]);
+        ok = ok & question_values::kernel::averages::weights_ok(&weights[start..end]);
         c += 1;
     }
     ok
@@ -122,8 +122,8 @@ pub fn average_no(
     if bands != z.bands2 {
         return questions::UNEQUAL_BANDS;
     }
-    if !(questions::kernel::averages::degenerate_ids_ok(bands, degenerate_ids1)
-        & questions::kernel::averages::degenerate_ids_ok(bands, degenerate_ids2)) {
+    if !(question_values::kernel::averages::degenerate_ids_ok(bands, degenerate_ids1)
+        & question_values::kernel::averages::degenerate_ids_ok(bands, degenerate_ids2)) {
         return questions::BAD_DEGENERATE_IDS;
     }
     if !marks::all_computed(pairs, marks, t) {

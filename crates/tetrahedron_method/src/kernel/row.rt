@@ -1,6 +1,6 @@
 // What one row of four vertex values adds to a weight.
 ghost use mathlib.Core.Path.{_≡_};
-ghost use Rattle.tetrahedron_formulas.specs.Choice.{values};
+ghost use Rattle.tetrahedron_fractions.specs.Branch.{values};
 ghost use Rattle.tetrahedron_method.specs.Weight.{orZero, shareOf, sortedRowWeight};
 use crate::WeightFunction;
 
@@ -15,7 +15,7 @@ fn or_zero(product: f64) -> f64
 fn share(function: WeightFunction, place: usize, omega: f64, a: f64, b: f64, c: f64, d: f64) -> f64
     ensures { λ r. ⌜ r ≡ shareOf function omega (values a b c d) place ⌝ }
 {
-    let branch = tetrahedron_formulas::kernel::choice::branch(omega, a, b, c, d);
+    let branch = tetrahedron_fractions::kernel::branch(omega, a, b, c, d);
     match function {
         WeightFunction::I => {
             tetrahedron_formulas::kernel::choice::density_share(branch, place, omega, a, b, c, d)

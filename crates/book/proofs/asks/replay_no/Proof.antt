@@ -7,7 +7,7 @@ use mathlib.Core.Bool.{_&&_}
 use mathlib.Core.Path.{_≡_, refl}
 use Rattle.book.specs.Replay.{areReplayLengths, replayNo}
 use Rattle.list_laws.proofs.BoolLaws.{no-of, yes-of}
-use Rattle.questions.specs.Ask.{firstNo}
+use Rattle.question_grids.specs.Ask.{firstNo}
 use Rattle.book.proofs.asks.replay_no.Statement.{statement}
 use Rattle.book.proofs.asks.replay_no.Tie as tie
 

@@ -5,8 +5,8 @@ use Rattle.bzgrid.specs.Neighbours.{denseNeighbour}
 use Rattle.common.proofs.MeshLaws.{count-le, wider}
 use Rattle.common.specs.Mesh.{countOf}
 use Rattle.grgrid.proofs.IndexLaws.{index-lt}
-use Rattle.questions.proofs.GridLaws.{dense-length, dense-step, dense-top}
-use Rattle.questions.specs.Grids.{triplesIn}
+use Rattle.question_grids.proofs.GridLaws.{dense-length, dense-step, dense-top}
+use Rattle.question_grids.specs.Grids.{triplesIn}
 use Rattle.bzgrid.proofs.kernel.dense_neighbour.Statement.{statement}
 use Rattle.bzgrid.proofs.kernel.dense_neighbour.Tie as tie
 

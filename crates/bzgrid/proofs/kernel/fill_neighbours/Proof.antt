@@ -10,7 +10,7 @@ use Rattle.bzgrid.proofs.NeighbourLaws.{addresses-small, neighbour-lt}
 use Rattle.bzgrid.specs.Neighbours.{neighbourOf, neighboursOf, wantedAddress}
 use Rattle.list_laws.proofs.FillLaws.{fill-end, fill-next, fill-none}
 use Rattle.list_laws.specs.Lists.{tabulate}
-use Rattle.questions.specs.Grids.{triplesIn}
+use Rattle.question_grids.specs.Grids.{triplesIn}
 use Rattle.bzgrid.proofs.kernel.fill_neighbours.Statement.{statement}
 use Rattle.bzgrid.proofs.kernel.fill_neighbours.Tie as tie
 

@@ -8,7 +8,7 @@ use native.Mathlib.Omega.{arith}
 use Rattle.bzgrid.specs.Neighbours.{moved}
 use Rattle.list_laws.proofs.SignedLaws.{back, sum-fits}
 use Rattle.list_laws.specs.Lists.{at}
-use Rattle.questions.proofs.GridLaws.{triples-at}
+use Rattle.question_grids.proofs.GridLaws.{triples-at}
 use Rattle.bzgrid.proofs.kernel.moved_by.Statement.{statement}
 use Rattle.bzgrid.proofs.kernel.moved_by.Tie as tie
 

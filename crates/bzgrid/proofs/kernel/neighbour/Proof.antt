@@ -1,7 +1,7 @@
 -- `bzgrid::kernel::neighbour` meets its contract. Assumes nothing.
 use mathlib.Core.Path.{_∙_}
 use Rattle.common.specs.Mesh.{countOf}
-use Rattle.questions.proofs.GridLaws.{addresses-triples}
+use Rattle.question_grids.proofs.GridLaws.{addresses-triples}
 use Rattle.bzgrid.proofs.kernel.neighbour.Statement.{statement}
 use Rattle.bzgrid.proofs.kernel.neighbour.Tie as tie
 

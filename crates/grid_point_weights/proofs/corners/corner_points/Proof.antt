@@ -9,7 +9,7 @@ use Rattle.bzgrid.specs.Neighbours.{wantedAddress}
 use Rattle.grid_point_weights.specs.Weights.{cornerOf}
 use Rattle.list_laws.proofs.FillLaws.{area-next, area-none, length-area}
 use Rattle.list_laws.specs.Lists.{area, at}
-use Rattle.questions.specs.Grids.{triplesIn}
+use Rattle.question_grids.specs.Grids.{triplesIn}
 use Rattle.grid_point_weights.proofs.corners.corner_points.Statement.{statement}
 use Rattle.grid_point_weights.proofs.corners.corner_points.Tie as tie
 

@@ -10,8 +10,8 @@ use Rattle.list_laws.proofs.ColumnLaws.{columns-next, columns-none}
 use Rattle.list_laws.specs.Columns.{BeforeColumn}
 use Rattle.list_laws.specs.Lists.{rows}
 use Rattle.list_laws.specs.Matrix.{Replaced}
-use Rattle.questions.proofs.TableLaws.{corners-whole, rows-most, table-triples}
-use Rattle.questions.specs.Tables.{rowsIn}
+use Rattle.question_grids.proofs.TableLaws.{corners-whole, rows-most, table-triples}
+use Rattle.question_grids.specs.Tables.{rowsIn}
 use Rattle.grid_point_weights.proofs.fill.fill_point.Statement.{statement}
 use Rattle.grid_point_weights.proofs.fill.fill_point.Tie as tie
 

@@ -1,7 +1,7 @@
 -- `sheet_marks::kernel::counts_ok` meets its contract. Assumes nothing.
 use borrow.Author.Needs.{needs}
 use Rattle.list_laws.proofs.SignedLaws.{back}
-use Rattle.questions.specs.Counts.{isBandCount}
+use Rattle.question_values.specs.Counts.{isBandCount}
 use Rattle.sheet_marks.specs.OpenCount.{areCounts}
 use Rattle.sheet_marks.proofs.kernel.counts_ok.Statement.{statement}
 use Rattle.sheet_marks.proofs.kernel.counts_ok.Tie as tie

@@ -5,8 +5,8 @@ use mir.ValLaws.{toZ-ofZ}
 use native.Mathlib.Omega.{arith}
 use Rattle.list_laws.proofs.BoolLaws.{no-of, yes-of}
 use Rattle.list_laws.specs.Lists.{at}
-use Rattle.questions.proofs.TableLaws.{rows-whole, table-some}
-use Rattle.questions.specs.Ask.{firstNo}
+use Rattle.question_grids.proofs.TableLaws.{rows-whole, table-some}
+use Rattle.question_grids.specs.Ask.{firstNo}
 use Rattle.triplet_addresses.proofs.copies.copy_no.Statement.{statement}
 use Rattle.triplet_addresses.proofs.copies.copy_no.Tie as tie
 

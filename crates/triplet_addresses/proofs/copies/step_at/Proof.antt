@@ -3,7 +3,7 @@ use borrow.Author.Needs.{needs}
 use mathlib.Core.Path.{_∙_}
 use Rattle.list_laws.proofs.SignedLaws.{back}
 use Rattle.list_laws.specs.Lists.{at}
-use Rattle.questions.proofs.GridLaws.{triples-at}
+use Rattle.question_grids.proofs.GridLaws.{triples-at}
 use Rattle.triplet_addresses.proofs.copies.step_at.Statement.{statement}
 use Rattle.triplet_addresses.proofs.copies.step_at.Tie as tie
 

@@ -9,7 +9,7 @@ use mir.ValLaws.{toZ-ofZ}
 use Rattle.list_laws.proofs.SignedLaws.{back}
 use Rattle.list_laws.specs.Lists.{at}
 use Rattle.list_laws.specs.Signed.{within}
-use Rattle.questions.proofs.GridLaws.{triples-at}
+use Rattle.question_grids.proofs.GridLaws.{triples-at}
 use Rattle.triplet_addresses.proofs.SumLaws.{three-fit, two-fit}
 use Rattle.triplet_addresses.specs.Normal.{componentSum}
 use Rattle.triplet_addresses.proofs.normal.component_sum.Statement.{statement}

@@ -2,7 +2,7 @@
 use Prim.Native.Nat.{ℕ}
 use borrow.Author.Needs.{needs}
 use native.Mathlib.Omega.{arith}
-use Rattle.questions.specs.Grids.{triplesIn}
+use Rattle.question_grids.specs.Grids.{triplesIn}
 use Rattle.triplet_addresses.proofs.SumLaws.{first-lt, second-lt, third-lt}
 use Rattle.triplet_addresses.specs.Normal.{isNormal}
 use Rattle.triplet_addresses.proofs.normal.is_normal.Statement.{statement}

@@ -4,7 +4,7 @@ use lib.IntN.{pos, ℤ}
 use lib.ListN.{getD}
 use mathlib.Core.Path.{_∙_, ap}
 use Rattle.list_laws.proofs.SignedLaws.{back}
-use Rattle.questions.proofs.GridLaws.{triples-at}
+use Rattle.question_grids.proofs.GridLaws.{triples-at}
 use Rattle.triplet_corners.specs.Corners.{stepOf}
 use Rattle.triplet_corners.proofs.kernel.step_at.Statement.{statement}
 use Rattle.triplet_corners.proofs.kernel.step_at.Tie as tie

@@ -6,9 +6,9 @@ use mir.Syntax.{w64}
 use mir.ValLaws.{toZ-ofZ}
 use native.Mathlib.Omega.{arith}
 use Rattle.list_laws.specs.Lists.{at}
-use Rattle.questions.proofs.AskLaws.{group-no, group-yes}
-use Rattle.questions.specs.Ask.{Question, firstNo}
-use Rattle.questions.specs.Grids.{gridQuestions, triplesIn}
+use Rattle.question_grids.proofs.AskLaws.{group-no, group-yes}
+use Rattle.question_grids.specs.Ask.{Question, firstNo}
+use Rattle.question_grids.specs.Grids.{gridQuestions, triplesIn}
 use Rattle.questions.specs.Studies.{tripletQuestions}
 use Rattle.questions.proofs.kernel.study.study_no.Statement.{statement}
 use Rattle.questions.proofs.kernel.study.study_no.Tie as tie

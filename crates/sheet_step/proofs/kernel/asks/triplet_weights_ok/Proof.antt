@@ -6,7 +6,7 @@ use mathlib.Core.Path.{_∙_, _≡_, ap}
 use native.Mathlib.Omega.{arith}
 use Rattle.list_laws.proofs.BelowLaws.{below-end, below-next, below-none}
 use Rattle.list_laws.specs.Lists.{allBelow, part}
-use Rattle.questions.specs.Averages.{areWeights}
+use Rattle.question_values.specs.Averages.{areWeights}
 use Rattle.sheet_step.proofs.CountLaws.{channel-place, entries-few, few, size-few, triplet-place}
 use Rattle.sheet_step.specs.Steps.{areTripletWeights}
 use Rattle.sheet_step.proofs.kernel.asks.triplet_weights_ok.Statement.{statement}

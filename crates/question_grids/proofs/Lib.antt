@@ -1,0 +1,5 @@
+-- The laws.
+pub mod AskLaws
+pub mod GridLaws
+pub mod StepLaws
+pub mod TableLaws

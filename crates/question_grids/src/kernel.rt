@@ -1,0 +1,4 @@
+// The tests, by what they are about.
+pub mod grid;
+pub mod steps;
+pub mod tables;

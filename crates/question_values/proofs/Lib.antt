@@ -1,0 +1,3 @@
+-- The laws.
+pub mod AverageLaws
+pub mod RowsLaws

@@ -1,0 +1,21 @@
+-- What the count of rows says of the length of a flat list. Assumes nothing.
+use mathlib.Core.Path.{_≡_, refl}
+use mathlib.Core.Bool.{Bool, true, false, _||_}
+use Prim.Native.Nat.{ℕ, _*_, _≤_}
+use native.Mathlib.Omega.{arith}
+use lib.Dec.{eqb}
+use borrow.Author.Tests.{eqb-true}
+use Rattle.list_laws.proofs.BoolLaws.{clash}
+use Rattle.question_values.specs.Rows.{hasRows}
+
+-- a list with a number of rows: the number, at most 96, times the size
+pub rows-in : (size n : ℕ) → hasRows size n ≡ true → (rows : ℕ) × ((rows ≤ 96) × (n ≡ rows * size))
+rows-in size n e = go (eqb n (24 * size)) refl (eqb n (48 * size)) refl (eqb n (72 * size)) refl (eqb n (96 * size)) refl e
+  where
+    go : (a : Bool) → eqb n (24 * size) ≡ a → (b : Bool) → eqb n (48 * size) ≡ b → (c : Bool) → eqb n (72 * size) ≡ c → (d : Bool) → eqb n (96 * size) ≡ d
+        → ((a || b) || (c || d)) ≡ true → (rows : ℕ) × ((rows ≤ 96) × (n ≡ rows * size))
+    go true h b i c j d k e = (24, (omega arith, eqb-true n (24 * size) h))
+    go false h true i c j d k e = (48, (omega arith, eqb-true n (48 * size) i))
+    go false h false i true j d k e = (72, (omega arith, eqb-true n (72 * size) j))
+    go false h false i false j true k e = (96, (omega arith, eqb-true n (96 * size) k))
+    go false h false i false j false k e = clash e

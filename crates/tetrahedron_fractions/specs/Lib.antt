@@ -1,0 +1,4 @@
+-- The definitions.
+pub mod Binary64
+pub mod Branch
+pub mod Fraction
