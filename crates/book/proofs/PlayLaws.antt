@@ -5,32 +5,19 @@ use mathlib.Core.List.{List, [], _∷_, _++_, map, map-append}
 use Prim.Native.Nat.{ℕ, zero, suc, _+_, _*_}
 use native.Mathlib.Numerals.{add-one}
 use native.Mathlib.Omega.{arith}
-use lib.Ieee.{Float}
 use lib.IntN.{ℤ}
 use lib.ListN.{length, replicate}
 use Rattle.list_laws.specs.Lists.{tabulate, fronted}
 use Rattle.list_laws.proofs.FillLaws.{tabulate-ext, front-all}
-use Rattle.question_grids.specs.Ask.{afterCall}
 use Rattle.triplet_study.specs.Given.{Given}
 use Rattle.sheet_step.specs.declared.SheetAnswer.{SheetAnswer}
-use Rattle.sheet_step.specs.Steps.{Sheet, sheet, Call, verdict, effect, step, stepAnswer, sheetAnswer}
+use Rattle.sheet_step.specs.Steps.{Sheet, Call, step, stepAnswer, Did}
 use Rattle.book_claim.specs.Book.{Book, opened, render, turn, booked}
 use Rattle.book_claim.specs.Lists.{played, answers}
-use Rattle.book_claim.proofs.RunLaws.{sheet-same}
 use Rattle.book_claim.proofs.CutLaws.{played-cut, answers-cut, booked-cut}
 use Rattle.book_claim.proofs.Demand3.{demand-3}
 use Rattle.book.specs.Calls.{callAt, callsOf}
-use Rattle.book.specs.Replay.{answerNumber, runsAfter, bookSheet, bookNumbers, bookTallies, talliesFrom}
-
--- ---- the tally that an answer carries
-
-runs-answer : (n : ℕ) (new old : Sheet) → runsAfter (sheetAnswer n (afterCall n new old .tally)) (old .tally) ≡ afterCall n new old .tally
-runs-answer zero new old = refl
-runs-answer (suc n) new old = refl
-
-runs-step : (g : Given) (s : Sheet) (c : Call) → runsAfter (stepAnswer g s c) (s .tally) ≡ step g s c .tally
-unfolding step
-runs-step g s c = runs-answer (verdict g s c) (effect g s c) s
+use Rattle.book.specs.Replay.{answerNumber, bookSheet, bookNumbers, bookTallies, talliesFrom, Replayed, replayed, bookReplay}
 
 -- ---- the first calls
 
@@ -54,25 +41,16 @@ module _ (g : Given) (start : Sheet) (call : ℕ → Call) where
   unfolding tabulate
   after-next i = sym (played-cut g start (tabulate i call) (call i ∷ []))
 
-  -- one call more, as its contract tells what it leaves
-  module _ (i : ℕ) (s : Sheet) (r : SheetAnswer) (e : s ≡ after i) (a : r ≡ stepAnswer g s (call i)) where
-    pub sheet-next : {w : List Float} {f : List ℤ} {m : List ℕ} → w ≡ step g s (call i) .weights → f ≡ step g s (call i) .flags → m ≡ step g s (call i) .marks
-        → sheet w f m (runsAfter r (s .tally)) ≡ after (i + 1)
-    sheet-next ew ef em =
-        sheet-same ew ef em (ap (λ (x : SheetAnswer). runsAfter x (s .tally)) a ∙ runs-step g s (call i))
-        ∙ ap (λ (x : Sheet). step g x (call i)) e
-        ∙ after-next i
-        ∙ ap after (sym (add-one i))
+  -- one call more, as its contract tells what it did
+  module _ (i : ℕ) (s : Sheet) (r : SheetAnswer) (e : s ≡ after i) {left : Sheet} (d : Did g s (call i) r left) where
+    pub sheet-next : left ≡ after (i + 1)
+    sheet-next = d .leaves ∙ ap (λ (x : Sheet). step g x (call i)) e ∙ after-next i ∙ ap after (sym (add-one i))
 
     pub number-next : answerNumber r ≡ numberAfter i
-    number-next = ap answerNumber a ∙ ap (λ (x : Sheet). answerNumber (stepAnswer g x (call i))) e
+    number-next = ap answerNumber (d .answers) ∙ ap (λ (x : Sheet). answerNumber (stepAnswer g x (call i))) e
 
-    pub tally-next : runsAfter r (s .tally) ≡ tallyAfter i
-    tally-next =
-        ap (λ (x : SheetAnswer). runsAfter x (s .tally)) a
-        ∙ runs-step g s (call i)
-        ∙ ap (λ (x : Sheet). step g x (call i) .tally) e
-        ∙ ap (λ (x : Sheet). x .tally) (after-next i)
+    pub tally-next : left .tally ≡ tallyAfter i
+    tally-next = ap (λ (x : Sheet). x .tally) (d .leaves ∙ ap (λ (x : Sheet). step g x (call i)) e ∙ after-next i)
 
   -- ---- all of them
 
@@ -124,3 +102,10 @@ module _ (g : Given) (start : Sheet) (list ids : List ℤ) (n : ℕ) (o : start 
   pub tallies-end : (l : List ℕ) {a : List ℕ} → length l ≡ n → a ≡ fronted n (tallyAfter g start (callAt list ids)) l → a ≡ bookTallies g start (callsOf list ids)
   tallies-end l q e =
       e ∙ front-all (tallyAfter g start (callAt list ids)) l n q ∙ tallies-book g start (callAt list ids) o n ∙ ap (bookTallies g start) calls-are
+
+  -- the three together, as they stand after the last call
+  pub replay-end : {s : Sheet} {a t : List ℕ} (answers tallies : List ℕ) → length answers ≡ n → length tallies ≡ n → s ≡ after g start (callAt list ids) n
+      → a ≡ fronted n (numberAfter g start (callAt list ids)) answers → t ≡ fronted n (tallyAfter g start (callAt list ids)) tallies
+      → replayed s a t ≡ bookReplay g start (callsOf list ids)
+  unfolding bookReplay
+  replay-end answers tallies ka kt es ea et = λ i. replayed (sheet-end es i) (numbers-end answers ka ea i) (tallies-end tallies kt et i)

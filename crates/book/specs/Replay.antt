@@ -1,11 +1,12 @@
 -- What a replay asks itself, and what it leaves: the sheet, the tally and the answers of the book after the whole list of calls.
+use mathlib.Core.Path.{_≡_}
 use mathlib.Core.Bool.{Bool, _&&_}
 use mathlib.Core.List.{List, [], _∷_, map}
 use Prim.Native.Nat.{ℕ, zero, suc, _*_}
 use lib.Dec.{eqb}
 use lib.ListN.{length}
 use Rattle.list_laws.specs.Lists.{allBelow}
-use Rattle.question_grids.specs.Ask.{Question, asks, firstNo}
+use Rattle.question_grids.specs.Ask.{Question, asks, firstNo, afterCall}
 use Rattle.triplet_study.specs.Given.{Given}
 use Rattle.sheet_step.specs.declared.SheetAnswer.{SheetAnswer}
 use Rattle.sheet_step.specs.declared.SheetAnswer.the-variants.{Done, Refused}
@@ -13,7 +14,7 @@ use Rattle.sheet_step.specs.Marks.{isOpenAt}
 use Rattle.sheet_step.specs.Steps.{Sheet, Call}
 use Rattle.book_claim.specs.Book.{Book, opened, render, turn, booked, bookAnswers}
 use Rattle.book.specs.declared.ReplayAnswer.{ReplayAnswer}
-use Rattle.book.specs.declared.ReplayAnswer.the-variants.{Done as Replayed, Refused as NotReplayed}
+use Rattle.book.specs.declared.ReplayAnswer.the-variants.{Done as Replayed′, Refused as NotReplayed}
 
 -- ---- what it asks
 
@@ -57,12 +58,31 @@ talliesFrom g start b (c ∷ calls) = turn g start b c .tally ∷ talliesFrom g 
 abbrev pub bookTallies : Given → Sheet → List Call → List ℕ
 bookTallies g start calls = talliesFrom g start (opened start) calls
 
--- the tally after an answer: that which it carries, and the old one after a refusal
-abbrev pub runsAfter : SheetAnswer → ℕ → ℕ
-runsAfter (Done tally) old = tally .runs
-runsAfter (Refused n) old = old
+-- What a replay leaves: the sheet with the tally, each call's number, and the tally after each call
+pub record Replayed : Type 0 where
+  pub sheet : Sheet
+  pub numbers : List ℕ
+  pub tallies : List ℕ
+
+-- it, from its parts
+abbrev pub replayed : Sheet → List ℕ → List ℕ → Replayed
+replayed sheet numbers tallies = record { sheet = sheet; numbers = numbers; tallies = tallies }
+
+-- what the book says that it leaves
+unfoldable pub bookReplay : Given → Sheet → List Call → Replayed
+bookReplay g start calls = replayed (bookSheet g start calls) (bookNumbers g start calls) (bookTallies g start calls)
 
 -- done with the tally, or refused with the number of the first no
 abbrev pub replayAnswer : ℕ → ℕ → ReplayAnswer
-replayAnswer zero tally = Replayed (record { runs = tally })
+replayAnswer zero tally = Replayed′ (record { runs = tally })
 replayAnswer (suc n) tally = NotReplayed (suc n)
+
+-- the tally after a replay
+abbrev pub replayRuns : ReplayAnswer → ℕ → ℕ
+replayRuns (Replayed′ tally) old = tally .runs
+replayRuns (NotReplayed n) old = old
+
+-- What a replay did: its answer by the number of its first no, and what it left.
+pub record DidReplay (g : Given) (start : Sheet) (calls : List Call) (no : ℕ) (answers tallies : List ℕ) (answer : ReplayAnswer) (left : Replayed) : Type 0 where
+  pub answers-with : answer ≡ replayAnswer no (bookSheet g start calls .tally)
+  pub leaves : left ≡ afterCall no (bookReplay g start calls) (replayed start answers tallies)

@@ -2,10 +2,10 @@
 ghost use mathlib.Core.Path.{_≡_};
 ghost use Prim.Native.Nat.{_+_, _*_, _≤_, _<_};
 ghost use lib.ListN.{length};
-ghost use Rattle.triplet_study.specs.Given.{given};
-ghost use Rattle.sheet_step.specs.Steps.{sheet, step, stepAnswer};
+ghost use Rattle.sheet_step.specs.Lent.{studyIn, sheetIn, sheetOut};
+ghost use Rattle.sheet_step.specs.Steps.{Did, runsAfter};
 ghost use Rattle.book.specs.Calls.{numberAt, isPart, idsFrom, callAt};
-ghost use Rattle.book.specs.Replay.{answerNumber, runsAfter};
+ghost use Rattle.book.specs.Replay.{answerNumber};
 use sheet_marks::Tally;
 use sheet_step::SheetAnswer;
 use triplet_study::Shape;
@@ -58,14 +58,8 @@ pub fn one_call(
     i: usize,
 ) -> SheetAnswer
     requires { ⌜ i * 6 + 6 ≤ length (now list) ⌝ }
-    ensures { λ r. ⌜ r ≡ stepAnswer (given shape (now (addresses .entry)) (now («gp_map» .entry)) (now («relative_grid_address» .entry)) (now (frequencies1 .entry)) (now (frequencies2 .entry)) (now («frequency_points» .entry)) (now (triplets .entry)))
-        (sheet (now (weights .entry)) (now (flags .entry)) (now (marks .entry)) (tally .runs)) (callAt (now (list .entry)) (now (ids .entry)) i) ⌝ }
-    ensures { λ r. ⌜ now (weights .exit) ≡ step (given shape (now (addresses .entry)) (now («gp_map» .entry)) (now («relative_grid_address» .entry)) (now (frequencies1 .entry)) (now (frequencies2 .entry)) (now («frequency_points» .entry)) (now (triplets .entry)))
-        (sheet (now (weights .entry)) (now (flags .entry)) (now (marks .entry)) (tally .runs)) (callAt (now (list .entry)) (now (ids .entry)) i) .weights ⌝ }
-    ensures { λ r. ⌜ now (flags .exit) ≡ step (given shape (now (addresses .entry)) (now («gp_map» .entry)) (now («relative_grid_address» .entry)) (now (frequencies1 .entry)) (now (frequencies2 .entry)) (now («frequency_points» .entry)) (now (triplets .entry)))
-        (sheet (now (weights .entry)) (now (flags .entry)) (now (marks .entry)) (tally .runs)) (callAt (now (list .entry)) (now (ids .entry)) i) .flags ⌝ }
-    ensures { λ r. ⌜ now (marks .exit) ≡ step (given shape (now (addresses .entry)) (now («gp_map» .entry)) (now («relative_grid_address» .entry)) (now (frequencies1 .entry)) (now (frequencies2 .entry)) (now («frequency_points» .entry)) (now (triplets .entry)))
-        (sheet (now (weights .entry)) (now (flags .entry)) (now (marks .entry)) (tally .runs)) (callAt (now (list .entry)) (now (ids .entry)) i) .marks ⌝ }
+    ensures { λ r. ⌜ Did (studyIn shape addresses «gp_map» «relative_grid_address» frequencies1 frequencies2 «frequency_points» triplets)
+        (sheetIn weights flags marks (tally .runs)) (callAt (now (list .entry)) (now (ids .entry)) i) r (sheetOut weights flags marks (runsAfter r (tally .runs))) ⌝ }
 {
     let kind = number(list, i, 0);
     let a = number(list, i, 1);

@@ -27,8 +27,6 @@ use Rattle.tetrahedron_method.specs.declared.WeightAnswer.the-variants as weigh
 use Rattle.sheet_marks.specs.OpenCount.{openAnswer}
 use Rattle.sheet_marks.specs.declared.OpenAnswer.the-variants as count
 use Rattle.sheet_marks.specs.declared.Tally.{Tally}
-use Rattle.book.specs.Replay.{replayAnswer}
-use Rattle.book.specs.declared.ReplayAnswer.the-variants as replay
 
 -- ---- answers that hold nothing but the number of a refusal
 
@@ -97,11 +95,3 @@ normal-done (suc v) n x f old h = absurd (let z : _≡_ {A = ℕ} 0 1 = cc in om
 pub normal-refused : (v : ℕ) (n : Bool) (k : ℕ) (f : Bool → ℕ) (old : ℕ) → is-n.Refused k ≡ isNAnswer v n → (k ≡ v) × (old ≡ afterCall v (f n) old)
 normal-refused zero n k f old h = absurd (let z : _≡_ {A = ℕ} 0 1 = cc in omega arith)
 normal-refused (suc v) n k f old h = (cc, refl)
-
-pub replay-done : (v n : ℕ) (x : Tally) (old : ℕ) → replay.Done x ≡ replayAnswer v n → (0 ≡ v) × (x .runs ≡ afterCall v n old)
-replay-done zero n x old h = (refl, ap (λ (z : Tally). z .runs) (let e : x ≡ record { runs = n } = cc in e))
-replay-done (suc v) n x old h = absurd (let z : _≡_ {A = ℕ} 0 1 = cc in omega arith)
-
-pub replay-refused : (v n k old : ℕ) → replay.Refused k ≡ replayAnswer v n → (k ≡ v) × (old ≡ afterCall v n old)
-replay-refused zero n k old h = absurd (let z : _≡_ {A = ℕ} 0 1 = cc in omega arith)
-replay-refused (suc v) n k old h = (cc, refl)

@@ -4,9 +4,10 @@ ghost use Prim.Native.Nat.{_*_, _+_};
 ghost use lib.ListN.{length};
 ghost use lib.Signed.{mag};
 ghost use Rattle.question_grids.specs.Ask.{firstNo, afterCall};
-ghost use Rattle.triplet_study.specs.Given.{given};
-ghost use Rattle.sheet_step.specs.Steps.{sheet, run, carry, average, step, verdict, tallyQuestions};
+ghost use Rattle.sheet_step.specs.Lent.{studyIn, sheetIn, sheetOut};
+ghost use Rattle.sheet_step.specs.Steps.{run, carry, average, tallyQuestions};
 ghost use Rattle.sheet_marks.specs.OpenCount.{openQuestions, zerosFrom, cellsPerTriplet};
+ghost use Rattle.pelmetsavory.specs.Sheets.{Called};
 use crate::Piece;
 use sheet::Added;
 use sheet::Counts;
@@ -32,16 +33,8 @@ pub extern "C" fn pelmetsavory_run_piece(
     tally: &mut u64,
     piece: Piece,
 ) -> u64
-    ensures { λ r. ⌜ r ≡ verdict (given shape (now (addresses .entry)) (now («gp_map» .entry)) (now («relative_grid_address» .entry)) (now (frequencies1 .entry)) (now (frequencies2 .entry)) (now («frequency_points» .entry)) (now (triplets .entry)))
-        (sheet (now (weights .entry)) (now (flags .entry)) (now (marks .entry)) (now (tally .entry))) (run (piece .triplet) (piece .b1) (piece .b2)) ⌝ }
-    ensures { λ r. ⌜ now (weights .exit) ≡ step (given shape (now (addresses .entry)) (now («gp_map» .entry)) (now («relative_grid_address» .entry)) (now (frequencies1 .entry)) (now (frequencies2 .entry)) (now («frequency_points» .entry)) (now (triplets .entry)))
-        (sheet (now (weights .entry)) (now (flags .entry)) (now (marks .entry)) (now (tally .entry))) (run (piece .triplet) (piece .b1) (piece .b2)) .weights ⌝ }
-    ensures { λ r. ⌜ now (flags .exit) ≡ step (given shape (now (addresses .entry)) (now («gp_map» .entry)) (now («relative_grid_address» .entry)) (now (frequencies1 .entry)) (now (frequencies2 .entry)) (now («frequency_points» .entry)) (now (triplets .entry)))
-        (sheet (now (weights .entry)) (now (flags .entry)) (now (marks .entry)) (now (tally .entry))) (run (piece .triplet) (piece .b1) (piece .b2)) .flags ⌝ }
-    ensures { λ r. ⌜ now (marks .exit) ≡ step (given shape (now (addresses .entry)) (now («gp_map» .entry)) (now («relative_grid_address» .entry)) (now (frequencies1 .entry)) (now (frequencies2 .entry)) (now («frequency_points» .entry)) (now (triplets .entry)))
-        (sheet (now (weights .entry)) (now (flags .entry)) (now (marks .entry)) (now (tally .entry))) (run (piece .triplet) (piece .b1) (piece .b2)) .marks ⌝ }
-    ensures { λ r. ⌜ now (tally .exit) ≡ step (given shape (now (addresses .entry)) (now («gp_map» .entry)) (now («relative_grid_address» .entry)) (now (frequencies1 .entry)) (now (frequencies2 .entry)) (now («frequency_points» .entry)) (now (triplets .entry)))
-        (sheet (now (weights .entry)) (now (flags .entry)) (now (marks .entry)) (now (tally .entry))) (run (piece .triplet) (piece .b1) (piece .b2)) .tally ⌝ }
+    ensures { λ r. ⌜ Called (studyIn shape addresses «gp_map» «relative_grid_address» frequencies1 frequencies2 «frequency_points» triplets)
+        (sheetIn weights flags marks (now (tally .entry))) (run (piece .triplet) (piece .b1) (piece .b2)) r (sheetOut weights flags marks (now (tally .exit))) ⌝ }
 {
     let runs = *tally;
     let before = Tally { runs };
@@ -89,16 +82,8 @@ pub extern "C" fn pelmetsavory_carry_on(
     marks: &mut [u8],
     tally: &mut u64,
 ) -> u64
-    ensures { λ r. ⌜ r ≡ verdict (given shape (now (addresses .entry)) (now («gp_map» .entry)) (now («relative_grid_address» .entry)) (now (frequencies1 .entry)) (now (frequencies2 .entry)) (now («frequency_points» .entry)) (now (triplets .entry)))
-        (sheet (now (weights .entry)) (now (flags .entry)) (now (marks .entry)) (now (tally .entry))) carry ⌝ }
-    ensures { λ r. ⌜ now (weights .exit) ≡ step (given shape (now (addresses .entry)) (now («gp_map» .entry)) (now («relative_grid_address» .entry)) (now (frequencies1 .entry)) (now (frequencies2 .entry)) (now («frequency_points» .entry)) (now (triplets .entry)))
-        (sheet (now (weights .entry)) (now (flags .entry)) (now (marks .entry)) (now (tally .entry))) carry .weights ⌝ }
-    ensures { λ r. ⌜ now (flags .exit) ≡ step (given shape (now (addresses .entry)) (now («gp_map» .entry)) (now («relative_grid_address» .entry)) (now (frequencies1 .entry)) (now (frequencies2 .entry)) (now («frequency_points» .entry)) (now (triplets .entry)))
-        (sheet (now (weights .entry)) (now (flags .entry)) (now (marks .entry)) (now (tally .entry))) carry .flags ⌝ }
-    ensures { λ r. ⌜ now (marks .exit) ≡ step (given shape (now (addresses .entry)) (now («gp_map» .entry)) (now («relative_grid_address» .entry)) (now (frequencies1 .entry)) (now (frequencies2 .entry)) (now («frequency_points» .entry)) (now (triplets .entry)))
-        (sheet (now (weights .entry)) (now (flags .entry)) (now (marks .entry)) (now (tally .entry))) carry .marks ⌝ }
-    ensures { λ r. ⌜ now (tally .exit) ≡ step (given shape (now (addresses .entry)) (now («gp_map» .entry)) (now («relative_grid_address» .entry)) (now (frequencies1 .entry)) (now (frequencies2 .entry)) (now («frequency_points» .entry)) (now (triplets .entry)))
-        (sheet (now (weights .entry)) (now (flags .entry)) (now (marks .entry)) (now (tally .entry))) carry .tally ⌝ }
+    ensures { λ r. ⌜ Called (studyIn shape addresses «gp_map» «relative_grid_address» frequencies1 frequencies2 «frequency_points» triplets)
+        (sheetIn weights flags marks (now (tally .entry))) carry r (sheetOut weights flags marks (now (tally .exit))) ⌝ }
 {
     let runs = *tally;
     let before = Tally { runs };
@@ -143,16 +128,8 @@ pub extern "C" fn pelmetsavory_average_triplet(
     degenerate_ids1: &[i64],
     degenerate_ids2: &[i64],
 ) -> u64
-    ensures { λ r. ⌜ r ≡ verdict (given shape (now (addresses .entry)) (now («gp_map» .entry)) (now («relative_grid_address» .entry)) (now (frequencies1 .entry)) (now (frequencies2 .entry)) (now («frequency_points» .entry)) (now (triplets .entry)))
-        (sheet (now (weights .entry)) (now (flags .entry)) (now (marks .entry)) (now (tally .entry))) (average triplet (now («degenerate_ids1» .entry)) (now («degenerate_ids2» .entry))) ⌝ }
-    ensures { λ r. ⌜ now (weights .exit) ≡ step (given shape (now (addresses .entry)) (now («gp_map» .entry)) (now («relative_grid_address» .entry)) (now (frequencies1 .entry)) (now (frequencies2 .entry)) (now («frequency_points» .entry)) (now (triplets .entry)))
-        (sheet (now (weights .entry)) (now (flags .entry)) (now (marks .entry)) (now (tally .entry))) (average triplet (now («degenerate_ids1» .entry)) (now («degenerate_ids2» .entry))) .weights ⌝ }
-    ensures { λ r. ⌜ now (flags .exit) ≡ step (given shape (now (addresses .entry)) (now («gp_map» .entry)) (now («relative_grid_address» .entry)) (now (frequencies1 .entry)) (now (frequencies2 .entry)) (now («frequency_points» .entry)) (now (triplets .entry)))
-        (sheet (now (weights .entry)) (now (flags .entry)) (now (marks .entry)) (now (tally .entry))) (average triplet (now («degenerate_ids1» .entry)) (now («degenerate_ids2» .entry))) .flags ⌝ }
-    ensures { λ r. ⌜ now (marks .exit) ≡ step (given shape (now (addresses .entry)) (now («gp_map» .entry)) (now («relative_grid_address» .entry)) (now (frequencies1 .entry)) (now (frequencies2 .entry)) (now («frequency_points» .entry)) (now (triplets .entry)))
-        (sheet (now (weights .entry)) (now (flags .entry)) (now (marks .entry)) (now (tally .entry))) (average triplet (now («degenerate_ids1» .entry)) (now («degenerate_ids2» .entry))) .marks ⌝ }
-    ensures { λ r. ⌜ now (tally .exit) ≡ step (given shape (now (addresses .entry)) (now («gp_map» .entry)) (now («relative_grid_address» .entry)) (now (frequencies1 .entry)) (now (frequencies2 .entry)) (now («frequency_points» .entry)) (now (triplets .entry)))
-        (sheet (now (weights .entry)) (now (flags .entry)) (now (marks .entry)) (now (tally .entry))) (average triplet (now («degenerate_ids1» .entry)) (now («degenerate_ids2» .entry))) .tally ⌝ }
+    ensures { λ r. ⌜ Called (studyIn shape addresses «gp_map» «relative_grid_address» frequencies1 frequencies2 «frequency_points» triplets)
+        (sheetIn weights flags marks (now (tally .entry))) (average triplet (now («degenerate_ids1» .entry)) (now («degenerate_ids2» .entry))) r (sheetOut weights flags marks (now (tally .exit))) ⌝ }
 {
     let runs = *tally;
     let before = Tally { runs };

@@ -1,8 +1,7 @@
 // The run sheet: run a named piece, carry on, average a triplet. Weights lie by channel, triplet, point, b1, b2; flags without
 // the channel; marks by triplet, b1, b2.
-ghost use mathlib.Core.Path.{_≡_};
-ghost use Rattle.triplet_study.specs.Given.{given};
-ghost use Rattle.sheet_step.specs.Steps.{sheet, run, carry, average, step, stepAnswer};
+ghost use Rattle.sheet_step.specs.Lent.{studyIn, sheetIn, sheetOut};
+ghost use Rattle.sheet_step.specs.Steps.{run, carry, average, Did, runsAfter};
 pub use sheet_marks::Added;
 pub use sheet_marks::Counts;
 pub use sheet_marks::OpenAnswer;
@@ -31,14 +30,8 @@ pub fn run_piece(
     b1: i64,
     b2: i64,
 ) -> SheetAnswer
-    ensures { λ r. ⌜ r ≡ stepAnswer (given shape (now (addresses .entry)) (now («gp_map» .entry)) (now («relative_grid_address» .entry)) (now (frequencies1 .entry)) (now (frequencies2 .entry)) (now («frequency_points» .entry)) (now (triplets .entry)))
-        (sheet (now (weights .entry)) (now (flags .entry)) (now (marks .entry)) (tally .runs)) (run triplet b1 b2) ⌝ }
-    ensures { λ r. ⌜ now (weights .exit) ≡ step (given shape (now (addresses .entry)) (now («gp_map» .entry)) (now («relative_grid_address» .entry)) (now (frequencies1 .entry)) (now (frequencies2 .entry)) (now («frequency_points» .entry)) (now (triplets .entry)))
-        (sheet (now (weights .entry)) (now (flags .entry)) (now (marks .entry)) (tally .runs)) (run triplet b1 b2) .weights ⌝ }
-    ensures { λ r. ⌜ now (flags .exit) ≡ step (given shape (now (addresses .entry)) (now («gp_map» .entry)) (now («relative_grid_address» .entry)) (now (frequencies1 .entry)) (now (frequencies2 .entry)) (now («frequency_points» .entry)) (now (triplets .entry)))
-        (sheet (now (weights .entry)) (now (flags .entry)) (now (marks .entry)) (tally .runs)) (run triplet b1 b2) .flags ⌝ }
-    ensures { λ r. ⌜ now (marks .exit) ≡ step (given shape (now (addresses .entry)) (now («gp_map» .entry)) (now («relative_grid_address» .entry)) (now (frequencies1 .entry)) (now (frequencies2 .entry)) (now («frequency_points» .entry)) (now (triplets .entry)))
-        (sheet (now (weights .entry)) (now (flags .entry)) (now (marks .entry)) (tally .runs)) (run triplet b1 b2) .marks ⌝ }
+    ensures { λ r. ⌜ Did (studyIn shape addresses «gp_map» «relative_grid_address» frequencies1 frequencies2 «frequency_points» triplets)
+        (sheetIn weights flags marks (tally .runs)) (run triplet b1 b2) r (sheetOut weights flags marks (runsAfter r (tally .runs))) ⌝ }
 {
     let no = sheet_step::kernel::asks::common_no(
         shape,
@@ -110,14 +103,8 @@ pub fn carry_on(
     marks: &mut [u8],
     tally: Tally,
 ) -> SheetAnswer
-    ensures { λ r. ⌜ r ≡ stepAnswer (given shape (now (addresses .entry)) (now («gp_map» .entry)) (now («relative_grid_address» .entry)) (now (frequencies1 .entry)) (now (frequencies2 .entry)) (now («frequency_points» .entry)) (now (triplets .entry)))
-        (sheet (now (weights .entry)) (now (flags .entry)) (now (marks .entry)) (tally .runs)) carry ⌝ }
-    ensures { λ r. ⌜ now (weights .exit) ≡ step (given shape (now (addresses .entry)) (now («gp_map» .entry)) (now («relative_grid_address» .entry)) (now (frequencies1 .entry)) (now (frequencies2 .entry)) (now («frequency_points» .entry)) (now (triplets .entry)))
-        (sheet (now (weights .entry)) (now (flags .entry)) (now (marks .entry)) (tally .runs)) carry .weights ⌝ }
-    ensures { λ r. ⌜ now (flags .exit) ≡ step (given shape (now (addresses .entry)) (now («gp_map» .entry)) (now («relative_grid_address» .entry)) (now (frequencies1 .entry)) (now (frequencies2 .entry)) (now («frequency_points» .entry)) (now (triplets .entry)))
-        (sheet (now (weights .entry)) (now (flags .entry)) (now (marks .entry)) (tally .runs)) carry .flags ⌝ }
-    ensures { λ r. ⌜ now (marks .exit) ≡ step (given shape (now (addresses .entry)) (now («gp_map» .entry)) (now («relative_grid_address» .entry)) (now (frequencies1 .entry)) (now (frequencies2 .entry)) (now («frequency_points» .entry)) (now (triplets .entry)))
-        (sheet (now (weights .entry)) (now (flags .entry)) (now (marks .entry)) (tally .runs)) carry .marks ⌝ }
+    ensures { λ r. ⌜ Did (studyIn shape addresses «gp_map» «relative_grid_address» frequencies1 frequencies2 «frequency_points» triplets)
+        (sheetIn weights flags marks (tally .runs)) carry r (sheetOut weights flags marks (runsAfter r (tally .runs))) ⌝ }
 {
     let no = sheet_step::kernel::asks::common_no(
         shape,
@@ -181,14 +168,8 @@ pub fn average_triplet(
     degenerate_ids1: &[i64],
     degenerate_ids2: &[i64],
 ) -> SheetAnswer
-    ensures { λ r. ⌜ r ≡ stepAnswer (given shape (now (addresses .entry)) (now («gp_map» .entry)) (now («relative_grid_address» .entry)) (now (frequencies1 .entry)) (now (frequencies2 .entry)) (now («frequency_points» .entry)) (now (triplets .entry)))
-        (sheet (now (weights .entry)) (now (flags .entry)) (now (marks .entry)) (tally .runs)) (average triplet (now («degenerate_ids1» .entry)) (now («degenerate_ids2» .entry))) ⌝ }
-    ensures { λ r. ⌜ now (weights .exit) ≡ step (given shape (now (addresses .entry)) (now («gp_map» .entry)) (now («relative_grid_address» .entry)) (now (frequencies1 .entry)) (now (frequencies2 .entry)) (now («frequency_points» .entry)) (now (triplets .entry)))
-        (sheet (now (weights .entry)) (now (flags .entry)) (now (marks .entry)) (tally .runs)) (average triplet (now («degenerate_ids1» .entry)) (now («degenerate_ids2» .entry))) .weights ⌝ }
-    ensures { λ r. ⌜ now (flags .exit) ≡ step (given shape (now (addresses .entry)) (now («gp_map» .entry)) (now («relative_grid_address» .entry)) (now (frequencies1 .entry)) (now (frequencies2 .entry)) (now («frequency_points» .entry)) (now (triplets .entry)))
-        (sheet (now (weights .entry)) (now (flags .entry)) (now (marks .entry)) (tally .runs)) (average triplet (now («degenerate_ids1» .entry)) (now («degenerate_ids2» .entry))) .flags ⌝ }
-    ensures { λ r. ⌜ now (marks .exit) ≡ step (given shape (now (addresses .entry)) (now («gp_map» .entry)) (now («relative_grid_address» .entry)) (now (frequencies1 .entry)) (now (frequencies2 .entry)) (now («frequency_points» .entry)) (now (triplets .entry)))
-        (sheet (now (weights .entry)) (now (flags .entry)) (now (marks .entry)) (tally .runs)) (average triplet (now («degenerate_ids1» .entry)) (now («degenerate_ids2» .entry))) .marks ⌝ }
+    ensures { λ r. ⌜ Did (studyIn shape addresses «gp_map» «relative_grid_address» frequencies1 frequencies2 «frequency_points» triplets)
+        (sheetIn weights flags marks (tally .runs)) (average triplet (now («degenerate_ids1» .entry)) (now («degenerate_ids2» .entry))) r (sheetOut weights flags marks (runsAfter r (tally .runs))) ⌝ }
 {
     let no = sheet_step::kernel::asks::common_no(
         shape,

@@ -26,7 +26,7 @@ use Rattle.sheet_marks.specs.declared.Added.{Added}
 use Rattle.sheet_marks.specs.declared.Added.the-variants.{To, Refused as Full}
 use Rattle.sheet_marks.specs.Tallies.{addedTo}
 use Rattle.sheet_step.specs.declared.SheetAnswer.the-variants.{Done, Refused}
-use Rattle.sheet_step.specs.Steps.{Sheet, Call, countsOf, Counted, areSheetLengths, isPiece, areIdLists, isRoom, sheetQuestions, pieceQuestions, averageQuestions, tallyQuestions, ownQuestions, verdict, effect, step, sheetAnswer, stepAnswer}
+use Rattle.sheet_step.specs.Steps.{Sheet, sheet, Call, Did, countsOf, Counted, areSheetLengths, isPiece, areIdLists, isRoom, sheetQuestions, pieceQuestions, averageQuestions, tallyQuestions, ownQuestions, verdict, effect, step, sheetAnswer, stepAnswer}
 use Rattle.sheet_step.proofs.CountLaws.{counted}
 
 -- a yes to all is a yes to each group
@@ -91,16 +91,12 @@ module _ (g : Given) (s : Sheet) (c : Call) where
   unfolding step
   refused-sheet n e h = after-refused (verdict g s c) (effect g s c) s (λ z. h (sym e ∙ z))
 
-  -- what a refused call answers and leaves
-  pub refused-call : (n : ℕ) → verdict g s c ≡ n → (n ≡ 0 → ⊥)
-      → (Refused n ≡ stepAnswer g s c) × ((s .weights ≡ step g s c .weights) × ((s .flags ≡ step g s c .flags) × (s .marks ≡ step g s c .marks)))
-  refused-call n e h =
-      let k : s ≡ step g s c = refused-sheet n e h in
-      (refused-answer n e h, (ap (λ (x : Sheet). x .weights) k, (ap (λ (x : Sheet). x .flags) k, ap (λ (x : Sheet). x .marks) k)))
+  -- what a refused call did
+  pub refused-call : (n : ℕ) → verdict g s c ≡ n → (n ≡ 0 → ⊥) → Did g s c (Refused n) s
+  refused-call n e h = record { answers = refused-answer n e h; leaves = refused-sheet n e h }
 
   -- a call that one of 3 to 13 refuses
-  pub common-refused : (n : ℕ) → n ≡ firstNo commonOf → (n ≡ 0 → ⊥)
-      → (Refused n ≡ stepAnswer g s c) × ((s .weights ≡ step g s c .weights) × ((s .flags ≡ step g s c .flags) × (s .marks ≡ step g s c .marks)))
+  pub common-refused : (n : ℕ) → n ≡ firstNo commonOf → (n ≡ 0 → ⊥) → Did g s c (Refused n) s
   common-refused n e h = refused-call n (verdict-common (λ z. h (e ∙ z)) ∙ sym e) h
 
   -- ---- an accepted call
@@ -114,13 +110,10 @@ module _ (g : Given) (s : Sheet) (c : Call) where
       ap (λ (k : ℕ). Done (record { runs = k })) (h ∙ ap (λ (x : Sheet). x .tally) (done-sheet e))
       ∙ ap (λ (k : ℕ). sheetAnswer k (step g s c .tally)) (sym e)
 
-  -- what an accepted call answers and leaves
+  -- what an accepted call did
   pub done-call : (t : Tally) (w : List Float) (f : List ℤ) (m : List ℕ) → verdict g s c ≡ 0 → t .runs ≡ effect g s c .tally
-      → w ≡ effect g s c .weights → f ≡ effect g s c .flags → m ≡ effect g s c .marks
-      → (Done t ≡ stepAnswer g s c) × ((w ≡ step g s c .weights) × ((f ≡ step g s c .flags) × (m ≡ step g s c .marks)))
-  done-call t w f m e h ew ef em =
-      let k : effect g s c ≡ step g s c = done-sheet e in
-      (done-answer t e h, (ew ∙ ap (λ (x : Sheet). x .weights) k, (ef ∙ ap (λ (x : Sheet). x .flags) k, em ∙ ap (λ (x : Sheet). x .marks) k)))
+      → w ≡ effect g s c .weights → f ≡ effect g s c .flags → m ≡ effect g s c .marks → Did g s c (Done t) (sheet w f m (t .runs))
+  done-call t w f m e h ew ef em = record { answers = done-answer t e h; leaves = (λ i. sheet (ew i) (ef i) (em i) (h i)) ∙ done-sheet e }
 
 -- ---- question 20, by the answer of the tally
 

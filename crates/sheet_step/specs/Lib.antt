@@ -1,3 +1,4 @@
 -- The definitions that the contracts cite.
 pub mod Marks
 pub mod Steps
+pub mod Lent

@@ -178,3 +178,13 @@ sheetAnswer (suc n) tally = Refused (suc n)
 -- the answer of a call
 abbrev pub stepAnswer : Given → Sheet → Call → SheetAnswer
 stepAnswer g s c = sheetAnswer (verdict g s c) (step g s c .tally)
+
+-- the tally after an answer: that which it carries, and the old one after a refusal
+abbrev pub runsAfter : SheetAnswer → ℕ → ℕ
+runsAfter (Done tally) old = tally .runs
+runsAfter (Refused n) old = old
+
+-- What a call did: its answer, and the sheet that it left.
+pub record Did (g : Given) (s : Sheet) (c : Call) (answer : SheetAnswer) (left : Sheet) : Type 0 where
+  pub answers : answer ≡ stepAnswer g s c
+  pub leaves : left ≡ step g s c

@@ -3,10 +3,10 @@ use Prim.Native.Nat.{ℕ}
 use borrow.Author.Needs.{needs}
 use lib.ListN.{length}
 use mathlib.Core.List.{List}
-use mathlib.Core.Path.{_∙_, _≡_, sym}
+use mathlib.Core.Path.{_∙_, _≡_, ap, sym}
 use Rattle.book.proofs.ReplayLaws.{answer-done, answer-refused, replay-yes}
 use Rattle.book.specs.Calls.{callsOf}
-use Rattle.book.specs.Replay.{bookNumbers, bookSheet, bookTallies, replayNo}
+use Rattle.book.specs.Replay.{Replayed, bookReplay, bookSheet, replayNo, replayed}
 use Rattle.question_grids.proofs.AskLaws.{after-done, after-refused}
 use Rattle.sheet_step.specs.Steps.{Call, Sheet, sheet}
 use Rattle.triplet_study.specs.Given.{Given, given}
@@ -41,7 +41,10 @@ returns : tie.Need-returns
 returns c =
     let s : _ = c .before .before .before .before .before .before .before .before .before .before .before .before in
     let r : no s ≡ 0 → ⊥ = λ z. c .if1 .taken (c .before .replay-no .ensures ∙ z) in
-    (rw (c .before .replay-no .ensures) (answer-refused (no s) ((bookSheet (asked s) (start s) (calls s)) .tally) r), (after-refused (no s) ((bookSheet (asked s) (start s) (calls s)) .weights) (s .args .weights .now) r, (after-refused (no s) ((bookSheet (asked s) (start s) (calls s)) .flags) (s .args .flags .now) r, (after-refused (no s) ((bookSheet (asked s) (start s) (calls s)) .marks) (s .args .marks .now) r, (after-refused (no s) (bookNumbers (asked s) (start s) (calls s)) (s .args .answers .now) r, (after-refused (no s) (bookTallies (asked s) (start s) (calls s)) (s .args .tallies .now) r))))))
+    record {
+      answers-with = rw (c .before .replay-no .ensures) (answer-refused (no s) (bookSheet (asked s) (start s) (calls s) .tally) r);
+      leaves = after-refused (no s) (bookReplay (asked s) (start s) (calls s)) (replayed (start s) (s .args .answers .now) (s .args .tallies .now)) r;
+    }
 
 play-requires : tie.Need-play-requires
 play-requires c κs =
@@ -65,10 +68,14 @@ same-length-8 : tie.Need-same-length-8
 same-length-8 c = search needs
 
 returns-2 : tie.Need-returns-2
+unfolding bookReplay
 returns-2 c =
     let s : _ = c .before .before .before .before .before .before .before .before .before .before .before .before .before .before .before .before .before .before .before .before .before .before .before .before .before .before .before in
     let y : no s ≡ 0 = sym (c .before .before .before .before .before .before .before .before .before .before .before .before .before .before .before .before .replay-no .ensures) ∙ c .before .before .before .before .before .before .before .before .before .before .before .before .before .before .before .if1 .left in
-    (answer-done (no s) ((bookSheet (asked s) (start s) (calls s)) .tally) (c .before .before .before .before .before .before .before .before .before .play .result) y (c .before .before .before .before .before .before .before .before .before .play .ensures .0), (c .before .before .before .before .before .before .before .before .before .play .ensures .1 .0 ∙ after-done (no s) ((bookSheet (asked s) (start s) (calls s)) .weights) (s .args .weights .now) y, (c .before .before .before .before .before .before .before .before .before .play .ensures .1 .1 .0 ∙ after-done (no s) ((bookSheet (asked s) (start s) (calls s)) .flags) (s .args .flags .now) y, (c .before .before .before .before .before .before .before .before .before .play .ensures .1 .1 .1 .0 ∙ after-done (no s) ((bookSheet (asked s) (start s) (calls s)) .marks) (s .args .marks .now) y, (c .before .before .before .before .before .before .before .before .before .play .ensures .1 .1 .1 .1 .0 ∙ after-done (no s) (bookNumbers (asked s) (start s) (calls s)) (s .args .answers .now) y, (c .before .before .before .before .before .before .before .before .before .play .ensures .1 .1 .1 .1 .1 ∙ after-done (no s) (bookTallies (asked s) (start s) (calls s)) (s .args .tallies .now) y))))))
+    record {
+      answers-with = answer-done (no s) (bookSheet (asked s) (start s) (calls s) .tally) (c .before .before .before .before .before .before .before .before .before .play .result) y (ap (λ (x : Replayed). x .sheet .tally) (c .before .before .before .before .before .before .before .before .before .play .ensures));
+      leaves = c .before .before .before .before .before .before .before .before .before .play .ensures ∙ after-done (no s) (bookReplay (asked s) (start s) (calls s)) (replayed (start s) (s .args .answers .now) (s .args .tallies .now)) y;
+    }
 
 pub replay-spec : {M : Type 1} → statement M
 replay-spec =

@@ -4,7 +4,7 @@ use borrow.Author.Needs.{needs}
 use lib.ListN.{length, length-set}
 use mathlib.Core.Path.{_∙_, _≡_, ap, refl}
 use native.Mathlib.Omega.{arith}
-use Rattle.book.proofs.PlayLaws.{after, after-none, number-next, numberAfter, numbers-end, sheet-end, sheet-next, tallies-end, tally-next, tallyAfter}
+use Rattle.book.proofs.PlayLaws.{after, after-none, number-next, numberAfter, replay-end, sheet-next, tally-next, tallyAfter}
 use Rattle.book.specs.Calls.{callAt}
 use Rattle.list_laws.proofs.FillLaws.{front-next, front-none}
 use Rattle.list_laws.specs.Lists.{fronted}
@@ -97,7 +97,6 @@ loop-less c =
 loop-again : tie.Need-loop-again Inv-loop μ-loop
 loop-again c =
     let v = c .before .before .before .before .before .before .before .before .before .before .before .before .loop .inv in let at-i : c .before .before .before .before .before .before .before .before .before .before .before .before .loop .i < length (c .before .before .before .before .before .before .before .before .before .before .before .before .before .before .before .before .before .before .before .before .args .answers .now) = omega (arith, v .4, c .before .before .before .before .before .before .before .before .before .before .before .loop-test .taken) in
-    let d = c .before .before .before .before .before .before .before .one-call .ensures in
     let k = c .before .before .before .before .before .before .before .one-call .kept in (
       omega (arith, at-i),
       k .1 .1 .1 .1 .1 .1 .1 .1 .0 ∙ v .1,
@@ -105,9 +104,9 @@ loop-again c =
       k .1 .1 .1 .1 .1 .1 .1 .1 .1 .1 .0 ∙ v .3,
       simp length-set (v .4),
       simp length-set (v .5),
-      rw (c .before .tally-after .ensures) (sheet-next (asked (c .before .before .before .before .before .before .before .before .before .before .before .before .before .before .before .before .before .before .before .before)) (start (c .before .before .before .before .before .before .before .before .before .before .before .before .before .before .before .before .before .before .before .before)) (call (c .before .before .before .before .before .before .before .before .before .before .before .before .before .before .before .before .before .before .before .before)) (c .before .before .before .before .before .before .before .before .before .before .before .before .loop .i) (sheet (c .before .before .before .before .before .before .before .before .before .before .before .before .loop .weights) (c .before .before .before .before .before .before .before .before .before .before .before .before .loop .flags) (c .before .before .before .before .before .before .before .before .before .before .before .before .loop .marks) (c .before .before .before .before .before .before .before .before .before .before .before .before .loop .runs)) (c .before .before .before .before .before .before .before .one-call .result) (v .6) (c .before .before .before .before .before .before .before .one-call .ensures .0) (d .1 .0) (d .1 .1 .0) (d .1 .1 .1)),
-      rw (v .7) (front-next (numberAfter (asked (c .before .before .before .before .before .before .before .before .before .before .before .before .before .before .before .before .before .before .before .before)) (start (c .before .before .before .before .before .before .before .before .before .before .before .before .before .before .before .before .before .before .before .before)) (call (c .before .before .before .before .before .before .before .before .before .before .before .before .before .before .before .before .before .before .before .before))) (c .before .before .before .before .before .before .before .before .before .before .before .before .before .before .before .before .before .before .before .before .args .answers .now) (c .before .before .before .before .before .before .before .before .before .before .before .before .loop .i) (c .number-of .result) at-i (c .number-of .ensures ∙ number-next (asked (c .before .before .before .before .before .before .before .before .before .before .before .before .before .before .before .before .before .before .before .before)) (start (c .before .before .before .before .before .before .before .before .before .before .before .before .before .before .before .before .before .before .before .before)) (call (c .before .before .before .before .before .before .before .before .before .before .before .before .before .before .before .before .before .before .before .before)) (c .before .before .before .before .before .before .before .before .before .before .before .before .loop .i) (sheet (c .before .before .before .before .before .before .before .before .before .before .before .before .loop .weights) (c .before .before .before .before .before .before .before .before .before .before .before .before .loop .flags) (c .before .before .before .before .before .before .before .before .before .before .before .before .loop .marks) (c .before .before .before .before .before .before .before .before .before .before .before .before .loop .runs)) (c .before .before .before .before .before .before .before .one-call .result) (v .6) (c .before .before .before .before .before .before .before .one-call .ensures .0))),
-      rw (v .8) (front-next (tallyAfter (asked (c .before .before .before .before .before .before .before .before .before .before .before .before .before .before .before .before .before .before .before .before)) (start (c .before .before .before .before .before .before .before .before .before .before .before .before .before .before .before .before .before .before .before .before)) (call (c .before .before .before .before .before .before .before .before .before .before .before .before .before .before .before .before .before .before .before .before))) (c .before .before .before .before .before .before .before .before .before .before .before .before .before .before .before .before .before .before .before .before .args .tallies .now) (c .before .before .before .before .before .before .before .before .before .before .before .before .loop .i) (c .before .tally-after .result) (omega (arith, at-i, c .before .before .before .before .before .before .before .before .before .before .before .before .before .before .before .before .before .before .before .before .pre .1 .0)) (c .before .tally-after .ensures ∙ tally-next (asked (c .before .before .before .before .before .before .before .before .before .before .before .before .before .before .before .before .before .before .before .before)) (start (c .before .before .before .before .before .before .before .before .before .before .before .before .before .before .before .before .before .before .before .before)) (call (c .before .before .before .before .before .before .before .before .before .before .before .before .before .before .before .before .before .before .before .before)) (c .before .before .before .before .before .before .before .before .before .before .before .before .loop .i) (sheet (c .before .before .before .before .before .before .before .before .before .before .before .before .loop .weights) (c .before .before .before .before .before .before .before .before .before .before .before .before .loop .flags) (c .before .before .before .before .before .before .before .before .before .before .before .before .loop .marks) (c .before .before .before .before .before .before .before .before .before .before .before .before .loop .runs)) (c .before .before .before .before .before .before .before .one-call .result) (v .6) (c .before .before .before .before .before .before .before .one-call .ensures .0))),
+      rw (c .before .tally-after .ensures) (sheet-next (asked (c .before .before .before .before .before .before .before .before .before .before .before .before .before .before .before .before .before .before .before .before)) (start (c .before .before .before .before .before .before .before .before .before .before .before .before .before .before .before .before .before .before .before .before)) (call (c .before .before .before .before .before .before .before .before .before .before .before .before .before .before .before .before .before .before .before .before)) (c .before .before .before .before .before .before .before .before .before .before .before .before .loop .i) (sheet (c .before .before .before .before .before .before .before .before .before .before .before .before .loop .weights) (c .before .before .before .before .before .before .before .before .before .before .before .before .loop .flags) (c .before .before .before .before .before .before .before .before .before .before .before .before .loop .marks) (c .before .before .before .before .before .before .before .before .before .before .before .before .loop .runs)) (c .before .before .before .before .before .before .before .one-call .result) (v .6) (c .before .before .before .before .before .before .before .one-call .ensures)),
+      rw (v .7) (front-next (numberAfter (asked (c .before .before .before .before .before .before .before .before .before .before .before .before .before .before .before .before .before .before .before .before)) (start (c .before .before .before .before .before .before .before .before .before .before .before .before .before .before .before .before .before .before .before .before)) (call (c .before .before .before .before .before .before .before .before .before .before .before .before .before .before .before .before .before .before .before .before))) (c .before .before .before .before .before .before .before .before .before .before .before .before .before .before .before .before .before .before .before .before .args .answers .now) (c .before .before .before .before .before .before .before .before .before .before .before .before .loop .i) (c .number-of .result) at-i (c .number-of .ensures ∙ number-next (asked (c .before .before .before .before .before .before .before .before .before .before .before .before .before .before .before .before .before .before .before .before)) (start (c .before .before .before .before .before .before .before .before .before .before .before .before .before .before .before .before .before .before .before .before)) (call (c .before .before .before .before .before .before .before .before .before .before .before .before .before .before .before .before .before .before .before .before)) (c .before .before .before .before .before .before .before .before .before .before .before .before .loop .i) (sheet (c .before .before .before .before .before .before .before .before .before .before .before .before .loop .weights) (c .before .before .before .before .before .before .before .before .before .before .before .before .loop .flags) (c .before .before .before .before .before .before .before .before .before .before .before .before .loop .marks) (c .before .before .before .before .before .before .before .before .before .before .before .before .loop .runs)) (c .before .before .before .before .before .before .before .one-call .result) (v .6) (c .before .before .before .before .before .before .before .one-call .ensures))),
+      rw (v .8) (front-next (tallyAfter (asked (c .before .before .before .before .before .before .before .before .before .before .before .before .before .before .before .before .before .before .before .before)) (start (c .before .before .before .before .before .before .before .before .before .before .before .before .before .before .before .before .before .before .before .before)) (call (c .before .before .before .before .before .before .before .before .before .before .before .before .before .before .before .before .before .before .before .before))) (c .before .before .before .before .before .before .before .before .before .before .before .before .before .before .before .before .before .before .before .before .args .tallies .now) (c .before .before .before .before .before .before .before .before .before .before .before .before .loop .i) (c .before .tally-after .result) (omega (arith, at-i, c .before .before .before .before .before .before .before .before .before .before .before .before .before .before .before .before .before .before .before .before .pre .1 .0)) (c .before .tally-after .ensures ∙ tally-next (asked (c .before .before .before .before .before .before .before .before .before .before .before .before .before .before .before .before .before .before .before .before)) (start (c .before .before .before .before .before .before .before .before .before .before .before .before .before .before .before .before .before .before .before .before)) (call (c .before .before .before .before .before .before .before .before .before .before .before .before .before .before .before .before .before .before .before .before)) (c .before .before .before .before .before .before .before .before .before .before .before .before .loop .i) (sheet (c .before .before .before .before .before .before .before .before .before .before .before .before .loop .weights) (c .before .before .before .before .before .before .before .before .before .before .before .before .loop .flags) (c .before .before .before .before .before .before .before .before .before .before .before .before .loop .marks) (c .before .before .before .before .before .before .before .before .before .before .before .before .loop .runs)) (c .before .before .before .before .before .before .before .one-call .result) (v .6) (c .before .before .before .before .before .before .before .one-call .ensures))),
     )
 
 same-length : tie.Need-same-length Inv-loop μ-loop
@@ -132,21 +131,10 @@ same-length-5 c =
 
 returns : tie.Need-returns Inv-loop μ-loop
 returns c =
+    let s : _ = c .before .before .before .before .before .before .before .before .before in
     let v = c .before .loop .inv in
-    let e : length (c .before .before .before .before .before .before .before .before .before .args .answers .now) ≡ c .before .loop .i = omega (arith, v .0, v .4, c .loop-test .left) in
-    let s = sheet-end (asked (c .before .before .before .before .before .before .before .before .before)) (start (c .before .before .before .before .before .before .before .before .before)) (c .before .before .before .before .before .before .before .before .before .args .list .now) (c .before .before .before .before .before .before .before .before .before .args .ids .now) (c .before .loop .i) (c .before .before .before .before .before .before .before .before .before .pre .1 .1) (omega (arith, e, c .before .before .before .before .before .before .before .before .before .pre .0)) (v .6) in (
-      ap (λ (x : Sheet). x .tally) s,
-      (
-        ap (λ (x : Sheet). x .weights) s,
-        (
-          ap (λ (x : Sheet). x .flags) s,
-          (
-            ap (λ (x : Sheet). x .marks) s,
-            (numbers-end (asked (c .before .before .before .before .before .before .before .before .before)) (start (c .before .before .before .before .before .before .before .before .before)) (c .before .before .before .before .before .before .before .before .before .args .list .now) (c .before .before .before .before .before .before .before .before .before .args .ids .now) (c .before .loop .i) (c .before .before .before .before .before .before .before .before .before .pre .1 .1) (omega (arith, e, c .before .before .before .before .before .before .before .before .before .pre .0)) (c .before .before .before .before .before .before .before .before .before .args .answers .now) e (v .7), tallies-end (asked (c .before .before .before .before .before .before .before .before .before)) (start (c .before .before .before .before .before .before .before .before .before)) (c .before .before .before .before .before .before .before .before .before .args .list .now) (c .before .before .before .before .before .before .before .before .before .args .ids .now) (c .before .loop .i) (c .before .before .before .before .before .before .before .before .before .pre .1 .1) (omega (arith, e, c .before .before .before .before .before .before .before .before .before .pre .0)) (c .before .before .before .before .before .before .before .before .before .args .tallies .now) (c .before .before .before .before .before .before .before .before .before .pre .1 .0 ∙ e) (v .8)),
-          ),
-        ),
-      ),
-    )
+    let e : length (s .args .answers .now) ≡ c .before .loop .i = omega (arith, v .0, v .4, c .loop-test .left) in
+    replay-end (asked s) (start s) (s .args .list .now) (s .args .ids .now) (c .before .loop .i) (s .pre .1 .1) (omega (arith, e, s .pre .0)) (s .args .answers .now) (s .args .tallies .now) e (s .pre .1 .0 ∙ e) (v .6) (v .7) (v .8)
 
 pub play-spec : {M : Type 1} → statement M
 play-spec =

@@ -1,7 +1,6 @@
 -- `pelmetsavory::replaying::pelmetsavory_replay` meets its contract: what the replay ensures, as status and tally. Assumes nothing.
 use borrow.Author.Needs.{needs}
-use mathlib.Core.Path.{_∙_, sym}
-use Rattle.pelmetsavory.proofs.StatusLaws.{replay-done, replay-refused}
+use Rattle.pelmetsavory.proofs.SheetLaws.{replay-done, replay-refused}
 use Rattle.pelmetsavory.proofs.replaying.pelmetsavory_replay.Statement.{statement}
 use Rattle.pelmetsavory.proofs.replaying.pelmetsavory_replay.Tie as tie
 
@@ -31,9 +30,7 @@ same-length-5 c = search needs
 
 returns : tie.Need-returns
 returns c =
-    let h : _ = c .before .before .before .before .before .before .before .before .before .before .before .before .replay .ensures in
-    let d : _ = replay-done _ _ _ _ (sym (c .before .after .given .1) ∙ h .0) in
-    (d .0, (h .1 .0, (h .1 .1 .0, (h .1 .1 .1 .0, (d .1, h .1 .1 .1 .1)))))
+    replay-done _ _ _ _ _ _ _ _ _ _ _ _ (c .before .before .before .before .before .before .before .before .before .before .before .before .replay .ensures) _ (c .before .after .given .1)
 
 same-length-6 : tie.Need-same-length-6
 same-length-6 c = search needs
@@ -52,9 +49,7 @@ same-length-10 c = search needs
 
 returns-2 : tie.Need-returns-2
 returns-2 c =
-    let h : _ = c .before .before .before .before .before .before .before .before .before .before .before .before .replay .ensures in
-    let n : _ = replay-refused _ _ _ _ (sym (c .before .number .given .1) ∙ h .0) in
-    (n .0, (h .1 .0, (h .1 .1 .0, (h .1 .1 .1 .0, (n .1, h .1 .1 .1 .1)))))
+    replay-refused _ _ _ _ _ _ _ _ _ _ _ _ (c .before .before .before .before .before .before .before .before .before .before .before .before .replay .ensures) _ (c .before .number .given .1)
 
 pub pelmetsavory-replay-spec : {M : Type 1} → statement M
 pelmetsavory-replay-spec =
