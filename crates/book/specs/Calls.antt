@@ -1,5 +1,5 @@
 -- The calls that a list of numbers encodes, six numbers a call: its kind, then five arguments. Every number decodes to some call.
-use mathlib.Core.Bool.{Bool, _&&_}
+use mathlib.Core.Bool.{Bool, _&&_, cond}
 use mathlib.Core.List.{List, []}
 use Prim.Native.Nat.{ℕ, _+_, _-_, _*_, _/_}
 use lib.Dec.{leb}
@@ -7,7 +7,6 @@ use lib.IntN.{ℤ}
 use lib.ListN.{length}
 use lib.Signed.{nonNeg, mag}
 use Rattle.list_laws.specs.Lists.{at, part, tabulate}
-use Rattle.list_laws.specs.Patch.{pick}
 use Rattle.list_laws.specs.Signed.{isNat}
 use Rattle.sheet_step.specs.Steps.{Call, run, carry, average}
 
@@ -21,12 +20,12 @@ isPart ids start end = ((nonNeg start && nonNeg end) && leb (mag start) (mag end
 
 -- the ids from a start to an end; a bad part is the empty list
 unfoldable pub idsFrom : List ℤ → ℤ → ℤ → List ℤ
-idsFrom ids start end = pick (isPart ids start end) (part (mag start) (mag end - mag start) ids) []
+idsFrom ids start end = cond (isPart ids start end) (part (mag start) (mag end - mag start) ids) []
 
 -- kind 0 runs a piece (triplet, b1, b2), kind 1 carries on, any other kind averages (triplet, then the start and the end of the first and
 -- of the second id list)
 unfoldable pub callOf : List ℤ → ℤ → ℤ → ℤ → ℤ → ℤ → ℤ → Call
-callOf ids kind a b c d e = pick (isNat kind 0) (run a b c) (pick (isNat kind 1) carry (average a (idsFrom ids b c) (idsFrom ids d e)))
+callOf ids kind a b c d e = cond (isNat kind 0) (run a b c) (cond (isNat kind 1) carry (average a (idsFrom ids b c) (idsFrom ids d e)))
 
 -- call i of the list
 unfoldable pub callAt : List ℤ → List ℤ → ℕ → Call

@@ -1,6 +1,6 @@
 -- A list of calls and the word of one piece, from any book: averaged words stay, who has run it, who has averaged it. Assumes nothing.
 use mathlib.Core.Path.{_≡_, refl, sym, ap, _∙_}
-use mathlib.Core.Bool.{Bool, true, false, not, _&&_, _||_}
+use mathlib.Core.Bool.{Bool, true, false, not, _&&_, _||_, cond}
 use mathlib.Core.List.{List, [], _∷_}
 use Prim.Native.Nat.{ℕ, zero, suc, _+_, _/_, _<_}
 use native.Mathlib.Omega.{arith}
@@ -9,7 +9,6 @@ use lib.IntN.{ℤ}
 use lib.ListN.{length}
 use lib.Signed.{mag}
 use borrow.Author.Tests.{eqb-true}
-use Rattle.list_laws.specs.Patch.{pick}
 use Rattle.list_laws.proofs.BoolLaws.{clash}
 use Rattle.list_laws.proofs.PatchLaws.{getD-patch}
 use Rattle.list_laws.specs.Lists.{oneIf}
@@ -91,7 +90,7 @@ module _ (g : Given) (start : Sheet) where
       lists t j1 j2 f w =
           same-lists t j1 j2 ids1 ids2
           (sym (getD-patch (λ q. eqb (q / countsOf g .pairs) (mag t)) (λ q. averagedBy j1 j2) (b .words) q fresh h
-          ∙ ap (λ (u : Bool). pick u (averagedBy j1 j2) (wordAt b q)) f) ∙ w)
+          ∙ ap (λ (u : Bool). cond u (averagedBy j1 j2) (wordAt b q)) f) ∙ w)
 
       at-average : (t : ℤ) (j1 j2 : List ℤ) → bookNo g start b (average t j1 j2) ≡ 0 → (u : Bool) → eqb (q / countsOf g .pairs) (mag t) ≡ u → oneIf u ≡ 1
           → wordAt (writes g b (average t j1 j2)) q ≡ averagedBy ids1 ids2

@@ -1,13 +1,12 @@
 -- A list cut anywhere and carried on is the list; a list of refused calls leaves the sheet; a carry-on leaves no piece open. Assumes nothing.
 use mathlib.Core.Path.{_≡_, refl, sym, ap, subst, _∙_}
-use mathlib.Core.Bool.{Bool, true, false}
+use mathlib.Core.Bool.{Bool, true, false, cond}
 use mathlib.Core.List.{List, [], _∷_, _++_}
 use Prim.Native.Nat.{ℕ, zero, suc, _<_}
 use native.Mathlib.Omega.{arith}
 use lib.Dec.{eqb}
 use lib.ListN.{length, getD}
 use borrow.Author.Tests.{eqb-false}
-use Rattle.list_laws.specs.Patch.{pick}
 use Rattle.list_laws.proofs.MapLaws.{getD-map-lt}
 use Rattle.triplet_study.specs.Given.{Given}
 use Rattle.sheet_step.specs.declared.SheetAnswer.{SheetAnswer}
@@ -55,7 +54,7 @@ module _ (g : Given) where
   closed-not-open : (m : ℕ) → closed m ≡ 0 → ⊥
   closed-not-open m = go (eqb m 0) refl
     where
-      go : (u : Bool) → eqb m 0 ≡ u → pick u 1 m ≡ 0 → ⊥
+      go : (u : Bool) → eqb m 0 ≡ u → cond u 1 m ≡ 0 → ⊥
       go true e z = omega arith
       go false e z = eqb-false m 0 e z
 

@@ -1,11 +1,11 @@
 -- `eachEntry f l`: its length and entries, and what a patch makes of it. Lists that are mapped. Assumes nothing.
 use mathlib.Core.Path.{_≡_, refl, ap}
-use mathlib.Core.Bool.{Bool}
+use mathlib.Core.Bool.{Bool, cond}
 use mathlib.Core.List.{List, [], _∷_}
 use Prim.Native.Nat.{ℕ, zero, suc, _<_, suc-le-suc}
 use native.Mathlib.Nat.{le-of-suc-le-suc, not-suc-le-zero, zero-lt-suc}
 use lib.ListN.{length, getD}
-use Rattle.list_laws.specs.Patch.{pick, patch}
+use Rattle.list_laws.specs.Patch.{patch}
 use Rattle.book_claim.specs.Book.{eachEntry}
 
 module _ {A : Type 0} where
@@ -28,7 +28,7 @@ module _ {A : Type 0} where
 
   -- some entries of such a list replaced: again such a list
   pub patch-each : (own : ℕ → Bool) (new : ℕ → A) (f f′ : ℕ → A → A) (l : List A)
-      → ((i : ℕ) → i < length l → (x : A) → pick (own i) (new i) (f i x) ≡ f′ i x) → patch own new (eachEntry f l) ≡ eachEntry f′ l
+      → ((i : ℕ) → i < length l → (x : A) → cond (own i) (new i) (f i x) ≡ f′ i x) → patch own new (eachEntry f l) ≡ eachEntry f′ l
   unfolding eachEntry patch
   patch-each own new f f′ [] h = refl
   patch-each own new f f′ (x ∷ xs) h =

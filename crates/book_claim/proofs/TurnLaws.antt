@@ -1,6 +1,6 @@
 -- One call and the word of one piece: an averaged word stays; an open one is run, or stays open; who averages. Assumes nothing.
 use mathlib.Core.Path.{_≡_, refl, sym, ap, _∙_}
-use mathlib.Core.Bool.{Bool, true, false, not, _&&_}
+use mathlib.Core.Bool.{Bool, true, false, not, _&&_, cond}
 use mathlib.Core.List.{List, map}
 use Prim.Native.Nat.{ℕ, zero, suc, _+_, _*_, _/_, _%_, _<_}
 use native.Mathlib.Nat.{div-add-mod', mod-lt}
@@ -12,7 +12,6 @@ use lib.ListN.{length, getD, set, length-set, length-map}
 use lib.Seq.{getD-set-same, getD-set-other}
 use lib.Signed.{mag}
 use borrow.Author.Tests.{eqb-true, eqb-false, eq-eqb, not-true}
-use Rattle.list_laws.specs.Patch.{pick}
 use Rattle.list_laws.proofs.BelowLaws.{below-at}
 use Rattle.list_laws.proofs.BoolLaws.{and-right, clash}
 use Rattle.list_laws.proofs.PatchLaws.{length-patch, getD-patch}
@@ -124,7 +123,7 @@ module _ (g : Given) (start : Sheet) (b : Book) where
     average-turn t ids1 ids2 e z =
         ap (λ (n : ℕ). wordAt (afterCall n (writes g b (average t ids1 ids2)) b) q) z
         ∙ getD-patch (λ q. eqb (q / countsOf g .pairs) (mag t)) (λ q. averagedBy ids1 ids2) (b .words) q fresh h
-        ∙ ap (λ (u : Bool). pick u (averagedBy ids1 ids2) (wordAt b q)) (eq-eqb (q / countsOf g .pairs) (mag t) e)
+        ∙ ap (λ (u : Bool). cond u (averagedBy ids1 ids2) (wordAt b q)) (eq-eqb (q / countsOf g .pairs) (mag t) e)
 
     -- ---- an averaged word stays
 
@@ -138,7 +137,7 @@ module _ (g : Given) (start : Sheet) (b : Book) where
         at-run t b1 b2 a false e = getD-set-other (b .words) (pieceOf (countsOf g) t b1 b2) q computed fresh (eqb-false q (pieceOf (countsOf g) t b1 b2) e)
 
         at-average : (t : ℤ) (ids1 ids2 : List ℤ) → Accepted g (render g start b) (average t ids1 ids2) → (u : Bool) → eqb (q / countsOf g .pairs) (mag t) ≡ u
-            → pick u (averagedBy ids1 ids2) (wordAt b q) ≡ wordAt b q
+            → cond u (averagedBy ids1 ids2) (wordAt b q) ≡ wordAt b q
         at-average t ids1 ids2 a true e = clash (sym (ap isAveraged (average-computed t ids1 ids2 a (eqb-true (q / countsOf g .pairs) (mag t) e))) ∙ av)
         at-average t ids1 ids2 a false e = refl
 
@@ -169,7 +168,7 @@ module _ (g : Given) (start : Sheet) (b : Book) where
         at-run t b1 b2 a false e = ap isAveraged (sym (getD-set-other (b .words) (pieceOf (countsOf g) t b1 b2) q computed fresh (eqb-false q (pieceOf (countsOf g) t b1 b2) e)))
 
         at-average : (t : ℤ) (ids1 ids2 : List ℤ) → Accepted g (render g start b) (average t ids1 ids2) → (u : Bool) → eqb (q / countsOf g .pairs) (mag t) ≡ u
-            → oneIf (isAveraged (wordAt b q)) + oneIf u ≡ oneIf (isAveraged (pick u (averagedBy ids1 ids2) (wordAt b q)))
+            → oneIf (isAveraged (wordAt b q)) + oneIf u ≡ oneIf (isAveraged (cond u (averagedBy ids1 ids2) (wordAt b q)))
         at-average t ids1 ids2 a true e = rw (average-computed t ids1 ids2 a (eqb-true (q / countsOf g .pairs) (mag t) e))
         at-average t ids1 ids2 a false e = none (isAveraged (wordAt b q))
 
@@ -198,7 +197,7 @@ module _ (g : Given) (start : Sheet) (b : Book) where
             ap isOpen (getD-set-other (b .words) (pieceOf (countsOf g) t b1 b2) q computed fresh (eqb-false q (pieceOf (countsOf g) t b1 b2) e)) ∙ and-true (isOpen (wordAt b q))
 
         at-average : (t : ℤ) (ids1 ids2 : List ℤ) → Accepted g (render g start b) (average t ids1 ids2) → (u : Bool) → eqb (q / countsOf g .pairs) (mag t) ≡ u
-            → isOpen (pick u (averagedBy ids1 ids2) (wordAt b q)) ≡ isOpen (wordAt b q)
+            → isOpen (cond u (averagedBy ids1 ids2) (wordAt b q)) ≡ isOpen (wordAt b q)
         at-average t ids1 ids2 a true e = sym (ap isOpen (average-computed t ids1 ids2 a (eqb-true (q / countsOf g .pairs) (mag t) e)))
         at-average t ids1 ids2 a false e = refl
 

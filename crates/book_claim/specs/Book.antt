@@ -1,6 +1,6 @@
 -- The book of demand 3. It is fed the study, the sheet and tally at the start, and of each call its kind and its arguments apart from
 -- sheet and tally; no answer, and nothing that the program keeps later.
-use mathlib.Core.Bool.{Bool, true, false}
+use mathlib.Core.Bool.{Bool, true, false, cond}
 use mathlib.Core.List.{List, [], _∷_, map}
 use Prim.Native.Nat.{ℕ, zero, suc, _+_, _*_, _/_, _%_}
 use lib.Dec.{eqb}
@@ -9,7 +9,7 @@ use lib.IntN.{ℤ}
 use lib.ListN.{length, getD, set, replicate}
 use lib.Signed.{mag}
 use Rattle.list_laws.specs.Lists.{tabulate, countBelow}
-use Rattle.list_laws.specs.Patch.{pick, patch}
+use Rattle.list_laws.specs.Patch.{patch}
 use Rattle.question_grids.specs.Ask.{afterCall}
 use Rattle.triplet_piece.specs.Layout.{pieceAt}
 use Rattle.triplet_piece.specs.Study.{weightAt, flagAt}
@@ -115,7 +115,7 @@ openWords words = countBelow (length words) (λ q. isOpen (getD words q computed
 
 -- "each open piece becomes computed"
 abbrev pub carried : Word → Word
-carried word = pick (isOpen word) computed word
+carried word = cond (isOpen word) computed word
 
 -- What an accepted call writes.
 -- "Running a piece: its word becomes computed, the tally goes up by one."

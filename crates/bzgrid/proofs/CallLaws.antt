@@ -5,7 +5,6 @@ use mathlib.Core.List.{List}
 use Prim.Native.Nat.{ℕ, zero, suc}
 use native.Mathlib.Omega.{arith}
 use lib.IntN.{ℤ}
-use Rattle.list_laws.specs.Patch.{pick}
 use Rattle.list_laws.specs.Signed.{isNat}
 use Rattle.common.specs.Mesh.{countOf, meshOf}
 use Rattle.question_grids.specs.Ask.{firstNo, AllYes, Numbered}
@@ -17,7 +16,7 @@ use Rattle.bzgrid.specs.declared.NeighbourAnswer.the-variants.{Filled, R
 use Rattle.bzgrid.specs.Neighbours.{kindOf, gridOf, mapFits, SoundGrid}
 use Rattle.bzgrid.specs.Calls.{neighbourAnswer}
 
-fits-by : (b : Bool) (n p : ℕ) (map : List ℤ) → cond b (isSparseMap n p map) (isDenseMap n p map) ≡ true → mapFits (pick b Sparse Dense) n p map ≡ true
+fits-by : (b : Bool) (n p : ℕ) (map : List ℤ) → cond b (isSparseMap n p map) (isDenseMap n p map) ≡ true → mapFits (cond b Sparse Dense) n p map ≡ true
 fits-by true n p map e = e
 fits-by false n p map e = e
 

@@ -8,7 +8,6 @@ use lib.IntN.{ℤ, pos, _+ℤ_}
 use lib.ListN.{length}
 use lib.Signed.{mag}
 use Rattle.list_laws.specs.Lists.{at, firstAt, tabulate, rows}
-use Rattle.list_laws.specs.Patch.{pick}
 use Rattle.list_laws.specs.Signed.{eqZ, isNat}
 use Rattle.common.specs.declared.Address.{Address}
 use Rattle.common.specs.declared.Mesh.{Mesh}
@@ -21,7 +20,7 @@ use Rattle.bzgrid.specs.declared.BzGrid.{BzGrid}
 
 -- the kind that a tested number names: 1 or 2
 unfoldable pub kindOf : ℤ → GridKind
-kindOf kind = pick (isNat kind 1) Sparse Dense
+kindOf kind = cond (isNat kind 1) Sparse Dense
 
 -- the grid that tested numbers name
 unfoldable pub gridOf : ℤ → List ℤ → BzGrid

@@ -1,5 +1,5 @@
 -- A lattice times a whole vector, and the questions on both.
-use mathlib.Core.Bool.{Bool, _&&_}
+use mathlib.Core.Bool.{Bool, _&&_, cond}
 use mathlib.Core.List.{List, [], _∷_}
 use Prim.Native.Nat.{ℕ}
 use lib.IntN.{ℤ}
@@ -7,7 +7,6 @@ use lib.ListN.{getD}
 use lib.Ieee.{Float, nan, binary64, ofBits, ofInt, le, add, mul}
 use Rattle.ieee_laws.specs.Zeros.{zeroF}
 use Rattle.list_laws.specs.Lists.{at}
-use Rattle.list_laws.specs.Patch.{pick}
 use Rattle.list_laws.specs.Signed.{within}
 use Rattle.ieee_laws.specs.Magnitude.{absolute}
 use Rattle.common.specs.declared.MatvecAnswer.{MatvecAnswer}
@@ -50,6 +49,6 @@ matvecOf a b = rowTimes (rowAt a 0) b ∷ rowTimes (rowAt a 1) b ∷ rowTimes (r
 -- The answer of `matvec_di`: refused with 2 for the lattice, with 7 for the vector, beside zeros; otherwise the product.
 unfoldable pub matvecAnswer : List (List Float) → List ℤ → MatvecAnswer
 matvecAnswer a b =
-    pick (isLattice a)
-    (pick (isVector b) (record { refused = 0; vector = matvecOf a b }) (record { refused = 7; vector = zeroF ∷ zeroF ∷ zeroF ∷ [] }))
+    cond (isLattice a)
+    (cond (isVector b) (record { refused = 0; vector = matvecOf a b }) (record { refused = 7; vector = zeroF ∷ zeroF ∷ zeroF ∷ [] }))
     (record { refused = 2; vector = zeroF ∷ zeroF ∷ zeroF ∷ [] })

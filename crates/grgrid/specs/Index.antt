@@ -1,9 +1,9 @@
 -- The grid index of an address.
+use mathlib.Core.Bool.{cond}
 use mathlib.Core.List.{List}
 use Prim.Native.Nat.{ℕ, _+_, _*_}
 use lib.IntN.{ℤ, pos}
 use Rattle.list_laws.specs.Lists.{at}
-use Rattle.list_laws.specs.Patch.{pick}
 use Rattle.list_laws.specs.Signed.{remEuclid}
 use Rattle.common.specs.declared.Address.{Address}
 use Rattle.common.specs.declared.Mesh.{Mesh}
@@ -22,4 +22,4 @@ gridIndex a m = remEuclid (a .z) (m .d2) * (m .d0 * m .d1) + remEuclid (a .y) (m
 
 -- The answer: refused with 4 where a mesh number is not from 1 to 256, otherwise the index.
 unfoldable pub indexAnswer : List ℤ → List ℤ → IndexAnswer
-indexAnswer address diag = pick (isMesh 256 diag) (Index (pos (gridIndex (addressOf address) (meshOf diag)))) (Refused 4)
+indexAnswer address diag = cond (isMesh 256 diag) (Index (pos (gridIndex (addressOf address) (meshOf diag)))) (Refused 4)

@@ -1,6 +1,6 @@
 -- A status in place of an answer that is picked by a question or two. Assumes nothing.
 use mathlib.Core.Path.{_≡_, refl, sym, ap, _∙_}
-use mathlib.Core.Bool.{Bool, true, false}
+use mathlib.Core.Bool.{Bool, true, false, cond}
 use mathlib.Core.List.{List, [], _∷_}
 use Prim.Native.Nat.{ℕ, _+_, _^_}
 use native.Mathlib.Omega.{arith}
@@ -9,7 +9,6 @@ use lib.Ieee.{Float}
 use lib.IntN.{ℤ, pos}
 use lib.ListN.{replicate}
 use Rattle.ieee_laws.specs.Zeros.{zeroF}
-use Rattle.list_laws.specs.Patch.{pick}
 use Rattle.common.specs.Matrix.{isLattice, isVector, matvecOf, matvecAnswer}
 use Rattle.common.specs.Mesh.{meshOf}
 use Rattle.common.specs.declared.MatvecAnswer.{MatvecAnswer}
@@ -34,12 +33,12 @@ use Rattle.pelmetsavory.specs.Calls.{indexQuestions, latticeQuestions, m
 
 -- ---- the grid index
 
-index-in : (b : Bool) (i x old : ℤ) → index.Index x ≡ pick b (index.Index i) (index.Refused 4) → (0 ≡ firstNo (asks 4 b ∷ [])) × (x ≡ afterCall (firstNo (asks 4 b ∷ [])) i old)
+index-in : (b : Bool) (i x old : ℤ) → index.Index x ≡ cond b (index.Index i) (index.Refused 4) → (0 ≡ firstNo (asks 4 b ∷ [])) × (x ≡ afterCall (firstNo (asks 4 b ∷ [])) i old)
 unfolding firstNo
 index-in true i x old h = (refl, cc)
 index-in false i x old h = absurd (let z : _≡_ {A = ℕ} 0 1 = cc in omega arith)
 
-index-no : (b : Bool) (i : ℤ) (k : ℕ) (old : ℤ) → index.Refused k ≡ pick b (index.Index i) (index.Refused 4) → (k ≡ firstNo (asks 4 b ∷ [])) × (old ≡ afterCall (firstNo (asks 4 b ∷ [])) i old)
+index-no : (b : Bool) (i : ℤ) (k : ℕ) (old : ℤ) → index.Refused k ≡ cond b (index.Index i) (index.Refused 4) → (k ≡ firstNo (asks 4 b ∷ [])) × (old ≡ afterCall (firstNo (asks 4 b ∷ [])) i old)
 unfolding firstNo
 index-no true i k old h = absurd (let z : _≡_ {A = ℕ} 0 1 = cc in omega arith)
 index-no false i k old h = (cc, refl)
@@ -55,12 +54,12 @@ module _ (a d : List ℤ) (old : ℤ) where
 
 -- ---- the type of a triplet
 
-type-in : (b : Bool) (t x : TpType) (f : TpType → ℕ) (old : ℕ) → type.Known x ≡ pick b (type.Known t) (type.Refused 8) → (0 ≡ firstNo (asks 8 b ∷ [])) × (f x ≡ afterCall (firstNo (asks 8 b ∷ [])) (f t) old)
+type-in : (b : Bool) (t x : TpType) (f : TpType → ℕ) (old : ℕ) → type.Known x ≡ cond b (type.Known t) (type.Refused 8) → (0 ≡ firstNo (asks 8 b ∷ [])) × (f x ≡ afterCall (firstNo (asks 8 b ∷ [])) (f t) old)
 unfolding firstNo
 type-in true t x f old h = (refl, ap f (let e : x ≡ t = cc in e))
 type-in false t x f old h = absurd (let z : _≡_ {A = ℕ} 0 1 = cc in omega arith)
 
-type-no : (b : Bool) (t : TpType) (k : ℕ) (f : TpType → ℕ) (old : ℕ) → type.Refused k ≡ pick b (type.Known t) (type.Refused 8) → (k ≡ firstNo (asks 8 b ∷ [])) × (old ≡ afterCall (firstNo (asks 8 b ∷ [])) (f t) old)
+type-no : (b : Bool) (t : TpType) (k : ℕ) (f : TpType → ℕ) (old : ℕ) → type.Refused k ≡ cond b (type.Known t) (type.Refused 8) → (k ≡ firstNo (asks 8 b ∷ [])) × (old ≡ afterCall (firstNo (asks 8 b ∷ [])) (f t) old)
 unfolding firstNo
 type-no true t k f old h = absurd (let z : _≡_ {A = ℕ} 0 1 = cc in omega arith)
 type-no false t k f old h = (cc, refl)
@@ -76,12 +75,12 @@ module _ (z : ℤ) (f : TpType → ℕ) (old : ℕ) where
 
 -- ---- the tally
 
-add-in : (b : Bool) (n old : ℕ) (x : Tally) → added.To x ≡ pick b (added.To (record { runs = n })) (added.Refused 20) → (0 ≡ firstNo (asks 20 b ∷ [])) × (x .runs ≡ afterCall (firstNo (asks 20 b ∷ [])) n old)
+add-in : (b : Bool) (n old : ℕ) (x : Tally) → added.To x ≡ cond b (added.To (record { runs = n })) (added.Refused 20) → (0 ≡ firstNo (asks 20 b ∷ [])) × (x .runs ≡ afterCall (firstNo (asks 20 b ∷ [])) n old)
 unfolding firstNo
 add-in true n old x h = (refl, ap (λ (y : Tally). y .runs) (let e : x ≡ record { runs = n } = cc in e))
 add-in false n old x h = absurd (let z : _≡_ {A = ℕ} 0 1 = cc in omega arith)
 
-add-no : (b : Bool) (n old k : ℕ) → added.Refused k ≡ pick b (added.To (record { runs = n })) (added.Refused 20) → (k ≡ firstNo (asks 20 b ∷ [])) × (old ≡ afterCall (firstNo (asks 20 b ∷ [])) n old)
+add-no : (b : Bool) (n old k : ℕ) → added.Refused k ≡ cond b (added.To (record { runs = n })) (added.Refused 20) → (k ≡ firstNo (asks 20 b ∷ [])) × (old ≡ afterCall (firstNo (asks 20 b ∷ [])) n old)
 unfolding firstNo
 add-no true n old k h = absurd (let z : _≡_ {A = ℕ} 0 1 = cc in omega arith)
 add-no false n old k h = (cc, refl)
@@ -98,7 +97,7 @@ module _ (t runs : ℕ) where
 -- ---- the choice of a table
 
 table-in : (b : Bool) (i : ℕ) (new zeros : List ℤ) (t : TableAnswer)
-    → t ≡ pick b (record { refused = 0; index = i; table = new }) (record { refused = 2; index = 0; table = zeros })
+    → t ≡ cond b (record { refused = 0; index = i; table = new }) (record { refused = 2; index = 0; table = zeros })
     → (t .refused ≡ firstNo (asks 2 b ∷ [])) × (t .refused ≡ 0 → (t .table ≡ new) × (t .index ≡ i))
 unfolding firstNo
 table-in true i new zeros t h = (ap (λ (x : TableAnswer). x .refused) h, λ e. (ap (λ (x : TableAnswer). x .table) h, ap (λ (x : TableAnswer). x .index) h))
@@ -130,7 +129,7 @@ module _ (a : List (List Float)) (t : TableAnswer) (h : t ≡ tableAnswer a) (ol
 -- ---- a lattice times a vector
 
 matvec-in : (b d : Bool) (new zeros : List Float) (t : MatvecAnswer)
-    → t ≡ pick b (pick d (record { refused = 0; vector = new }) (record { refused = 7; vector = zeros })) (record { refused = 2; vector = zeros })
+    → t ≡ cond b (cond d (record { refused = 0; vector = new }) (record { refused = 7; vector = zeros })) (record { refused = 2; vector = zeros })
     → (t .refused ≡ firstNo (asks 2 b ∷ asks 7 d ∷ [])) × (t .refused ≡ 0 → t .vector ≡ new)
 unfolding firstNo
 matvec-in true true new zeros t h = (ap (λ (x : MatvecAnswer). x .refused) h, λ e. ap (λ (x : MatvecAnswer). x .vector) h)

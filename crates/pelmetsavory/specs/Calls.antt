@@ -1,11 +1,10 @@
 -- The questions of calls that ask one or two, in the form of a status, and what two numbers of a foreign caller name.
-use mathlib.Core.Bool.{Bool}
+use mathlib.Core.Bool.{Bool, cond}
 use mathlib.Core.List.{List, [], _∷_}
 use Prim.Native.Nat.{ℕ}
 use lib.Dec.{eqb}
 use lib.Ieee.{Float}
 use lib.IntN.{ℤ}
-use Rattle.list_laws.specs.Patch.{pick}
 use Rattle.common.specs.Matrix.{isLattice, isVector}
 use Rattle.question_grids.specs.Ask.{Question, asks}
 use Rattle.question_grids.specs.Grids.{isMesh}
@@ -15,11 +14,11 @@ use Rattle.tetrahedron_method.specs.declared.WeightFunction.the-variants.{I, J}
 
 -- the letter I (73) names I; any other byte names J, as the source has it: "non-'I' branch: piecewise J"
 unfoldable pub functionOf : ℕ → WeightFunction
-functionOf letter = pick (eqb letter 73) I J
+functionOf letter = cond (eqb letter 73) I J
 
 -- 1 for yes, 0 for no
 abbrev pub oneOf : Bool → ℕ
-oneOf b = pick b 1 0
+oneOf b = cond b 1 0
 
 -- the grid index: "Is each mesh number .. (the grid index alone: 1 to 256, its address any)? No: 4."
 abbrev pub indexQuestions : List ℤ → List Question

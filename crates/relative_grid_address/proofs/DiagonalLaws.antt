@@ -1,12 +1,11 @@
 -- The main diagonals are small vectors, and one turn of the search for the least length. Assumes nothing.
 use mathlib.Core.Path.{_≡_, refl}
-use mathlib.Core.Bool.{Bool, true, false}
+use mathlib.Core.Bool.{Bool, true, false, cond}
 use mathlib.Core.List.{[]}
 use Prim.Native.Nat.{ℕ, zero, suc, _+_, _-_, _≤_, _<_}
 use native.Mathlib.Omega.{arith}
 use lib.ListN.{getD}
 use lib.Ieee.{Float, lt}
-use Rattle.list_laws.specs.Patch.{pick}
 use Rattle.list_laws.specs.Signed.{within}
 use Rattle.common.specs.Matrix.{isVector}
 use Rattle.relative_grid_address.specs.Diagonal.{mainDiagonals, lengthOf, leastUpTo, mainDiagonalOf}
@@ -47,7 +46,7 @@ module _ (length : ℕ → Float) where
   least-le zero = omega arith
   least-le (suc n) = go (lt (length (suc n)) (length (leastUpTo length n))) (least-le n)
     where
-      go : (b : Bool) → leastUpTo length n ≤ n → pick b (suc n) (leastUpTo length n) ≤ suc n
+      go : (b : Bool) → leastUpTo length n ≤ n → cond b (suc n) (leastUpTo length n) ≤ suc n
       go true h = omega arith
       go false h = omega arith
 

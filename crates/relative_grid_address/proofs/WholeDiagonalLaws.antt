@@ -1,6 +1,6 @@
 -- A lattice of whole entries up to 2^20 in magnitude: the four float lengths are the exact whole squares, and the main diagonal that is picked is the truly shortest, the first on a tie. Assumes nothing.
 use mathlib.Core.Path.{_≡_, refl, ap}
-use mathlib.Core.Bool.{true, false, _&&_}
+use mathlib.Core.Bool.{true, false, _&&_, cond}
 use mathlib.Core.List.{[], _∷_}
 use mathlib.Core.Logic.{⊎-elim}
 use Prim.Native.Nat.{ℕ, zero, suc, _+_, _*_, _^_, _≤_, _<_}
@@ -12,7 +12,6 @@ use lib.IntN.{ℤ, pos, negsuc, natAbs, _+ℤ_, _*ℤ_}
 use lib.ListN.{getD}
 use lib.Ieee.{Float, binary64, prec, fin, ofBits, ofInt, add, mul, lt}
 use Rattle.list_laws.specs.Lists.{at}
-use Rattle.list_laws.specs.Patch.{pick}
 use Rattle.list_laws.proofs.BoolLaws.{lt-or-le, lt-eq-gt, and-both}
 use Rattle.list_laws.proofs.SizeLaws.{size-sum, size-product}
 use Rattle.ieee_laws.specs.Whole.{Whole}
@@ -116,7 +115,7 @@ module _ (length : ℕ → Float) (size : ℕ → ℕ) where
           rw (h (suc n) (omega arith) .0, h p g .0)
           (whole-lt binary64 (whole-of binary64 (pos (size (suc n)))) (whole-of binary64 (pos (size p))) (h (suc n) (omega arith) .1) (h p g .1))
 
-      go : (p : ℕ) → FirstShortest (suc n) size p → FirstShortest (suc (suc n)) size (pick (lt (length (suc n)) (length p)) (suc n) p)
+      go : (p : ℕ) → FirstShortest (suc n) size p → FirstShortest (suc (suc n)) size (cond (lt (length (suc n)) (length p)) (suc n) p)
       go p w =
           ⊎-elim
           (λ g.

@@ -1,10 +1,10 @@
 -- The main diagonals of the unit cell and the one that is shortest in a reciprocal lattice.
+use mathlib.Core.Bool.{cond}
 use mathlib.Core.List.{List, [], _∷_}
 use Prim.Native.Nat.{ℕ, zero, suc}
 use lib.IntN.{ℤ, pos, negsuc}
 use lib.ListN.{getD}
 use lib.Ieee.{Float, nan, binary64, add, mul, lt}
-use Rattle.list_laws.specs.Patch.{pick}
 use Rattle.common.specs.Matrix.{matvecOf}
 
 -- the four main diagonals: 0-7, 1-6, 2-5 and 3-4 of the cell's eight vertices
@@ -33,7 +33,7 @@ lengthOf a i = normSquared (matvecOf a (getD mainDiagonals i []))
 unfoldable pub leastUpTo : (ℕ → Float) → ℕ → ℕ
 unfolding lt
 leastUpTo length zero = 0
-leastUpTo length (suc n) = pick (lt (length (suc n)) (length (leastUpTo length n))) (suc n) (leastUpTo length n)
+leastUpTo length (suc n) = cond (lt (length (suc n)) (length (leastUpTo length n))) (suc n) (leastUpTo length n)
 
 -- "The diagonal with least `norm_squared` picks the table, the first on a tie."
 unfoldable pub mainDiagonalOf : List (List Float) → ℕ

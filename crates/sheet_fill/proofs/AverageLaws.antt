@@ -1,6 +1,6 @@
 -- The averages of a triplet as groups of rows: one for each channel, and one of the flags. Assumes nothing.
 use mathlib.Core.Path.{_≡_, refl, sym, ap, _∙_}
-use mathlib.Core.Bool.{Bool, true, false}
+use mathlib.Core.Bool.{Bool, true, false, cond}
 use mathlib.Core.List.{List, _++_}
 use Prim.Native.Nat.{ℕ, _+_, _-_, _*_, _/_, _%_, _≤_, _<_}
 use native.Mathlib.Nat.{mod-lt, div-lt-iff-lt-mul, add-mul, mul-assoc, one-le-mul}
@@ -13,7 +13,6 @@ use lib.ListN.{length, take, drop}
 use borrow.Author.Tests.{lt-ltb}
 use Rattle.list_laws.specs.Lists.{part}
 use Rattle.list_laws.specs.Matrix.{eachPart}
-use Rattle.list_laws.specs.Patch.{pick}
 use Rattle.list_laws.proofs.PatchLaws.{length-patch, patch-ext}
 use Rattle.list_laws.proofs.StrideLaws.{strided}
 use Rattle.list_laws.specs.Groups.{groupMade}
@@ -84,7 +83,7 @@ module _ (z : Sizes) (h : Counted z) (ids1 ids2 : List ℤ) (same : z .bands1 �
       patch-ext (λ i. strided (z .triplets) t c (i / z .pairs / z .points)) _ (λ i. eqb (tripletAt (z .points) (z .pairs) (i % z .cells)) t) _ l
       (λ i k x. let s : strided (z .triplets) t c (i / z .pairs / z .points) ≡ eqb (tripletAt (z .points) (z .pairs) (i % z .cells)) t = go i (rw e at k) in rw s)
     where
-      flat : (u : Bool) → pick u true false ≡ u
+      flat : (u : Bool) → cond u true false ≡ u
       flat true = refl
       flat false = refl
 

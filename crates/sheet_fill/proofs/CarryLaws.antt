@@ -1,13 +1,12 @@
 -- A carry-on over the triplets: each turn is one more stretch, and the last ends the sheet. Assumes nothing.
 use mathlib.Core.Path.{_≡_, refl, sym, ap, _∙_}
-use mathlib.Core.Bool.{true, false}
+use mathlib.Core.Bool.{true, false, cond}
 use mathlib.Core.List.{List}
 use Prim.Native.Nat.{ℕ, _+_, _-_, _*_, _≤_, _<_}
 use native.Mathlib.Omega.{arith}
 use lib.Ieee.{Float}
 use lib.IntN.{ℤ}
 use lib.ListN.{length}
-use Rattle.list_laws.specs.Patch.{pick}
 use Rattle.list_laws.proofs.ProductLaws.{row-next}
 use Rattle.list_laws.proofs.MapLaws.{none-counted}
 use Rattle.triplet_piece.specs.Study.{Study, computedWeights, computedFlags}
@@ -35,7 +34,7 @@ module _ (s : Study) (m m' : List ℕ) (pairs t : ℕ) (e : m' ≡ closedWithin 
   next : t * pairs + pairs ≡ (t + 1) * pairs
   next = row-next t pairs (t * pairs) refl
 
-  join : (n : ℕ) → pick (openWithin m' (t * pairs) (t * pairs + pairs) n) true (openWithin m 0 (t * pairs) n) ≡ openWithin m 0 ((t + 1) * pairs) n
+  join : (n : ℕ) → cond (openWithin m' (t * pairs) (t * pairs + pairs) n) true (openWithin m 0 (t * pairs) n) ≡ openWithin m 0 ((t + 1) * pairs) n
   join n = rw (e, ← next) (open-join m 0 (t * pairs) (t * pairs + pairs) n (omega arith) (omega arith))
 
   pub weights-more : (w l : List Float) → w ≡ computedWeights s (openWithin m 0 (t * pairs)) l

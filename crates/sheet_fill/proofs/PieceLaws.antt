@@ -1,6 +1,6 @@
 -- A piece that is written by its corners is computed, and the open pieces of a stretch one after the other. Assumes nothing.
 use mathlib.Core.Path.{_≡_, refl, ap, _∙_}
-use mathlib.Core.Bool.{Bool, true, false}
+use mathlib.Core.Bool.{Bool, true, false, cond}
 use mathlib.Core.List.{List}
 use Prim.Native.Nat.{ℕ, _+_, _*_, _/_, _%_, _≤_, _<_}
 use native.Mathlib.Nat.{div-add-mod', mod-lt}
@@ -9,7 +9,6 @@ use lib.Dec.{eqb}
 use lib.Ieee.{Float}
 use lib.IntN.{ℤ}
 use lib.ListN.{length}
-use Rattle.list_laws.specs.Patch.{pick}
 use Rattle.list_laws.proofs.PatchLaws.{length-patch}
 use Rattle.triplet_channels.specs.declared.Outputs.{Outputs}
 use Rattle.triplet_piece.specs.declared.Sizes.{Sizes}
@@ -69,16 +68,16 @@ module _ (s : Study) (z : Sizes) (c : z ≡ sizesOf s) (t k : ℕ) (n1 n2 : List
   step-on : t * z .pairs + (k + 1) ≡ t * z .pairs + k + 1
   step-on = omega arith
 
-  next : (n : ℕ) → pick (pick (isOpenAt m' (t * z .pairs + k)) (eqb n (t * z .pairs + k)) false) true (openWithin m (t * z .pairs) (t * z .pairs + k) n) ≡ openWithin m (t * z .pairs) (t * z .pairs + (k + 1)) n
+  next : (n : ℕ) → cond (cond (isOpenAt m' (t * z .pairs + k)) (eqb n (t * z .pairs + k)) false) true (openWithin m (t * z .pairs) (t * z .pairs + k) n) ≡ openWithin m (t * z .pairs) (t * z .pairs + (k + 1)) n
   next = open-next m m' (t * z .pairs) (t * z .pairs + k) (t * z .pairs + (k + 1)) e (omega arith) step-on
 
   pub turn-weights : (w l : List Float) → w ≡ computedWeights s (openWithin m (t * z .pairs) (t * z .pairs + k)) l
-      → pick (isOpenAt m' (t * z .pairs + k)) (pieceWeights z (t * z .pairs + (k / s .bands2 * s .bands2 + k % s .bands2))
+      → cond (isOpenAt m' (t * z .pairs + k)) (pieceWeights z (t * z .pairs + (k / s .bands2 * s .bands2 + k % s .bands2))
       (λ x. outputsOfCorners (s .tp) (s .points) n1 n2 rows (s .frequencies1) (s .bands1) (k / s .bands2) (s .frequencies2) (s .bands2) (k % s .bands2) x) w) w
       ≡ computedWeights s (openWithin m (t * z .pairs) (t * z .pairs + (k + 1))) l
   turn-weights w l f = go (isOpenAt m' (t * z .pairs + k)) refl
     where
-      go : (a : Bool) → isOpenAt m' (t * z .pairs + k) ≡ a → pick a (pieceWeights z (t * z .pairs + (k / s .bands2 * s .bands2 + k % s .bands2))
+      go : (a : Bool) → isOpenAt m' (t * z .pairs + k) ≡ a → cond a (pieceWeights z (t * z .pairs + (k / s .bands2 * s .bands2 + k % s .bands2))
           (λ x. outputsOfCorners (s .tp) (s .points) n1 n2 rows (s .frequencies1) (s .bands1) (k / s .bands2) (s .frequencies2) (s .bands2) (k % s .bands2) x) w) w
           ≡ computedWeights s (openWithin m (t * z .pairs) (t * z .pairs + (k + 1))) l
       go true g =
@@ -88,12 +87,12 @@ module _ (s : Study) (z : Sizes) (c : z ≡ sizesOf s) (t k : ℕ) (n1 n2 : List
           f ∙ weights-alike s (openWithin m (t * z .pairs) (t * z .pairs + k)) (openWithin m (t * z .pairs) (t * z .pairs + (k + 1))) (λ n. rw g at (next n)) l
 
   pub turn-flags : (w l : List ℤ) → w ≡ computedFlags s (openWithin m (t * z .pairs) (t * z .pairs + k)) l
-      → pick (isOpenAt m' (t * z .pairs + k)) (pieceFlags z (t * z .pairs + (k / s .bands2 * s .bands2 + k % s .bands2))
+      → cond (isOpenAt m' (t * z .pairs + k)) (pieceFlags z (t * z .pairs + (k / s .bands2 * s .bands2 + k % s .bands2))
       (λ x. outputsOfCorners (s .tp) (s .points) n1 n2 rows (s .frequencies1) (s .bands1) (k / s .bands2) (s .frequencies2) (s .bands2) (k % s .bands2) x) w) w
       ≡ computedFlags s (openWithin m (t * z .pairs) (t * z .pairs + (k + 1))) l
   turn-flags w l f = go (isOpenAt m' (t * z .pairs + k)) refl
     where
-      go : (a : Bool) → isOpenAt m' (t * z .pairs + k) ≡ a → pick a (pieceFlags z (t * z .pairs + (k / s .bands2 * s .bands2 + k % s .bands2))
+      go : (a : Bool) → isOpenAt m' (t * z .pairs + k) ≡ a → cond a (pieceFlags z (t * z .pairs + (k / s .bands2 * s .bands2 + k % s .bands2))
           (λ x. outputsOfCorners (s .tp) (s .points) n1 n2 rows (s .frequencies1) (s .bands1) (k / s .bands2) (s .frequencies2) (s .bands2) (k % s .bands2) x) w) w
           ≡ computedFlags s (openWithin m (t * z .pairs) (t * z .pairs + (k + 1))) l
       go true g =

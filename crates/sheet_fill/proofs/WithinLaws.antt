@@ -1,6 +1,6 @@
 -- Stretches of the marks join, and a whole sheet is one. Assumes nothing.
 use mathlib.Core.Path.{_≡_, refl, sym, _∙_}
-use mathlib.Core.Bool.{Bool, true, false, _&&_}
+use mathlib.Core.Bool.{Bool, true, false, _&&_, cond}
 use mathlib.Core.List.{List, map}
 use mathlib.Core.Logic.{_⊎_, inl, inr, ⊎-elim}
 use Prim.Native.Nat.{ℕ, _+_, _≤_, _<_}
@@ -9,7 +9,7 @@ use lib.Dec.{eqb, leb}
 use lib.ListN.{length, getD, set, length-map, length-set, List·getD-map, List·getD-eq-default}
 use lib.Seq.{getD-set-same, getD-set-other}
 use borrow.Author.Tests.{eq-eqb, ne-eqb, le-leb, lt-leb, lt-ltb, le-ltb, eqb-true, eqb-false}
-use Rattle.list_laws.specs.Patch.{pick, patch}
+use Rattle.list_laws.specs.Patch.{patch}
 use Rattle.list_laws.proofs.BoolLaws.{lt-or-le, lt-eq-gt}
 use Rattle.list_laws.proofs.PatchLaws.{length-patch, getD-patch, patch-is, patch-none, patch-patch}
 use Rattle.sheet_step.specs.Marks.{markAt, isOpenAt, closed, carriedMarks}
@@ -21,13 +21,13 @@ and-no : (a : Bool) → (a && false) ≡ false
 and-no true = refl
 and-no false = refl
 
-pick-same : (a : Bool) → pick a true false ≡ a
-pick-same true = refl
-pick-same false = refl
+cond-same : (a : Bool) → cond a true false ≡ a
+cond-same true = refl
+cond-same false = refl
 
-pick-no : (a : Bool) → pick a false false ≡ false
-pick-no true = refl
-pick-no false = refl
+cond-no : (a : Bool) → cond a false false ≡ false
+cond-no true = refl
+cond-no false = refl
 
 pub stretch-yes : (lo hi n : ℕ) → lo ≤ n → n < hi → inStretch lo hi n ≡ true
 unfolding inStretch
@@ -83,12 +83,12 @@ module _ (m : List ℕ) where
   closed-none lo = sym (patch-none (inStretch lo lo) (λ n. closed (markAt m n)) m (λ n _. ⊎-elim (stretch-low lo lo n) (stretch-high lo lo n) (lt-or-le n lo)))
 
   -- two stretches, the second by the marks that the first left
-  pub open-join : (lo mid hi n : ℕ) → lo ≤ mid → mid ≤ hi → pick (openWithin (closedWithin m lo mid) mid hi n) true (openWithin m lo mid n) ≡ openWithin m lo hi n
+  pub open-join : (lo mid hi n : ℕ) → lo ≤ mid → mid ≤ hi → cond (openWithin (closedWithin m lo mid) mid hi n) true (openWithin m lo mid n) ≡ openWithin m lo hi n
   unfolding openWithin isOpenAt
   open-join lo mid hi n a b =
       ⊎-elim
       (λ l. rw (stretch-low mid hi n l, lower-half lo mid hi n b l))
-      (λ l. rw (stretch-high lo mid n l, kept lo mid n (stretch-high lo mid n l), upper-half lo mid hi n a l) (pick-same (inStretch lo hi n && isOpenAt m n)))
+      (λ l. rw (stretch-high lo mid n l, kept lo mid n (stretch-high lo mid n l), upper-half lo mid hi n a l) (cond-same (inStretch lo hi n && isOpenAt m n)))
       (lt-or-le n mid)
 
   pub closed-join : (lo mid hi : ℕ) → lo ≤ mid → mid ≤ hi → closedWithin (closedWithin m lo mid) mid hi ≡ closedWithin m lo hi
@@ -101,31 +101,31 @@ module _ (m : List ℕ) where
       (lt-or-le n mid))
 
   -- one piece
-  open-one : (q n : ℕ) → pick (isOpenAt m q) (eqb n q) false ≡ openWithin m q (q + 1) n
+  open-one : (q n : ℕ) → cond (isOpenAt m q) (eqb n q) false ≡ openWithin m q (q + 1) n
   unfolding openWithin
   open-one q n = rw (one-place q n) (go (eqb n q) refl)
     where
-      go : (a : Bool) → eqb n q ≡ a → pick (isOpenAt m q) a false ≡ (a && isOpenAt m n)
-      go true e = let h : n ≡ q = eqb-true n q e in rw h (pick-same (isOpenAt m q))
-      go false e = pick-no (isOpenAt m q)
+      go : (a : Bool) → eqb n q ≡ a → cond (isOpenAt m q) a false ≡ (a && isOpenAt m n)
+      go true e = let h : n ≡ q = eqb-true n q e in rw h (cond-same (isOpenAt m q))
+      go false e = cond-no (isOpenAt m q)
 
-  closed-one : (q : ℕ) → q < length m → pick (isOpenAt m q) (set m q 1) m ≡ closedWithin m q (q + 1)
+  closed-one : (q : ℕ) → q < length m → cond (isOpenAt m q) (set m q 1) m ≡ closedWithin m q (q + 1)
   unfolding closedWithin isOpenAt
   closed-one q h = go (eqb (markAt m q) 0) refl
     where
-      go : (a : Bool) → eqb (markAt m q) 0 ≡ a → pick a (set m q 1) m ≡ patch (inStretch q (q + 1)) (λ n. closed (markAt m n)) m
+      go : (a : Bool) → eqb (markAt m q) 0 ≡ a → cond a (set m q 1) m ≡ patch (inStretch q (q + 1)) (λ n. closed (markAt m n)) m
       go true e =
           patch-is 1 (inStretch q (q + 1)) (λ n. closed (markAt m n)) m (set m q 1) (length-set m q 1)
           (λ i l. rw (one-place q i) (set-at i l (eqb i q) refl))
         where
-          set-at : (i : ℕ) → i < length m → (b : Bool) → eqb i q ≡ b → getD (set m q 1) i 1 ≡ pick b (closed (markAt m i)) (getD m i 1)
+          set-at : (i : ℕ) → i < length m → (b : Bool) → eqb i q ≡ b → getD (set m q 1) i 1 ≡ cond b (closed (markAt m i)) (getD m i 1)
           set-at i l true f = let g : i ≡ q = eqb-true i q f in rw (g, e) (getD-set-same m q 1 1 h)
           set-at i l false f = getD-set-other m q i 1 1 (eqb-false i q f)
       go false e =
           patch-is 1 (inStretch q (q + 1)) (λ n. closed (markAt m n)) m m refl
           (λ i l. rw (one-place q i) (same-at i (eqb i q) refl))
         where
-          same-at : (i : ℕ) (b : Bool) → eqb i q ≡ b → getD m i 1 ≡ pick b (closed (markAt m i)) (getD m i 1)
+          same-at : (i : ℕ) (b : Bool) → eqb i q ≡ b → getD m i 1 ≡ cond b (closed (markAt m i)) (getD m i 1)
           same-at i true f = let g : i ≡ q = eqb-true i q f in rw (g, e)
           same-at i false f = refl
 
@@ -145,10 +145,10 @@ module _ (m : List ℕ) where
 
 -- a piece after a stretch, by the marks that the stretch left
 module _ (m m' : List ℕ) (lo q hi : ℕ) (e : m' ≡ closedWithin m lo q) (a : lo ≤ q) (h : hi ≡ q + 1) where
-  pub open-next : (n : ℕ) → pick (pick (isOpenAt m' q) (eqb n q) false) true (openWithin m lo q n) ≡ openWithin m lo hi n
+  pub open-next : (n : ℕ) → cond (cond (isOpenAt m' q) (eqb n q) false) true (openWithin m lo q n) ≡ openWithin m lo hi n
   open-next n = rw (open-one m' q n, e, h) (open-join m lo q (q + 1) n a (omega arith))
 
-  pub closed-next : q < length m' → pick (isOpenAt m' q) (set m' q 1) m' ≡ closedWithin m lo hi
+  pub closed-next : q < length m' → cond (isOpenAt m' q) (set m' q 1) m' ≡ closedWithin m lo hi
   closed-next l = closed-one m' q l ∙ rw (e, h) (closed-join m lo q (q + 1) a (omega arith))
 
 -- a stretch with no open piece

@@ -1,6 +1,6 @@
 -- Reading, counting and setting marks. Assumes nothing.
 use mathlib.Core.Path.{_≡_, refl, sym, _∙_}
-use mathlib.Core.Bool.{Bool, true, false}
+use mathlib.Core.Bool.{Bool, true, false, cond}
 use mathlib.Core.List.{List}
 use Prim.Native.Nat.{ℕ, _+_, _*_, _/_, _%_, _≤_, _<_}
 use native.Mathlib.Nat.{mod-lt, div-add-mod'}
@@ -9,7 +9,7 @@ use lib.Arith.{digits-div, digits-mod}
 use lib.Dec.{eqb, ltb}
 use lib.ListN.{length, set}
 use borrow.Author.Tests.{eq-eqb, lt-ltb, le-ltb, ltb-true, ltb-false, eqb-true}
-use Rattle.list_laws.specs.Patch.{pick, patch}
+use Rattle.list_laws.specs.Patch.{patch}
 use Rattle.list_laws.proofs.PatchLaws.{length-patch, patch-more, patch-none, patch-ext}
 use Rattle.sheet_step.specs.Marks.{averagedMarks}
 
@@ -20,14 +20,14 @@ row-start q b n h = omega (arith, div-add-mod' q b)
 -- ---- the marks of a triplet, the first n of them set to 2
 
 unfoldable pub someAveraged : ℕ → ℕ → ℕ → List ℕ → List ℕ
-someAveraged b t n m = patch (λ q. pick (eqb (q / b) t) (ltb (q % b) n) false) (λ q. 2) m
+someAveraged b t n m = patch (λ q. cond (eqb (q / b) t) (ltb (q % b) n) false) (λ q. 2) m
 
 module _ (b t : ℕ) (m : List ℕ) where
   pub averaged-none : m ≡ someAveraged b t 0 m
   unfolding someAveraged
   averaged-none = sym (patch-none _ _ m (λ q _. go (eqb (q / b) t) (q % b)))
     where
-      go : (u : Bool) (x : ℕ) → pick u (ltb x 0) false ≡ false
+      go : (u : Bool) (x : ℕ) → cond u (ltb x 0) false ≡ false
       go true x = le-ltb x 0 (omega arith)
       go false x = refl
 
@@ -38,7 +38,7 @@ module _ (b t : ℕ) (m : List ℕ) where
       (rw (digits-div t h, digits-mod t h, eq-eqb t t refl, lt-ltb n (n + 1) (omega arith)))
       (λ q _ ne. go q ne (eqb (q / b) t) refl (ltb (q % b) n) refl)
     where
-      go : (q : ℕ) → (q ≡ t * b + n → ⊥) → (u : Bool) → eqb (q / b) t ≡ u → (v : Bool) → ltb (q % b) n ≡ v → pick u (ltb (q % b) (n + 1)) false ≡ pick u v false
+      go : (q : ℕ) → (q ≡ t * b + n → ⊥) → (u : Bool) → eqb (q / b) t ≡ u → (v : Bool) → ltb (q % b) n ≡ v → cond u (ltb (q % b) (n + 1)) false ≡ cond u v false
       go q ne false e v g = refl
       go q ne true e true g = let g′ : q % b < n = ltb-true (q % b) n g in lt-ltb (q % b) (n + 1) (omega arith)
       go q ne true e false g =
@@ -55,8 +55,8 @@ module _ (b t : ℕ) (m : List ℕ) where
   unfolding someAveraged averagedMarks
   averaged-all n e hb =
       patch-ext _ _ _ _ m
-      (λ q _ x. let s : pick (eqb (q / b) t) (ltb (q % b) n) false ≡ eqb (q / b) t = rw (e, lt-ltb (q % b) b (mod-lt q hb)) (flat (eqb (q / b) t)) in rw s)
+      (λ q _ x. let s : cond (eqb (q / b) t) (ltb (q % b) n) false ≡ eqb (q / b) t = rw (e, lt-ltb (q % b) b (mod-lt q hb)) (flat (eqb (q / b) t)) in rw s)
     where
-      flat : (u : Bool) → pick u true false ≡ u
+      flat : (u : Bool) → cond u true false ≡ u
       flat true = refl
       flat false = refl

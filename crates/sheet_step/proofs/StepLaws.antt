@@ -1,6 +1,6 @@
 -- The verdict of a call by the groups of its questions, and what an accepted and a refused call leave. Assumes nothing.
 use mathlib.Core.Path.{_≡_, refl, sym, ap, _∙_, subst}
-use mathlib.Core.Bool.{Bool, true, false, _&&_}
+use mathlib.Core.Bool.{Bool, true, false, _&&_, cond}
 use mathlib.Core.List.{List, [], _∷_, _++_, append-assoc}
 use Prim.Native.Nat.{ℕ, zero, suc, _+_, _*_, _^_, _<_}
 use native.Mathlib.Omega.{arith}
@@ -10,7 +10,6 @@ use lib.Ieee.{Float}
 use lib.IntN.{ℤ}
 use lib.ListN.{length}
 use lib.Signed.{mag}
-use Rattle.list_laws.specs.Patch.{pick}
 use Rattle.list_laws.specs.Signed.{isBelow}
 use Rattle.list_laws.proofs.BoolLaws.{and-left, and-right}
 use Rattle.list_laws.proofs.SignedLaws.{below-lt}
@@ -121,7 +120,7 @@ pub room : (tally runs : ℕ) (next : Tally) → To next ≡ addedTo tally runs 
 unfolding firstNo isRoom
 room tally runs next e = go (ltb (tally + runs) (2 ^ 63)) refl e
   where
-    go : (b : Bool) → ltb (tally + runs) (2 ^ 63) ≡ b → To next ≡ pick b (To (record { runs = tally + runs })) (Full 20) → (firstNo (asks 20 (ltb (tally + runs) (2 ^ 63)) ∷ []) ≡ 0) × (next .runs ≡ tally + runs)
+    go : (b : Bool) → ltb (tally + runs) (2 ^ 63) ≡ b → To next ≡ cond b (To (record { runs = tally + runs })) (Full 20) → (firstNo (asks 20 (ltb (tally + runs) (2 ^ 63)) ∷ []) ≡ 0) × (next .runs ≡ tally + runs)
     go true f q = (rw f, ap runs-of q)
       where
         runs-of : Added → ℕ
@@ -140,7 +139,7 @@ pub no-room : (tally runs n : ℕ) → Full n ≡ addedTo tally runs → firstNo
 unfolding firstNo isRoom
 no-room tally runs n e = go (ltb (tally + runs) (2 ^ 63)) refl e
   where
-    go : (b : Bool) → ltb (tally + runs) (2 ^ 63) ≡ b → Full n ≡ pick b (To (record { runs = tally + runs })) (Full 20) → firstNo (asks 20 (ltb (tally + runs) (2 ^ 63)) ∷ []) ≡ 20
+    go : (b : Bool) → ltb (tally + runs) (2 ^ 63) ≡ b → Full n ≡ cond b (To (record { runs = tally + runs })) (Full 20) → firstNo (asks 20 (ltb (tally + runs) (2 ^ 63)) ∷ []) ≡ 20
     go false f q = rw f
     go true f q = absurd (differ q)
       where

@@ -1,11 +1,11 @@
 -- The marks of a sheet: "one byte a piece by triplet, b1, b2: 0 open, 1 computed, 2 averaged".
-use mathlib.Core.Bool.{Bool, not, _&&_, _||_}
+use mathlib.Core.Bool.{Bool, not, _&&_, _||_, cond}
 use mathlib.Core.List.{List, map}
 use Prim.Native.Nat.{ℕ, _+_, _*_, _/_}
 use lib.Dec.{eqb, ltb}
 use lib.ListN.{length, getD}
 use Rattle.list_laws.specs.Lists.{allBelow, countBelow}
-use Rattle.list_laws.specs.Patch.{pick, patch}
+use Rattle.list_laws.specs.Patch.{patch}
 
 -- the mark of piece q; a place beyond the sheet is no open piece
 abbrev pub markAt : List ℕ → ℕ → ℕ
@@ -53,7 +53,7 @@ openIn pairs marks t = countBelow pairs (λ k. isOpenAt marks (t * pairs + k))
 
 -- "each open piece becomes computed"
 abbrev pub closed : ℕ → ℕ
-closed mark = pick (eqb mark 0) 1 mark
+closed mark = cond (eqb mark 0) 1 mark
 
 -- "Carrying on runs all pieces marked 0": the marks afterwards
 unfoldable pub carriedMarks : List ℕ → List ℕ

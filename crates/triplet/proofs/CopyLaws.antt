@@ -6,7 +6,6 @@ use mathlib.Core.List.{List, _++_}
 use lib.IntN.{ℤ, pos, negℤ}
 use lib.ListN.{length}
 use Rattle.list_laws.specs.Lists.{at}
-use Rattle.list_laws.specs.Patch.{pick}
 use Rattle.list_laws.specs.Signed.{isNat}
 use Rattle.list_laws.proofs.FillLaws.{area-front, tabulate-ext}
 use Rattle.triplet_addresses.specs.Copies.{isNegated, stepOf as copyStep, copyOf, copiesOf, bothCopies}
@@ -20,7 +19,7 @@ same-step : (t z : ℤ) → copyStep (isNegated t) z ≡ stepOf (tpTypeOf t) z
 unfolding isNegated tpTypeOf
 same-step t z = by (isNat t 2) (isNat t 3)
   where
-    by : (a b : Bool) → cond (a || b) (negℤ z) z ≡ stepOf (pick a Type2 (pick b Type3 Type4)) z
+    by : (a b : Bool) → cond (a || b) (negℤ z) z ≡ stepOf (cond a Type2 (cond b Type3 Type4)) z
     by true b = refl
     by false true = refl
     by false false = refl

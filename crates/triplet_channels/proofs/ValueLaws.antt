@@ -10,7 +10,6 @@ use lib.Ieee.{Float, nan}
 use lib.IntN.{ℤ}
 use lib.ListN.{getD, length, set}
 use lib.Seq.{getD-set-same, getD-set-other}
-use Rattle.list_laws.specs.Patch.{pick}
 use Rattle.list_laws.specs.Signed.{isNat}
 use Rattle.tetrahedron_fractions.specs.Binary64.{_⊕_}
 use Rattle.question_values.specs.TpTypes.{channelsOf}
@@ -38,7 +37,7 @@ pub channels-of-type : (tp : ℤ) → channelsOf tp ≡ channelCount (tpTypeOf t
 unfolding channelsOf tpTypeOf
 channels-of-type tp = by (isNat tp 2) (isNat tp 3)
   where
-    by : (a b : Bool) → cond a 2 (cond b 3 1) ≡ channelCount (pick a Type2 (pick b Type3 Type4))
+    by : (a b : Bool) → cond a 2 (cond b 3 1) ≡ channelCount (cond a Type2 (cond b Type3 Type4))
     by true b = refl
     by false true = refl
     by false false = refl

@@ -1,10 +1,9 @@
 -- Channels and outputs at a frequency point.
-use mathlib.Core.Bool.{Bool, true, false, _&&_}
+use mathlib.Core.Bool.{Bool, true, false, _&&_, cond}
 use mathlib.Core.List.{List}
 use Prim.Native.Nat.{ℕ, _*_}
 use lib.IntN.{ℤ, pos}
 use lib.Ieee.{Float, le}
-use Rattle.list_laws.specs.Patch.{pick}
 use Rattle.ieee_laws.specs.Zeros.{zeroF as f0}
 use Rattle.tetrahedron_fractions.specs.Binary64.{_⊕_, _⊖_}
 use Rattle.tetrahedron_method.specs.Weight.{weightOf}
@@ -23,7 +22,7 @@ holds b w = le (b .fmin) w && le w (b .fmax)
 
 -- "a channel is closed, or open with its weight I", of values in so many rows of four
 unfoldable pub channelAt : Float → List Float → ℕ → Channel
-channelAt w a rows = pick (holds (boxOf a (rows * 4)) w) (Open (weightOf I w a rows)) Closed
+channelAt w a rows = cond (holds (boxOf a (rows * 4)) w) (Open (weightOf I w a rows)) Closed
 
 -- g0, g1, g2: "0 when closed"
 abbrev pub valueOf : Channel → Float
@@ -37,7 +36,7 @@ closedOf (Open g) = false
 
 -- "The flag is 1 when all are closed."
 unfoldable pub flagOf : Channel → Channel → Channel → ℤ
-flagOf a b c = pick ((closedOf a && closedOf b) && closedOf c) (pos 1) (pos 0)
+flagOf a b c = cond ((closedOf a && closedOf b) && closedOf c) (pos 1) (pos 0)
 
 -- "type 2 gives g2, g0-g1; type 3 adds (g0+g1)+g2; type 4 gives g0"
 unfoldable pub outputsBy : TpType → Channel → Channel → Channel → Outputs

@@ -1,8 +1,8 @@
 -- The same of work areas whose rows are in order: s and p are rows in order and the places of their first values, b is a box.
+use mathlib.Core.Bool.{cond}
 use mathlib.Core.List.{List}
 use Prim.Native.Nat.{ℕ}
 use lib.Ieee.{Float}
-use Rattle.list_laws.specs.Patch.{pick}
 use Rattle.tetrahedron_method.specs.Sorted.{sortedWeight}
 use Rattle.tetrahedron_method.specs.declared.WeightFunction.the-variants.{I}
 use Rattle.triplet_channels.specs.declared.TpType.{TpType}
@@ -15,7 +15,7 @@ use Rattle.triplet_channels.specs.Channels.{holds, outputsBy}
 
 -- a channel
 unfoldable pub orderedChannelAt : Float → List Float → List ℕ → ℕ → ValueBox → Channel
-orderedChannelAt w s p rows b = pick (holds b w) (Open (sortedWeight I w s p rows)) Closed
+orderedChannelAt w s p rows b = cond (holds b w) (Open (sortedWeight I w s p rows)) Closed
 
 -- the second and the third channel
 unfoldable pub orderedFurtherAt : TpType → Float → List Float → List ℕ → ℕ → ValueBox → Channel

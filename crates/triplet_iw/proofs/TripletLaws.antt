@@ -1,6 +1,6 @@
 -- The turns of the loops over the pieces of a triplet and over the triplets. Assumes nothing.
 use mathlib.Core.Path.{_≡_, refl, sym, ap, _∙_}
-use mathlib.Core.Bool.{Bool, true, false}
+use mathlib.Core.Bool.{Bool, true, false, cond}
 use mathlib.Core.List.{List}
 use Prim.Native.Nat.{ℕ, _+_, _*_, _/_, _%_, _≤_, _<_}
 use native.Mathlib.Nat.{div-add-mod', mod-lt, div-lt-iff-lt-mul, mul-le-mul}
@@ -11,7 +11,6 @@ use lib.Ieee.{Float}
 use lib.IntN.{ℤ}
 use lib.ListN.{length}
 use borrow.Author.Tests.{eq-eqb, lt-ltb, le-ltb, ltb-true, ltb-false, eqb-true, eqb-false}
-use Rattle.list_laws.specs.Patch.{pick}
 use Rattle.list_laws.proofs.StrideLaws.{both-none, both-all}
 use Rattle.triplet_channels.specs.Values.{Held}
 use Rattle.triplet_corners.specs.Corners.{secondSteps}
@@ -27,13 +26,13 @@ use Rattle.triplet_piece.proofs.StudyLaws.{study-fits, piece-weights, piece-fla
 
 -- piece n is one of the first k of triplet t
 abbrev pub inTriplet : ℕ → ℕ → ℕ → ℕ → Bool
-inTriplet pairs t k n = pick (eqb (n / pairs) t) (ltb (n % pairs) k) false
+inTriplet pairs t k n = cond (eqb (n / pairs) t) (ltb (n % pairs) k) false
 
-in-next : (pairs t k n : ℕ) → k < pairs → pick (eqb n (t * pairs + k)) true (inTriplet pairs t k n) ≡ inTriplet pairs t (k + 1) n
+in-next : (pairs t k n : ℕ) → k < pairs → cond (eqb n (t * pairs + k)) true (inTriplet pairs t k n) ≡ inTriplet pairs t (k + 1) n
 in-next pairs t k n h = go (eqb n (t * pairs + k)) refl (eqb (n / pairs) t) refl (ltb (n % pairs) k) refl
   where
     go : (a : Bool) → eqb n (t * pairs + k) ≡ a → (b : Bool) → eqb (n / pairs) t ≡ b → (d : Bool) → ltb (n % pairs) k ≡ d
-        → pick a true (pick b d false) ≡ pick b (ltb (n % pairs) (k + 1)) false
+        → cond a true (cond b d false) ≡ cond b (ltb (n % pairs) (k + 1)) false
     go true e b f d g =
         let q : n ≡ t * pairs + k = eqb-true n (t * pairs + k) e in
         let x : n / pairs ≡ t = ap (λ (m : ℕ). m / pairs) q ∙ digits-div t h in
@@ -48,10 +47,10 @@ in-next pairs t k n h = go (eqb n (t * pairs + k)) refl (eqb (n / pairs) t) refl
         let ne : n % pairs ≡ k → ⊥ = λ y. eqb-false n (t * pairs + k) e (sym (div-add-mod' n pairs) ∙ rw (x, y)) in
         sym (le-ltb (n % pairs) (k + 1) (omega arith))
 
-triplet-next : (q t : ℕ) → pick (eqb q t) true (ltb q t) ≡ ltb q (t + 1)
+triplet-next : (q t : ℕ) → cond (eqb q t) true (ltb q t) ≡ ltb q (t + 1)
 triplet-next q t = go (eqb q t) refl (ltb q t) refl
   where
-    go : (a : Bool) → eqb q t ≡ a → (b : Bool) → ltb q t ≡ b → pick a true b ≡ ltb q (t + 1)
+    go : (a : Bool) → eqb q t ≡ a → (b : Bool) → ltb q t ≡ b → cond a true b ≡ ltb q (t + 1)
     go true e b f = let x : q ≡ t = eqb-true q t e in sym (lt-ltb q (t + 1) (omega arith))
     go false e true f = let l : q < t = ltb-true q t f in sym (lt-ltb q (t + 1) (omega arith))
     go false e false f =

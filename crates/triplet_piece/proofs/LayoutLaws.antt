@@ -1,6 +1,6 @@
 -- The loop that writes a cell's weights, and the loop over the points of a piece, as patches. Assumes nothing.
 use mathlib.Core.Path.{_≡_, refl, sym, ap, _∙_}
-use mathlib.Core.Bool.{Bool, true, false}
+use mathlib.Core.Bool.{Bool, true, false, cond}
 use mathlib.Core.List.{List}
 use Prim.Native.Nat.{ℕ, _+_, _*_, _/_, _%_, _≤_, _<_}
 use native.Mathlib.Nat.{div-add-mod', mod-lt, div-lt-iff-lt-mul, le-mul-of-pos-right}
@@ -11,7 +11,7 @@ use lib.Ieee.{Float}
 use lib.IntN.{ℤ}
 use lib.ListN.{length, set}
 use borrow.Author.Tests.{eq-eqb, lt-ltb, le-ltb, ltb-true, ltb-false, eqb-true, eqb-false}
-use Rattle.list_laws.specs.Patch.{pick, patch}
+use Rattle.list_laws.specs.Patch.{patch}
 use Rattle.list_laws.proofs.PatchLaws.{length-patch, patch-more, patch-none, patch-ext, patch-patch}
 use Rattle.list_laws.proofs.StrideLaws.{digits-eq, strided, strided-last, strided-else, both-none, both-all}
 use Rattle.triplet_channels.specs.declared.Outputs.{Outputs}
@@ -84,7 +84,7 @@ point-lt p b j h = mod-lt (j / b) h
 
 -- cell j is of piece q, at one of the first n points
 abbrev pub reached : Sizes → ℕ → ℕ → ℕ → Bool
-reached z q n j = pick (eqb (pieceAt (z .points) (z .pairs) j) q) (ltb (pointAt (z .points) (z .pairs) j) n) false
+reached z q n j = cond (eqb (pieceAt (z .points) (z .pairs) j) q) (ltb (pointAt (z .points) (z .pairs) j) n) false
 
 -- the weight at place i of a piece with the outputs o
 abbrev pub weightBy : Sizes → (ℕ → Outputs) → ℕ → Float
@@ -137,8 +137,8 @@ module _ (z : Sizes) (o : ℕ → Outputs) (t k x : ℕ) (hk : k < z .pairs) (hx
       (λ i _ y. go i y (eqb (i % z .cells) (cellOf (z .points) (z .pairs) t k x)) refl)
     where
       go : (i : ℕ) (y : Float) (u : Bool) → eqb (i % z .cells) (cellOf (z .points) (z .pairs) t k x) ≡ u
-          → pick u (channelOf v (i / z .cells)) (pick (reached z (t * z .pairs + k) x (i % z .cells)) (weightBy z o i) y)
-          ≡ pick (reached z (t * z .pairs + k) (x + 1) (i % z .cells)) (weightBy z o i) y
+          → cond u (channelOf v (i / z .cells)) (cond (reached z (t * z .pairs + k) x (i % z .cells)) (weightBy z o i) y)
+          ≡ cond (reached z (t * z .pairs + k) (x + 1) (i % z .cells)) (weightBy z o i) y
       go i y true e =
           let r : i % z .cells ≡ cellOf (z .points) (z .pairs) t k x = eqb-true (i % z .cells) (cellOf (z .points) (z .pairs) t k x) e in
           rw (r, here, point-cell (z .points) (z .pairs) t k x hk hx, q)

@@ -1,6 +1,6 @@
 -- A piece that is written is one that is computed; computed pieces join. Assumes nothing.
 use mathlib.Core.Path.{_≡_, refl, sym, ap, _∙_}
-use mathlib.Core.Bool.{Bool, true, false}
+use mathlib.Core.Bool.{Bool, true, false, cond}
 use mathlib.Core.List.{List}
 use Prim.Native.Nat.{ℕ, _+_, _*_, _/_, _%_, _≤_, _<_}
 use lib.Arith.{digits-div, digits-mod}
@@ -9,7 +9,6 @@ use lib.Ieee.{Float}
 use lib.IntN.{ℤ}
 use lib.ListN.{length}
 use borrow.Author.Tests.{eqb-true}
-use Rattle.list_laws.specs.Patch.{pick}
 use Rattle.list_laws.proofs.PatchLaws.{length-patch, patch-none, patch-ext, patch-patch}
 use Rattle.list_laws.proofs.ProductLaws.{digit-lt}
 use Rattle.triplet_channels.specs.declared.Outputs.{Outputs}
@@ -66,7 +65,7 @@ module _ (s : Study) (t b1 b2 q : ℕ) (h1 : b1 < s .bands1) (h2 : b2 < s .bands
       (λ i _ y. go i y (eqb (pieceAt (sizesOf s .points) (sizesOf s .pairs) (i % sizesOf s .cells)) q) refl)
     where
       go : (i : ℕ) (y : Float) (u : Bool) → eqb (pieceAt (sizesOf s .points) (sizesOf s .pairs) (i % sizesOf s .cells)) q ≡ u
-          → pick u (channelOf (outputsOf s t b1 b2 (pointAt (sizesOf s .points) (sizesOf s .pairs) (i % sizesOf s .cells))) (i / sizesOf s .cells)) y ≡ pick u (weightAt s i) y
+          → cond u (channelOf (outputsOf s t b1 b2 (pointAt (sizesOf s .points) (sizesOf s .pairs) (i % sizesOf s .cells))) (i / sizesOf s .cells)) y ≡ cond u (weightAt s i) y
       go i y true f = rw (cell-outputs s t b1 b2 (i % sizesOf s .cells) h1 h2 (eqb-true (pieceAt (sizesOf s .points) (sizesOf s .pairs) (i % sizesOf s .cells)) q f ∙ e))
       go i y false f = refl
 
@@ -78,17 +77,17 @@ module _ (s : Study) (t b1 b2 q : ℕ) (h1 : b1 < s .bands1) (h2 : b2 < s .bands
       (λ j _ y. go j y (eqb (pieceAt (sizesOf s .points) (sizesOf s .pairs) j) q) refl)
     where
       go : (j : ℕ) (y : ℤ) (u : Bool) → eqb (pieceAt (sizesOf s .points) (sizesOf s .pairs) j) q ≡ u
-          → pick u (outputsOf s t b1 b2 (pointAt (sizesOf s .points) (sizesOf s .pairs) j) .flag) y ≡ pick u (flagAt s j) y
+          → cond u (outputsOf s t b1 b2 (pointAt (sizesOf s .points) (sizesOf s .pairs) j) .flag) y ≡ cond u (flagAt s j) y
       go j y true f = rw (flagAt, cell-outputs s t b1 b2 j h1 h2 (eqb-true (pieceAt (sizesOf s .points) (sizesOf s .pairs) j) q f ∙ e))
       go j y false f = refl
 
 -- ---- pieces that are computed one after the other
 
-joined : {A : Type 0} (a b c : Bool) (x y : A) → pick a true b ≡ c → pick a x (pick b x y) ≡ pick c x y
+joined : {A : Type 0} (a b c : Bool) (x y : A) → cond a true b ≡ c → cond a x (cond b x y) ≡ cond c x y
 joined true b c x y e = rw (← e)
 joined false b c x y e = rw e
 
-module _ (s : Study) (o₁ o₂ o₃ : ℕ → Bool) (h : (n : ℕ) → pick (o₂ n) true (o₁ n) ≡ o₃ n) where
+module _ (s : Study) (o₁ o₂ o₃ : ℕ → Bool) (h : (n : ℕ) → cond (o₂ n) true (o₁ n) ≡ o₃ n) where
   pub weights-join : (l : List Float) → computedWeights s o₂ (computedWeights s o₁ l) ≡ computedWeights s o₃ l
   unfolding computedWeights
   weights-join l =

@@ -1,5 +1,6 @@
 -- Where weights and flags lie. A cell is a place of the flags: triplet, point, b1, b2; a weight's place is a channel and a cell.
 -- A piece is a triplet, b1 and b2; its number is the place of its mark.
+use mathlib.Core.Bool.{cond}
 use mathlib.Core.Path.{_≡_}
 use mathlib.Core.List.{List}
 use Prim.Native.Nat.{ℕ, _+_, _*_, _/_, _%_, _≤_}
@@ -7,7 +8,7 @@ use lib.Dec.{eqb}
 use lib.Ieee.{Float}
 use lib.IntN.{ℤ}
 use lib.ListN.{length}
-use Rattle.list_laws.specs.Patch.{pick, patch}
+use Rattle.list_laws.specs.Patch.{patch}
 use Rattle.triplet_channels.specs.declared.Outputs.{Outputs}
 use Rattle.triplet_piece.specs.declared.Sizes.{Sizes}
 
@@ -33,7 +34,7 @@ cellOf points pairs t pair x = (t * points + x) * pairs + pair
 
 -- an output by its channel
 unfoldable pub channelOf : Outputs → ℕ → Float
-channelOf o c = pick (eqb c 0) (o .w0) (pick (eqb c 1) (o .w1) (o .w2))
+channelOf o c = cond (eqb c 0) (o .w0) (cond (eqb c 1) (o .w1) (o .w2))
 
 -- the weights once those of one cell are written, in every channel
 unfoldable pub cellWeights : ℕ → ℕ → Outputs → List Float → List Float

@@ -1,8 +1,8 @@
 // All open pieces, in ascending order.
+ghost use mathlib.Core.Bool.{cond};
 ghost use mathlib.Core.Path.{_≡_};
 ghost use Prim.Native.Nat.{_+_, _*_, _/_, _%_, _<_, _≤_};
 ghost use lib.ListN.{length, set};
-ghost use Rattle.list_laws.specs.Patch.{pick};
 ghost use Rattle.question_grids.specs.Tables.{rowsIn};
 ghost use Rattle.triplet_channels.specs.Values.{Held};
 ghost use Rattle.triplet_corners.specs.Corners.{secondSteps};
@@ -43,13 +43,13 @@ fn fill_if_open(
     requires { ⌜ ((b : _) → b < z .bands1 → Held (now numbers1) (rows * 4) (length (now frequencies1)) (z .bands1) b) × ((b : _) → b < z .bands2 → Held (now numbers2) (rows * 4) (length (now frequencies2)) (z .bands2) b) ⌝ }
     requires { ⌜ Areas (now f1) (now f2) (now a0) (now a1) (now a2) (now p0) (now p1) (now p2) ⌝ }
     ensures { λ _. ⌜ Areas (now (f1 .exit)) (now (f2 .exit)) (now (a0 .exit)) (now (a1 .exit)) (now (a2 .exit)) (now (p0 .exit)) (now (p1 .exit)) (now (p2 .exit)) ⌝ }
-    ensures { λ _. ⌜ now (weights .exit) ≡ pick (isOpenAt (now (marks .entry)) (t * z .pairs + k)) (pieceWeights z (t * z .pairs + (k / z .bands2 * z .bands2 + k % z .bands2))
+    ensures { λ _. ⌜ now (weights .exit) ≡ cond (isOpenAt (now (marks .entry)) (t * z .pairs + k)) (pieceWeights z (t * z .pairs + (k / z .bands2 * z .bands2 + k % z .bands2))
         (λ x. outputsOfCorners tp (now (points .entry)) (now (numbers1 .entry)) (now (numbers2 .entry)) rows (now (frequencies1 .entry)) (z .bands1) (k / z .bands2) (now (frequencies2 .entry)) (z .bands2) (k % z .bands2) x)
         (now (weights .entry))) (now (weights .entry)) ⌝ }
-    ensures { λ _. ⌜ now (flags .exit) ≡ pick (isOpenAt (now (marks .entry)) (t * z .pairs + k)) (pieceFlags z (t * z .pairs + (k / z .bands2 * z .bands2 + k % z .bands2))
+    ensures { λ _. ⌜ now (flags .exit) ≡ cond (isOpenAt (now (marks .entry)) (t * z .pairs + k)) (pieceFlags z (t * z .pairs + (k / z .bands2 * z .bands2 + k % z .bands2))
         (λ x. outputsOfCorners tp (now (points .entry)) (now (numbers1 .entry)) (now (numbers2 .entry)) rows (now (frequencies1 .entry)) (z .bands1) (k / z .bands2) (now (frequencies2 .entry)) (z .bands2) (k % z .bands2) x)
         (now (flags .entry))) (now (flags .entry)) ⌝ }
-    ensures { λ _. ⌜ now (marks .exit) ≡ pick (isOpenAt (now (marks .entry)) (t * z .pairs + k)) (set (now (marks .entry)) (t * z .pairs + k) 1) (now (marks .entry)) ⌝ }
+    ensures { λ _. ⌜ now (marks .exit) ≡ cond (isOpenAt (now (marks .entry)) (t * z .pairs + k)) (set (now (marks .entry)) (t * z .pairs + k) 1) (now (marks .entry)) ⌝ }
 {
     let pairs = z.pairs;
     let bands2 = z.bands2;
