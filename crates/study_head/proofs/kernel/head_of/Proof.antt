@@ -1,10 +1,10 @@
--- `study::kernel::head_of` meets its contract. Assumes nothing.
+-- `study_head::kernel::head_of` meets its contract. Assumes nothing.
 use borrow.Author.Needs.{needs}
 use Rattle.list_laws.proofs.SignedLaws.{back}
 use Rattle.list_laws.specs.Lists.{at}
-use Rattle.study.specs.Studies.{headFrom}
-use Rattle.study.proofs.kernel.head_of.Statement.{statement}
-use Rattle.study.proofs.kernel.head_of.Tie as tie
+use Rattle.study_head.specs.Heads.{headFrom}
+use Rattle.study_head.proofs.kernel.head_of.Statement.{statement}
+use Rattle.study_head.proofs.kernel.head_of.Tie as tie
 
 shared-slice-copy-out-t6 : tie.Need-shared-slice-copy-out-t6
 shared-slice-copy-out-t6 c = search needs

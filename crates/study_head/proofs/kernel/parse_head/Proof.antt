@@ -1,4 +1,4 @@
--- `study::kernel::parse_head` meets its contract. Assumes nothing.
+-- `study_head::kernel::parse_head` meets its contract. Assumes nothing.
 use borrow.Author.Needs.{needs}
 use mathlib.Core.Path.{_∙_, ap, sym}
 use native.Mathlib.Omega.{arith}
@@ -6,11 +6,11 @@ use Rattle.list_laws.proofs.SignedLaws.{back}
 use Rattle.list_laws.specs.Lists.{at}
 use Rattle.list_laws.specs.Signed.{isBetween}
 use Rattle.sections.specs.Lines.{toldOne}
-use Rattle.study.proofs.StudyLaws.{bad-diag, first-of-one, head-is, head-read, no-bands, no-diag, no-grid, no-type}
+use Rattle.study_head.proofs.HeadLaws.{bad-diag, first-of-one, head-is, head-read, no-bands, no-diag, no-grid, no-type}
 use Rattle.text.specs.Pieces.{ended}
 use Rattle.sections.specs.declared.One.{One}
-use Rattle.study.proofs.kernel.parse_head.Statement.{statement}
-use Rattle.study.proofs.kernel.parse_head.Tie as tie
+use Rattle.study_head.proofs.kernel.parse_head.Statement.{statement}
+use Rattle.study_head.proofs.kernel.parse_head.Tie as tie
 
 slice-aggregate-parse-one : tie.Need-slice-aggregate-parse-one
 slice-aggregate-parse-one c = search needs

@@ -1,11 +1,11 @@
--- `study::kernel::ends_line` meets its contract. Assumes nothing.
+-- `study_head::kernel::ends_line` meets its contract. Assumes nothing.
 use borrow.Author.Needs.{needs}
 use mathlib.Core.Path.{refl}
 use native.Mathlib.Omega.{arith}
-use Rattle.study.proofs.StudyLaws.{empty-not-ended}
-use Rattle.study.specs.Studies.{endsLine}
-use Rattle.study.proofs.kernel.ends_line.Statement.{statement}
-use Rattle.study.proofs.kernel.ends_line.Tie as tie
+use Rattle.study_head.proofs.HeadLaws.{empty-not-ended}
+use Rattle.study_head.specs.Heads.{endsLine}
+use Rattle.study_head.proofs.kernel.ends_line.Statement.{statement}
+use Rattle.study_head.proofs.kernel.ends_line.Tie as tie
 
 returns : tie.Need-returns
 returns c =

@@ -1,14 +1,14 @@
--- `study::kernel::weight_count_ok` meets its contract. Assumes nothing.
+-- `study_counts::kernel::weight_count_ok` meets its contract. Assumes nothing.
 use borrow.Author.Needs.{needs}
 use mir.Syntax.{w64}
 use mir.ValLaws.{toZ-ofZ}
 use native.Mathlib.Omega.{arith}
 use Rattle.list_laws.proofs.BoolLaws.{no-of, yes-of}
 use Rattle.list_laws.specs.Lists.{at}
-use Rattle.study.proofs.CountLaws.{bands-small, one-small, three-small, two-small}
-use Rattle.study.specs.Counts.{fewWeights, isCounted, weightCount}
-use Rattle.study.proofs.kernel.weight_count_ok.Statement.{statement}
-use Rattle.study.proofs.kernel.weight_count_ok.Tie as tie
+use Rattle.study_counts.proofs.CountLaws.{bands-small, one-small, three-small, two-small}
+use Rattle.study_counts.specs.Counts.{fewWeights, isCounted, weightCount}
+use Rattle.study_counts.proofs.kernel.weight_count_ok.Statement.{statement}
+use Rattle.study_counts.proofs.kernel.weight_count_ok.Tie as tie
 
 tp-type-ok-requires : tie.Need-tp-type-ok-requires
 tp-type-ok-requires c κs = search needs
