@@ -1,5 +1,6 @@
 // The study that a text holds: question 1 of document 01.
 pub mod kernel;
+
 pub use study_head::Head;
 
 // The sections `addr` and `map` as read: how many numbers each, and where the next section starts.
