@@ -12,7 +12,7 @@ use Rattle.list_laws.specs.Signed.{isBetween}
 use Rattle.list_laws.proofs.SignedLaws.{between-high}
 use Rattle.question_grids.specs.Ask.{firstNo}
 use Rattle.questions.specs.Studies.{tripletsIn}
-use Rattle.study.specs.Counts.{fewWeights}
+use Rattle.study_counts.specs.Counts.{fewWeights}
 use Rattle.listing.specs.Listings.{refusalOf}
 use Rattle.listing_length.proofs.ListingLengthLaws.{refusal-short}
 use Rattle.triplet_study.specs.declared.Shape.{Shape}

@@ -14,7 +14,7 @@ use Rattle.list_laws.proofs.BoolLaws.{lt-or-le}
 use Rattle.list_laws.proofs.FillLaws.{length-tabulate}
 use Rattle.writing.specs.Written.{written}
 use Rattle.listing.specs.Listings.{refusalOf}
-use Rattle.study.specs.declared.Head.{Head}
+use Rattle.study_head.specs.declared.Head.{Head}
 use Rattle.study.specs.declared.StudyRead.{StudyRead}
 use Rattle.study.specs.declared.StudyRead.the-variants as S
 use Rattle.study.specs.Studies.{Study, Holds, holds, holdsNone, studyIn}

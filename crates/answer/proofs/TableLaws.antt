@@ -17,7 +17,7 @@ use Rattle.tetrahedron_tables.specs.Tables.{tableOf, flat, table0, table1, tabl
 use Rattle.triplet_study.specs.declared.Shape.{Shape}
 use Rattle.triplet_study.specs.Given.{Given}
 use Rattle.answer_weights.specs.Asked.{questionsOf}
-use Rattle.study.specs.Counts.{fewWeights}
+use Rattle.study_counts.specs.Counts.{fewWeights}
 use Rattle.study.specs.Studies.{Study}
 use Rattle.answer.specs.Texts.{askedOf}
 use Rattle.answer.proofs.AnswerLaws.{diagonal-lt}

@@ -10,7 +10,7 @@ use Rattle.tetrahedron_tables.specs.Tables.{tableOf, flat}
 use Rattle.triplet_study.specs.declared.Shape.{Shape}
 use Rattle.triplet_study.specs.Given.{Given, given}
 use Rattle.listing.specs.Listings.{refusalOf}
-use Rattle.study.specs.declared.Head.{Head}
+use Rattle.study_head.specs.declared.Head.{Head}
 use Rattle.study.specs.Studies.{Study, Holds, holds, holdsNone, studyIn}
 use Rattle.answer_weights.specs.Answers.{answerTo}
 

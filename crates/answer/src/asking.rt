@@ -5,7 +5,7 @@ ghost use Prim.Native.Nat.{_/_, _≤_};
 ghost use lib.ListN.{length};
 ghost use Rattle.list_laws.specs.Signed.{isBetween};
 ghost use Rattle.question_grids.specs.Ask.{firstNo};
-ghost use Rattle.study.specs.Counts.{fewWeights};
+ghost use Rattle.study_counts.specs.Counts.{fewWeights};
 ghost use Rattle.triplet_study.specs.Given.{given};
 ghost use Rattle.writing.specs.Written.{written};
 ghost use Rattle.answer_weights.specs.Asked.{questionsOf};
@@ -21,7 +21,7 @@ fn few_weights(shape: Shape, points: usize, triplets: usize) -> bool
     let tp_type = shape.tp_type;
     let num_band1 = shape.num_band1;
     let num_band2 = shape.num_band2;
-    study::kernel::weight_count_ok(tp_type, num_band1, num_band2, points, triplets)
+    study_counts::kernel::weight_count_ok(tp_type, num_band1, num_band2, points, triplets)
 }
 
 // The number of the first question that is answered no, or 0.

@@ -25,7 +25,7 @@ use Rattle.triplet_study.specs.Given.{Given, givenQuestions, studyOf, sizesBy}
 use Rattle.triplet_study.proofs.GivenLaws.{given-numbered, sizes-same, given-ready}
 use Rattle.triplet_iw.specs.Whole.{allWeights, allFlags}
 use Rattle.listing_length.proofs.ListingLengthLaws.{listing-longest}
-use Rattle.study.specs.Counts.{weightCount, isCounted, fewWeights}
+use Rattle.study_counts.specs.Counts.{weightCount, isCounted, fewWeights}
 use Rattle.answer_weights.specs.Asked.{questionsOf}
 use Rattle.answer_weights.specs.Answers.{listingFor}
 

@@ -3,7 +3,7 @@ use mathlib.Core.List.{List, _∷_}
 use lib.ListN.{length}
 use Rattle.question_grids.specs.Ask.{Question, asks}
 use Rattle.questions.specs.Studies.{tripletsIn}
-use Rattle.study.specs.Counts.{fewWeights}
+use Rattle.study_counts.specs.Counts.{fewWeights}
 use Rattle.triplet_study.specs.Given.{Given, givenQuestions}
 
 -- Question 1, the count of weights

@@ -1,11 +1,2 @@
 -- The laws.
-pub mod SizeLaws
-pub mod SetLaws
-pub mod WalkLaws
-pub mod WeightLaws
-pub mod FlagLaws
 pub mod AnswerLaws
-pub mod PointLaws
-pub mod IdLaws
-pub mod StartLaws
-pub mod SingleLaws

@@ -13,8 +13,8 @@ use Rattle.question_grids.specs.Ask.{Question, asks, firstNo, afterCall}
 use Rattle.question_values.specs.Averages.{areDegenerateIds, areWeights}
 use Rattle.question_values.specs.Counts.{isBandCount}
 use Rattle.question_values.specs.TpTypes.{isTpType, channelsOf}
-use Rattle.averaging.specs.Weights.{averagedPoints}
-use Rattle.averaging.specs.Flags.{averagedFlagPoints}
+use Rattle.averaging_blocks.specs.Weights.{averagedPoints}
+use Rattle.averaging_blocks.specs.Flags.{averagedFlagPoints}
 use Rattle.averaging.specs.declared.AveragingAnswer.{AveragingAnswer}
 use Rattle.averaging.specs.declared.AveragingAnswer.the-variants.{Averaged, Refused}
 

@@ -1,5 +1,2 @@
 -- The definitions that the contracts cite.
-pub mod Sets
-pub mod Weights
-pub mod Flags
 pub mod Answers

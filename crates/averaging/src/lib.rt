@@ -9,8 +9,6 @@ use question_values::kernel::counts::band_count_ok;
 use question_values::kernel::tp_type::channels_of;
 use question_values::kernel::tp_type::tp_type_ok;
 
-pub mod kernel;
-
 // Done, or the number of the first question that is answered no.
 pub enum AveragingAnswer {
     Averaged,
@@ -84,7 +82,19 @@ pub fn average_weights_over_degenerate_sets(
     let bands = magnitude(num_band);
     let points = magnitude(num_band0);
     let all_points = channels_of(tp_type) * points;
-    kernel::weights::average_points(iw, degenerate_ids1, degenerate_ids2, bands, all_points);
-    kernel::flags::average_points(iw_zero, degenerate_ids1, degenerate_ids2, bands, points);
+    averaging_blocks::kernel::weights::average_points(
+        iw,
+        degenerate_ids1,
+        degenerate_ids2,
+        bands,
+        all_points,
+    );
+    averaging_blocks::kernel::flags::average_points(
+        iw_zero,
+        degenerate_ids1,
+        degenerate_ids2,
+        bands,
+        points,
+    );
     AveragingAnswer::Averaged
 }

@@ -12,8 +12,8 @@ use Rattle.grgrid.specs.Index.{gridIndex}
 use Rattle.bzgrid.specs.Neighbours.{gridOf, kindOf, neighboursOfAll, neighboursOf, neighbourOf, wantedAddress, sparseNeighbour, mapOnDoubled, denseNeighbour, inGroup, isAddress}
 use Rattle.relative_grid_address.specs.Answer.{tableAnswer}
 use Rattle.relative_grid_address.specs.Diagonal.{mainDiagonalOf}
-use Rattle.averaging.specs.Weights.{averagedPoints}
-use Rattle.averaging.specs.Flags.{averagedFlagPoints}
+use Rattle.averaging_blocks.specs.Weights.{averagedPoints}
+use Rattle.averaging_blocks.specs.Flags.{averagedFlagPoints}
 use Rattle.question_grids.specs.Ask.{firstNo}
 use Rattle.question_values.specs.Averages.{isDegenerateId, areDegenerateIds, isWeight, areWeights}
 use Rattle.question_values.specs.Counts.{isBandCount, isProduct}

@@ -20,10 +20,10 @@ use Rattle.list_laws.proofs.GroupLaws.{group-back, someGroups, groups-more}
 use Rattle.ieee_laws.specs.Zeros.{plusZero}
 use Rattle.triplet_piece.specs.declared.Sizes.{Sizes}
 use Rattle.triplet_piece.specs.Layout.{tripletAt}
-use Rattle.averaging.specs.Weights.{averaged, averagedPoints}
-use Rattle.averaging.specs.Flags.{averagedFlags, averagedFlagPoints}
-use Rattle.averaging.proofs.WeightLaws.{averaged-length}
-use Rattle.averaging.proofs.FlagLaws.{flags-length}
+use Rattle.averaging_blocks.specs.Weights.{averaged, averagedPoints}
+use Rattle.averaging_blocks.specs.Flags.{averagedFlags, averagedFlagPoints}
+use Rattle.averaging_blocks.proofs.WeightLaws.{averaged-length}
+use Rattle.averaging_blocks.proofs.FlagLaws.{flags-length}
 use Rattle.sheet_step.specs.Steps.{tripletAveraged, tripletFlagsAveraged, Counted}
 use Rattle.sheet_step.proofs.CountLaws.{cells-by-size}
 

@@ -17,8 +17,8 @@ use Rattle.triplet_piece.specs.declared.Sizes.{Sizes}
 use Rattle.triplet_piece.specs.Layout.{tripletAt}
 use Rattle.triplet_piece.specs.Study.{sizesOf, computedWeights, computedFlags}
 use Rattle.triplet_study.specs.Given.{Given, givenQuestions, studyOf, areLengths}
-use Rattle.averaging.specs.Weights.{averaged}
-use Rattle.averaging.specs.Flags.{averagedFlags}
+use Rattle.averaging_blocks.specs.Weights.{averaged}
+use Rattle.averaging_blocks.specs.Flags.{averagedFlags}
 use Rattle.sheet_step.specs.declared.SheetAnswer.{SheetAnswer}
 use Rattle.sheet_step.specs.declared.SheetAnswer.the-variants.{Done, Refused}
 use Rattle.sheet_step.specs.Marks.{isOpenAt, areMarks, isNotAveraged, areComputed, openPieces, carriedMarks, averagedMarks}

@@ -1,2 +1,1 @@
-pub mod CountLaws
 pub mod StudyLaws

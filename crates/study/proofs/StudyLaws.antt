@@ -15,39 +15,9 @@ use Rattle.text.specs.Pieces.{index, ended}
 use Rattle.text.proofs.FieldLaws.{drop-past}
 use Rattle.text.proofs.PieceLaws.{ended-step}
 use Rattle.sections.specs.Lines.{read, wrong, once, rows, wholeField, patternField}
-use Rattle.study.specs.declared.Head.{Head}
-use Rattle.study.specs.Studies.{gridTag, diagTag, typeTag, bandsTag, addrTag, mapTag, f1Tag, f2Tag, pointTag, tripletTag, headFrom, headPart, gridPart, floatsPart, holds, holdsNone, whole, studyOfLines, endsLine, studyIn}
-
--- ---- the head
-
-module _ (ls : List (List ℕ)) where
-  pub no-grid : once wholeField gridTag 4 ls ≡ wrong → headPart ls ≡ wrong
-  unfolding headPart
-  no-grid e = rw e
-
-  module _ (g : List ℤ) (ls₁ : List (List ℕ)) (e : once wholeField gridTag 4 ls ≡ read g ls₁) where
-    pub no-diag : once wholeField diagTag 1 ls₁ ≡ wrong → headPart ls ≡ wrong
-    unfolding headPart
-    no-diag f = rw (e, f)
-
-    module _ (d : List ℤ) (ls₂ : List (List ℕ)) (f : once wholeField diagTag 1 ls₁ ≡ read d ls₂) where
-      pub no-type : once wholeField typeTag 1 ls₂ ≡ wrong → headPart ls ≡ wrong
-      unfolding headPart
-      no-type h = rw (e, f, h)
-
-      module _ (t : List ℤ) (ls₃ : List (List ℕ)) (h : once wholeField typeTag 1 ls₂ ≡ read t ls₃) where
-        pub no-bands : once wholeField bandsTag 2 ls₃ ≡ wrong → headPart ls ≡ wrong
-        unfolding headPart
-        no-bands k = rw (e, f, h, k)
-
-        module _ (b : List ℤ) (ls₄ : List (List ℕ)) (k : once wholeField bandsTag 2 ls₃ ≡ read b ls₄) where
-          pub bad-diag : isBetween 0 3 (at d 0) ≡ false → headPart ls ≡ wrong
-          unfolding headPart
-          bad-diag w = rw (e, f, h, k, w)
-
-          pub head-read : isBetween 0 3 (at d 0) ≡ true → headPart ls ≡ read (headFrom g d t b) ls₄
-          unfolding headPart
-          head-read w = rw (e, f, h, k, w)
+use Rattle.study_head.specs.declared.Head.{Head}
+use Rattle.study_head.specs.Heads.{gridTag, diagTag, typeTag, bandsTag, headFrom, headPart, endsLine}
+use Rattle.study.specs.Studies.{addrTag, mapTag, f1Tag, f2Tag, pointTag, tripletTag, gridPart, floatsPart, holds, holdsNone, whole, studyOfLines, studyIn}
 
 -- ---- addresses and map
 
@@ -97,14 +67,6 @@ module _ (text : List ℕ) where
   unfolding studyIn
   not-ended l e = rw (le-leb (length text) 16384 l, e)
 
-  pub empty-not-ended : length text ≡ 0 → false ≡ endsLine text
-  unfolding endsLine
-  empty-not-ended e = go text e
-    where
-      go : (t : List ℕ) → length t ≡ 0 → false ≡ eqb (getD t (length t - 1) 0) 10
-      go [] e = refl
-      go (x ∷ t) e = absurd (omega (arith, e))
-
   module _ (l : length text ≤ 16384) (n : endsLine text ≡ true) where
     of-lines : studyIn text ≡ studyOfLines (ended 10 text)
     unfolding studyIn
@@ -139,12 +101,3 @@ module _ (text : List ℕ) where
             pub study-read : length text ≤ p → studyIn text ≡ holds (record { head = h; addresses = g .0; gp-map = g .1; f1 = v .0; f2 = v .1; points = v .2; triplets = t })
             unfolding studyOfLines whole ended
             study-read m = of-lines ∙ rw (e, f, k, w) (rw (drop-past text p m))
-
--- the head as the code makes it from whole arrays
-pub head-is : (ls : List (List ℕ)) (g d t b : List ℤ) (ls₄ : List (List ℕ)) (h : Head) → headPart ls ≡ read (headFrom (take 4 g) (take 1 d) (take 1 t) (take 2 b)) ls₄
-    → length g ≡ 4 → length d ≡ 1 → length t ≡ 1 → length b ≡ 2 → h ≡ headFrom g d t b → headPart ls ≡ read h ls₄
-head-is ls g d t b ls₄ h e p q r s f =
-    e ∙ rw (take-all 4 g (omega (arith, p)), take-all 1 d (omega (arith, q)), take-all 1 t (omega (arith, r)), take-all 2 b (omega (arith, s)), f)
-
-pub first-of-one : (d : List ℤ) → length d ≡ 1 → at (take 1 d) 0 ≡ at d 0
-first-of-one d q = rw (take-all 1 d (omega (arith, q)))

@@ -5,9 +5,6 @@ use lib.IntN.{ℤ}
 use lib.ListN.{take, drop}
 use Rattle.text.specs.Pieces.{ended}
 use Rattle.sections.specs.Lines.{Part, read, wrong}
-use Rattle.study.specs.declared.Head.{Head}
-use Rattle.study.specs.declared.HeadRead.{HeadRead}
-use Rattle.study.specs.declared.HeadRead.the-variants as H
 use Rattle.study.specs.declared.GridRead.{GridRead}
 use Rattle.study.specs.declared.GridRead.the-variants as G
 use Rattle.study.specs.declared.FloatsRead.{FloatsRead}
@@ -15,11 +12,6 @@ use Rattle.study.specs.declared.FloatsRead.the-variants as F
 use Rattle.study.specs.declared.StudyRead.{StudyRead}
 use Rattle.study.specs.declared.StudyRead.the-variants as S
 use Rattle.study.specs.Studies.{Holds, holds, holdsNone}
-
--- of `parse_head`
-abbrev pub toldHead : HeadRead → List ℕ → Part Head
-toldHead H.Bad text = wrong
-toldHead (H.Read head next) text = read head (ended 10 (drop next text))
 
 -- of `parse_grid`
 abbrev pub toldGrid : GridRead → List ℤ → List ℤ → List ℕ → Part (List ℤ × List ℤ)

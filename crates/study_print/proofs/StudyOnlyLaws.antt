@@ -15,8 +15,9 @@ use Rattle.list_laws.specs.Signed.{isBetween}
 use Rattle.text.specs.Pieces.{ended}
 use Rattle.text.specs.Spelled.{signed, hexadecimal}
 use Rattle.sections.specs.Lines.{Got, Part, read, wrong, andThen, rows, once, wholeField, patternField}
-use Rattle.study.specs.declared.Head.{Head}
-use Rattle.study.specs.Studies.{Study, holds, holdsNone, whole, studyIn, studyOfLines, endsLine, headPart, gridPart, floatsPart, headFrom, gridTag, diagTag, typeTag, bandsTag, addrTag, mapTag, f1Tag, f2Tag, pointTag, tripletTag}
+use Rattle.study_head.specs.declared.Head.{Head}
+use Rattle.study.specs.Studies.{Study, holds, holdsNone, whole, studyIn, studyOfLines, gridPart, floatsPart, addrTag, mapTag, f1Tag, f2Tag, pointTag, tripletTag}
+use Rattle.study_head.specs.Heads.{endsLine, headPart, headFrom, gridTag, diagTag, typeTag, bandsTag}
 use Rattle.study_print.specs.Printed.{line, section, textOf, headLines, studyLines, printed, Each, Signed64, Pattern64, Printable}
 use Rattle.study_print.proofs.StudyTextLaws.{read-printed}
 use Rattle.study_print.proofs.OnlyLaws.{Only, only-signed, only-pattern, lines-only, once-only, Sectioned, rows-only}

@@ -12,8 +12,10 @@ use borrow.Author.Tests.{eq-eqb}
 use Rattle.text.specs.Pieces.{ended, same}
 use Rattle.text.specs.Spelled.{signed, hexadecimal}
 use Rattle.sections.specs.Lines.{Got, read, rows, wholeField, patternField}
-use Rattle.study.specs.Studies.{Study, holds, studyIn, endsLine, headPart, gridPart, floatsPart, headFrom, gridTag, diagTag, typeTag, bandsTag, addrTag, mapTag, f1Tag, f2Tag, pointTag, tripletTag}
-use Rattle.study.proofs.StudyLaws.{head-read, grid-read, floats-read, study-read}
+use Rattle.study.specs.Studies.{Study, holds, studyIn, gridPart, floatsPart, addrTag, mapTag, f1Tag, f2Tag, pointTag, tripletTag}
+use Rattle.study_head.specs.Heads.{endsLine, headPart, headFrom, gridTag, diagTag, typeTag, bandsTag}
+use Rattle.study_head.proofs.HeadLaws.{head-read}
+use Rattle.study.proofs.StudyLaws.{grid-read, floats-read, study-read}
 use Rattle.study_print.specs.Printed.{line, section, headLines, studyLines, printed, Each, Signed64, Pattern64, Printable}
 use Rattle.study_print.proofs.LineLaws.{absent, AllSpell, Stops, once-read, section-read, stops-through, Clean, clean-append, clean-line, clean-section, lines-read, last-byte}
 use Rattle.study_print.proofs.FieldLaws.{spells-signed, spells-pattern}

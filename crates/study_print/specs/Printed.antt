@@ -8,8 +8,9 @@ use lib.ListN.{length, take, drop}
 use lib.Signed.{mag}
 use Rattle.list_laws.specs.Signed.{isBetween}
 use Rattle.text.specs.Spelled.{signed, hexadecimal}
-use Rattle.study.specs.declared.Head.{Head}
-use Rattle.study.specs.Studies.{Study, gridTag, diagTag, typeTag, bandsTag, addrTag, mapTag, f1Tag, f2Tag, pointTag, tripletTag}
+use Rattle.study_head.specs.declared.Head.{Head}
+use Rattle.study.specs.Studies.{Study, addrTag, mapTag, f1Tag, f2Tag, pointTag, tripletTag}
+use Rattle.study_head.specs.Heads.{gridTag, diagTag, typeTag, bandsTag}
 
 -- values as fields, "one tab between fields": a tab before each
 unfoldable pub fields : {A : Type 0} → (A → List ℕ) → List A → List ℕ

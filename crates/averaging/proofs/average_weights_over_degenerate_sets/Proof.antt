@@ -8,10 +8,10 @@ use mir.ValLaws.{toZ-ofZ}
 use Rattle.question_values.specs.TpTypes.{channelsOf}
 use Rattle.question_grids.proofs.AskLaws.{after-done, after-refused}
 use Rattle.averaging.specs.Answers.{averagingNo}
-use Rattle.averaging.specs.Weights.{averagedPoints}
-use Rattle.averaging.specs.Flags.{averagedFlagPoints}
+use Rattle.averaging_blocks.specs.Weights.{averagedPoints}
+use Rattle.averaging_blocks.specs.Flags.{averagedFlagPoints}
 use Rattle.averaging.specs.declared.AveragingAnswer.the-variants.{Refused}
-use Rattle.averaging.proofs.SizeLaws.{points-le}
+use Rattle.averaging_blocks.proofs.SizeLaws.{points-le}
 use Rattle.questions.proofs.StudyLaws.{channels-le}
 use Rattle.averaging.proofs.AnswerLaws.{Accepted, accepted, answer-refused, answer-done}
 use borrow.Author.Needs.{needs}

@@ -15,7 +15,7 @@ use Rattle.question_values.specs.Averages.{areDegenerateIds}
 use Rattle.question_values.specs.Counts.{isBandCount}
 use Rattle.question_values.specs.TpTypes.{isTpType, channelsOf}
 use Rattle.averaging.specs.Answers.{flagCount}
-use Rattle.averaging.proofs.SizeLaws.{square-le, flags-le, weights-le}
+use Rattle.averaging_blocks.proofs.SizeLaws.{square-le, flags-le, weights-le}
 use Rattle.questions.proofs.StudyLaws.{channels-le}
 use Rattle.averaging.proofs.AnswerLaws.{counts-le}
 use borrow.Author.Needs.{needs}

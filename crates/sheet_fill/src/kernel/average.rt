@@ -4,7 +4,7 @@ ghost use Prim.Native.Nat.{_+_, _*_, _<_, _≤_};
 ghost use lib.Ieee.{nan};
 ghost use lib.ListN.{length};
 ghost use Rattle.list_laws.specs.Groups.{groupMade};
-ghost use Rattle.averaging.specs.Weights.{averaged};
+ghost use Rattle.averaging_blocks.specs.Weights.{averaged};
 ghost use Rattle.sheet_step.specs.Steps.{tripletAveraged, tripletFlagsAveraged, Counted};
 use triplet_piece::Sizes;
 
@@ -26,7 +26,7 @@ fn average_channel(
     let size = points * z.pairs;
     let start = c * z.cells + t * size;
     let end = start + size;
-    averaging::kernel::weights::average_points(
+    averaging_blocks::kernel::weights::average_points(
         &mut weights[start..end],
         degenerate_ids1,
         degenerate_ids2,
@@ -70,7 +70,7 @@ pub fn average_flags(
     let size = points * z.pairs;
     let start = t * size;
     let end = start + size;
-    averaging::kernel::flags::average_points(
+    averaging_blocks::kernel::flags::average_points(
         &mut flags[start..end],
         degenerate_ids1,
         degenerate_ids2,

@@ -5,9 +5,10 @@ use native.Mathlib.Omega.{arith}
 use Rattle.list_laws.proofs.BoolLaws.{no-of, yes-of}
 use Rattle.sections.specs.Lines.{toldRows}
 use Rattle.study.proofs.StudyLaws.{more-lines, no-floats-part, no-grid-part, no-head, no-triplets, not-ended, study-read, too-long}
-use Rattle.study.specs.Told.{toldFloats, toldGrid, toldHead}
+use Rattle.study.specs.Told.{toldFloats, toldGrid}
+use Rattle.study_head.specs.Told.{toldHead}
 use Rattle.sections.specs.declared.Rows.{Rows}
-use Rattle.study.specs.declared.HeadRead.{HeadRead}
+use Rattle.study_head.specs.declared.HeadRead.{HeadRead}
 use Rattle.study.specs.declared.GridRead.{GridRead}
 use Rattle.study.specs.declared.FloatsRead.{FloatsRead}
 use Rattle.study.proofs.kernel.read_study.Statement.{statement}

@@ -6,7 +6,7 @@ use lib.ListN.{length}
 use mathlib.Core.Path.{_∙_, _≡_, ap}
 use native.Mathlib.Omega.{arith}
 use Rattle.list_laws.proofs.GroupLaws.{groups-length, groups-none, someGroups}
-use Rattle.averaging.specs.Weights.{averaged}
+use Rattle.averaging_blocks.specs.Weights.{averaged}
 use Rattle.sheet_fill.proofs.AverageLaws.{channel-turn, channels-all}
 use Rattle.sheet_fill.proofs.kernel.average.average_weights.Statement.{statement}
 use Rattle.sheet_fill.proofs.kernel.average.average_weights.Tie as tie

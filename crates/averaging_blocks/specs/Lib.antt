@@ -1,0 +1,3 @@
+-- The definitions.
+pub mod Weights
+pub mod Flags

@@ -1,0 +1,3 @@
+// Averages matrices in place: weights and flags.
+pub mod flags;
+pub mod weights;

@@ -1,0 +1,4 @@
+-- The laws.
+pub mod SetLaws
+pub mod WalkLaws
+pub mod IdLaws

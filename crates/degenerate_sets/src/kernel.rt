@@ -1,0 +1,2 @@
+// The sets of an id list.
+pub mod sets;

@@ -1,0 +1,2 @@
+// The degenerate sets of an id list, and the walk over their blocks.
+pub mod kernel;

@@ -1,0 +1,33 @@
+// The count of a study's weights.
+ghost use mathlib.Core.Path.{_≡_};
+ghost use Rattle.study_counts.specs.Counts.{fewWeights};
+
+// Question 1, the count of weights.
+pub fn weight_count_ok(
+    tp_type: i64,
+    num_band1: i64,
+    num_band2: i64,
+    points: usize,
+    triplets: usize,
+) -> bool
+    ensures { λ r. ⌜ r ≡ fewWeights «tp_type» «num_band1» «num_band2» points triplets ⌝ }
+{
+    if !question_values::kernel::tp_type::tp_type_ok(tp_type) {
+        return true;
+    }
+    if !question_values::kernel::counts::band_count_ok(num_band1) {
+        return true;
+    }
+    if !question_values::kernel::counts::band_count_ok(num_band2) {
+        return true;
+    }
+    if !question_values::kernel::counts::point_count_ok(points) {
+        return true;
+    }
+    if !question_values::kernel::counts::triplet_count_ok(triplets) {
+        return true;
+    }
+    let channels = question_values::kernel::tp_type::channels_of(tp_type);
+    let bands = common::kernel::magnitude(num_band1) * common::kernel::magnitude(num_band2);
+    channels * triplets * points * bands <= 4096
+}
