@@ -1,14 +1,14 @@
 #!/bin/sh
-# usage: bench/run.sh SOURCES
+# usage: bench/run.sh [--other-sources] SOURCES
 # The load of request 13 through the proved `sheet::carry_on` and through the original Rust: checksums, time, instructions, growth; and
 # one weight. SOURCES is the folder of the original's Rust sources. README.md here says what is printed.
 set -eu
-[ $# -eq 1 ] || { sed -n 2,4p "$0"; exit 2; }
+[ $# -eq 1 ] || [ "${1-} $#" = '--other-sources 2' ] || { sed -n 2,4p "$0"; exit 2; }
 here=$(cd "$(dirname "$0")" && pwd)
 tmp=$(mktemp -d)
 trap 'rm -rf "$tmp"' EXIT
 trap 'exit 1' HUP INT TERM
-"$here/../compare/build.sh" "$1" "$tmp" bench
+"$here/../compare/build.sh" "$@" "$tmp" bench
 program=$tmp/bench
 export RAYON_NUM_THREADS=1
 

@@ -87,7 +87,7 @@ def tried(sources, out, seed, change):
             shutil.copytree(REPO / part, room / part)
         module = change[0]
         changed(room / "compare/judge/asks.rs" if module == "asks" else source_file(room / "sources", module), *change[1:])
-        subprocess.run([room / "compare/build.sh", room / "sources", out, "judge"], check=True, stdout=subprocess.DEVNULL)
+        subprocess.run([room / "compare/build.sh", "--other-sources", room / "sources", out, "judge"], check=True, stdout=subprocess.DEVNULL)
         end = subprocess.run([out / "judge", str(seed), "times", "1"], stdout=subprocess.PIPE, stderr=subprocess.DEVNULL, text=True)
         kinds = seen_by(end.stdout)
         seen = end.returncode != 0 and kinds != []
