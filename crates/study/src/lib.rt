@@ -23,7 +23,7 @@ pub enum HeadRead {
 pub enum GridRead {
     Read {
         addresses: usize,
-        map: usize,
+        gp_map: usize,
         next: usize,
     },
     Bad,
@@ -45,7 +45,7 @@ pub enum StudyRead {
     Read {
         head: Head,
         addresses: usize,
-        map: usize,
+        gp_map: usize,
         f1: usize,
         f2: usize,
         points: usize,
