@@ -15,7 +15,7 @@ pub fn answer(text: &[u8], out: &mut [u8; 118617]) -> usize
     ensures { λ r. ⌜ now (out .exit) ≡ answered (answerOf (now (text .entry))) (now (out .entry)) ⌝ }
 {
     let mut addresses = held::triples();
-    let mut map = held::numbers();
+    let mut gp_map = held::numbers();
     let mut f1 = held::patterns();
     let mut f2 = held::patterns();
     let mut points = held::patterns();
@@ -23,7 +23,7 @@ pub fn answer(text: &[u8], out: &mut [u8; 118617]) -> usize
     let StudyRead::Read {
         head: h,
         addresses: a,
-        map: m,
+        gp_map: m,
         f1: i,
         f2: j,
         points: k,
@@ -31,7 +31,7 @@ pub fn answer(text: &[u8], out: &mut [u8; 118617]) -> usize
     } = study::kernel::read_study(
         text,
         &mut addresses,
-        &mut map,
+        &mut gp_map,
         &mut f1,
         &mut f2,
         &mut points,
@@ -44,7 +44,7 @@ pub fn answer(text: &[u8], out: &mut [u8; 118617]) -> usize
         out,
         h,
         &addresses[..a],
-        &map[..m],
+        &gp_map[..m],
         &f1[..i],
         &f2[..j],
         &points[..k],

@@ -25,17 +25,17 @@ use Rattle.sheet_step.specs.Marks.{isComputedAt, areComputed, averagedMarks}
 use Rattle.sheet_step.specs.Steps.{Sheet, average, countsOf, averagedAt, averagedFlagAt, tripletAveraged, tripletFlagsAveraged, effect}
 use Rattle.book_claim.specs.Book.{Word, fresh, computed, averagedBy, Book, markOf, computedRow, computedFlagRow, weightBy, flagBy, wordOfWeight, wordOfFlag, render, writes}
 use Rattle.book_claim.proofs.EntryLaws.{getD-each, patch-each}
-use Rattle.book_claim.proofs.WordLaws.{average-entry, computed-mark}
+use Rattle.book_claim.proofs.WordLaws.{average-entry, one-computed}
 use Rattle.book_claim.proofs.PlaceLaws.{factor-pos, piece-div, row-piece, wrapped-triplet, wrapped-piece}
 use Rattle.book_claim.proofs.AcceptedLaws.{Accepted}
-use Rattle.book_claim.proofs.RunLaws.{sheet-same, weights-long, flags-long, words-long, weight-word, flag-word}
+use Rattle.book_claim.proofs.RunLaws.{sheet-same, weights-long, flags-long, words-on-sheet, weight-word, flag-word}
 
 -- the marks' yes to question 18, of words
 words-computed : (l : List Word) (b t k : ℕ) → areComputed b (map markOf l) t ≡ true → k < b → t * b + k < length l → getD l (t * b + k) fresh ≡ computed
 unfolding areComputed isComputedAt
 words-computed l b t k e h m =
     let f : eqb (getD (map markOf l) (t * b + k) 1) 1 ≡ true = below-at b (λ k. eqb (getD (map markOf l) (t * b + k) 1) 1) e k h in
-    computed-mark (getD l (t * b + k) fresh) (sym (getD-map-lt markOf l (t * b + k) 1 fresh m) ∙ eqb-true (getD (map markOf l) (t * b + k) 1) 1 f)
+    one-computed (getD l (t * b + k) fresh) (sym (getD-map-lt markOf l (t * b + k) 1 fresh m) ∙ eqb-true (getD (map markOf l) (t * b + k) 1) 1 f)
 
 module _ (g : Given) (start : Sheet) (b : Book) (t : ℤ) (ids1 ids2 : List ℤ) (a : Accepted g (render g start b) (average t ids1 ids2)) where
   -- the triplet's words are computed
@@ -43,7 +43,7 @@ module _ (g : Given) (start : Sheet) (b : Book) (t : ℤ) (ids1 ids2 : List ℤ)
   unfolding render
   all-computed k h =
       words-computed (b .words) (countsOf g .pairs) (mag t) k (a .own .1 .1 .1 .1 .0) h
-      (rw (words-long g start b (average t ids1 ids2) a) (digits-lt (below-lt t (countsOf g .triplets) (a .own .0)) h))
+      (rw (words-on-sheet g start b (average t ids1 ids2) a) (digits-lt (below-lt t (countsOf g .triplets) (a .own .0)) h))
 
   -- the row of a weight's place is the study's
   weight-row : (i : ℕ) → i < length (start .weights) → tripletAt (countsOf g .points) (countsOf g .pairs) (i % countsOf g .cells) ≡ mag t

@@ -22,7 +22,7 @@ use Rattle.book_claim.proofs.Words.{words-long, never-ran, ran, average
 
 -- a start on which no piece is marked, any content, any tally; and any list of calls
 module _ (g : Given) (start : Sheet) (unmarked : start .marks ≡ replicate (length (start .marks)) 0) (calls : List Call) where
-  is-book : played g start calls ≡ render g start (booked g start (opened start) calls)
+  pub is-book : played g start calls ≡ render g start (booked g start (opened start) calls)
   is-book = demand-3 g start unmarked calls .0
 
   -- ---- the lent buffers keep their lengths

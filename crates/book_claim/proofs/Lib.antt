@@ -12,3 +12,5 @@ pub mod CutLaws
 pub mod Questions
 pub mod Words
 pub mod Corollaries
+pub mod MarkLaws
+pub mod DoneLaws

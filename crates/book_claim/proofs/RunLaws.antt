@@ -37,20 +37,21 @@ module _ (g : Given) (start : Sheet) (b : Book) where
   -- ---- on an accepted call: the piece of a weight's place, and of a flag's, has a word
 
   module _ (c : Call) (a : Accepted g (render g start b) c) where
-    pub words-long : length (b .words) ≡ countsOf g .triplets * countsOf g .pairs
-    words-long = sym marks-long ∙ a .marked
+    -- a word for each piece of the study
+    pub words-on-sheet : length (b .words) ≡ countsOf g .triplets * countsOf g .pairs
+    words-on-sheet = sym marks-long ∙ a .marked
 
     pub flag-word : (j : ℕ) → j < length (start .flags) → pieceAt (countsOf g .points) (countsOf g .pairs) j < length (b .words)
     flag-word j h =
         let e : length (start .flags) ≡ countsOf g .triplets * countsOf g .points * countsOf g .pairs = sym flags-long ∙ a .fits .flagged ∙ a .fits .cells in
-        rw words-long (piece-lt (countsOf g .points) (countsOf g .pairs) (countsOf g .triplets) (a .some) (a .fits .some) j (rw e at h))
+        rw words-on-sheet (piece-lt (countsOf g .points) (countsOf g .pairs) (countsOf g .triplets) (a .some) (a .fits .some) j (rw e at h))
 
     pub weight-word : (i : ℕ) → i < length (start .weights) → pieceAt (countsOf g .points) (countsOf g .pairs) (i % countsOf g .cells) < length (b .words)
     weight-word i h =
         let e : length (start .weights) ≡ countsOf g .channels * countsOf g .cells = sym weights-long ∙ a .fits .weighed in
         let k : i % countsOf g .cells < countsOf g .cells = mod-lt i (factor-pos i (countsOf g .channels) (countsOf g .cells) (rw e at h)) in
         let m : i % countsOf g .cells < countsOf g .triplets * countsOf g .points * countsOf g .pairs = subst (λ (n : ℕ). i % countsOf g .cells < n) (a .fits .cells) k in
-        rw words-long (piece-lt (countsOf g .points) (countsOf g .pairs) (countsOf g .triplets) (a .some) (a .fits .some) (i % countsOf g .cells) m)
+        rw words-on-sheet (piece-lt (countsOf g .points) (countsOf g .pairs) (countsOf g .triplets) (a .some) (a .fits .some) (i % countsOf g .cells) m)
 
   -- ---- a run
 

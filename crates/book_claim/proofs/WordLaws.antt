@@ -54,15 +54,17 @@ carried-mark fresh = refl
 carried-mark computed = refl
 carried-mark (averagedBy ids1 ids2) = refl
 
-open-mark : (w : Word) → eqb (markOf w) 0 ≡ isOpen w
+-- a mark 0 is an open word
+pub open-mark : (w : Word) → eqb (markOf w) 0 ≡ isOpen w
 open-mark fresh = refl
 open-mark computed = refl
 open-mark (averagedBy ids1 ids2) = refl
 
-pub computed-mark : (w : Word) → markOf w ≡ 1 → w ≡ computed
-computed-mark fresh e = absurd (let z : ⊥ = omega arith in z)
-computed-mark computed e = refl
-computed-mark (averagedBy ids1 ids2) e = absurd (let z : ⊥ = omega arith in z)
+-- a mark 1 is a computed word
+pub one-computed : (w : Word) → markOf w ≡ 1 → w ≡ computed
+one-computed fresh e = absurd (let z : ⊥ = omega arith in z)
+one-computed computed e = refl
+one-computed (averagedBy ids1 ids2) e = absurd (let z : ⊥ = omega arith in z)
 
 -- the open pieces of the words are those of their marks
 pub open-count : (l : List Word) → openPieces (map markOf l) ≡ openWords l

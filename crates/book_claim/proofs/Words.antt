@@ -1,6 +1,6 @@
 -- Which word the book has for a piece after a list of calls, by the accepted calls of the list. Assumes nothing.
 use mathlib.Core.Path.{_≡_, refl, sym, ap, _∙_}
-use mathlib.Core.Bool.{Bool, true, false}
+use mathlib.Core.Bool.{Bool, true, false, not}
 use mathlib.Core.List.{List, [], _∷_}
 use mathlib.Core.Logic.{⊎-elim}
 use Prim.Native.Nat.{ℕ, zero, suc, _/_, _<_, _≤_}
@@ -42,7 +42,7 @@ one-true true e = absurd (let z : ⊥ = omega arith in z)
 one-true false e = refl
 
 module _ (g : Given) (start : Sheet) where
-  opened-long : length (opened start .words) ≡ length (start .marks)
+  pub opened-long : length (opened start .words) ≡ length (start .marks)
   unfolding opened
   opened-long = length-replicate (length (start .marks)) fresh
 
@@ -79,6 +79,17 @@ module _ (g : Given) (start : Sheet) where
     pub averaged-flag-on : (j : ℕ) → j < length (start .flags) → pieceOfFlag g j < length (start .marks)
     averaged-flag-on j h = sheet-flag (booked g start (opened start) (a .before)) (average (a .named) ids1 ids2) (a .accepted) (words-long (a .before)) j h
 
+  -- ---- what its word says of the calls on a piece
+
+  -- it is open exactly where no accepted call has run the piece
+  pub word-ran : (calls : List Call) (q : ℕ) → q < length (start .marks) → isOpen (wordAt (booked g start (opened start) calls) q) ≡ not (hasRun g start (opened start) q calls)
+  word-ran calls q h = open-along g start q (opened start) calls (in-opened q h) ∙ rw (opened-fresh q)
+
+  -- its triplet has been averaged once where it is averaged, otherwise never
+  pub word-averaged : (calls : List Call) (q : ℕ) → q < length (start .marks)
+      → averagings g start (opened start) (q / countsOf g .pairs) calls ≡ oneIf (isAveraged (wordAt (booked g start (opened start) calls) q))
+  word-averaged calls q h = let count : _ = rw (opened-fresh q) at (averaged-along g start q (opened start) calls (in-opened q h)) in omega (arith, count)
+
   -- ---- which word a piece has, by the calls
 
   -- a piece that no accepted call has run is open
@@ -88,7 +99,7 @@ module _ (g : Given) (start : Sheet) where
       inside : q < length (start .marks) → wordAt (booked g start (opened start) calls) q ≡ fresh
       inside h =
           open-fresh (wordAt (booked g start (opened start) calls) q)
-          (open-along g start q (opened start) calls (in-opened q h) ∙ rw (opened-fresh q, e))
+          (word-ran calls q h ∙ rw e)
 
       outside : length (start .marks) ≤ q → wordAt (booked g start (opened start) calls) q ≡ fresh
       outside h = beyond (booked g start (opened start) calls .words) q fresh (rw (words-long calls) h)
@@ -97,9 +108,8 @@ module _ (g : Given) (start : Sheet) where
   pub ran : (calls : List Call) (q : ℕ) → q < length (start .marks) → hasRun g start (opened start) q calls ≡ true
       → averagings g start (opened start) (q / countsOf g .pairs) calls ≡ 0 → wordAt (booked g start (opened start) calls) q ≡ computed
   ran calls q h e n =
-      let count : _ = rw (opened-fresh q) at (averaged-along g start q (opened start) calls (in-opened q h)) in
-      neither-computed (wordAt (booked g start (opened start) calls) q) (open-along g start q (opened start) calls (in-opened q h) ∙ rw (opened-fresh q, e))
-      (one-true (isAveraged (wordAt (booked g start (opened start) calls) q)) (omega (arith, count, n)))
+      neither-computed (wordAt (booked g start (opened start) calls) q) (word-ran calls q h ∙ rw e)
+      (one-true (isAveraged (wordAt (booked g start (opened start) calls) q)) (sym (word-averaged calls q h) ∙ n))
 
   -- the pieces of a triplet of which an averaging was accepted are averaged, with that call's lists beside them
   pub averaged : (calls : List Call) (q : ℕ) (ids1 ids2 : List ℤ) → q < length (start .marks) → AveragedBy g start (opened start) (q / countsOf g .pairs) ids1 ids2 calls
@@ -118,14 +128,12 @@ module _ (g : Given) (start : Sheet) where
   pub averaged-once : (calls : List Call) (q : ℕ) (ids1 ids2 : List ℤ) → q < length (start .marks) → wordAt (booked g start (opened start) calls) q ≡ averagedBy ids1 ids2
       → AveragedBy g start (opened start) (q / countsOf g .pairs) ids1 ids2 calls × (averagings g start (opened start) (q / countsOf g .pairs) calls ≡ 1)
   averaged-once calls q ids1 ids2 h e =
-      let count : _ = rw (opened-fresh q, e) at (averaged-along g start q (opened start) calls (in-opened q h)) in
-      (averaged-by g start q ids1 ids2 (opened start) calls (in-opened q h) (ap isAveraged (opened-fresh q)) e, omega (arith, count))
+      (averaged-by g start q ids1 ids2 (opened start) calls (in-opened q h) (ap isAveraged (opened-fresh q)) e, word-averaged calls q h ∙ rw e)
 
   -- and no triplet more than once
   pub at-most-once : (calls : List Call) (q : ℕ) → q < length (start .marks) → averagings g start (opened start) (q / countsOf g .pairs) calls ≤ 1
   at-most-once calls q h =
-      let count : _ = rw (opened-fresh q) at (averaged-along g start q (opened start) calls (in-opened q h)) in
-      go (isAveraged (wordAt (booked g start (opened start) calls) q)) (averagings g start (opened start) (q / countsOf g .pairs) calls) (omega (arith, count))
+      go (isAveraged (wordAt (booked g start (opened start) calls) q)) (averagings g start (opened start) (q / countsOf g .pairs) calls) (word-averaged calls q h)
     where
       go : (u : Bool) (n : ℕ) → n ≡ oneIf u → n ≤ 1
       go true n e = omega arith

@@ -2,3 +2,5 @@
 pub mod Book
 pub mod Lists
 pub mod Counts
+pub mod Marked
+pub mod Done

@@ -16,22 +16,22 @@ use Rattle.bzgrid.specs.declared.NeighbourAnswer.the-variants.{Filled, R
 use Rattle.bzgrid.specs.Neighbours.{kindOf, gridOf, mapFits, SoundGrid}
 use Rattle.bzgrid.specs.Calls.{neighbourAnswer}
 
-fits-by : (b : Bool) (n p : ℕ) (map : List ℤ) → cond b (isSparseMap n p map) (isDenseMap n p map) ≡ true → mapFits (cond b Sparse Dense) n p map ≡ true
-fits-by true n p map e = e
-fits-by false n p map e = e
+fits-by : (b : Bool) (n p : ℕ) (gp-map : List ℤ) → cond b (isSparseMap n p gp-map) (isDenseMap n p gp-map) ≡ true → mapFits (cond b Sparse Dense) n p gp-map ≡ true
+fits-by true n p gp-map e = e
+fits-by false n p gp-map e = e
 
-module _ (kind : ℤ) (diag addresses map : List ℤ) where
-  pub grid-numbered : Numbered (gridQuestions kind diag addresses map)
+module _ (kind : ℤ) (diag addresses gp-map : List ℤ) where
+  pub grid-numbered : Numbered (gridQuestions kind diag addresses gp-map)
   grid-numbered = (omega arith, (omega arith, (omega arith, (omega arith, tt))))
 
-  pub sound-grid : firstNo (gridQuestions kind diag addresses map) ≡ 0 → SoundGrid (gridOf kind diag) addresses map
+  pub sound-grid : firstNo (gridQuestions kind diag addresses gp-map) ≡ 0 → SoundGrid (gridOf kind diag) addresses gp-map
   unfolding gridOf kindOf isMap
   sound-grid e =
-      let y : AllYes (gridQuestions kind diag addresses map) = all-yes (gridQuestions kind diag addresses map) grid-numbered e in
+      let y : AllYes (gridQuestions kind diag addresses gp-map) = all-yes (gridQuestions kind diag addresses gp-map) grid-numbered e in
       record {
         mesh = mesh-within 128 diag (y .1 .0);
         addressed = y .1 .1 .0;
-        mapped = fits-by (isNat kind 1) (countOf (meshOf diag)) (triplesIn addresses) map (y .1 .1 .1 .0);
+        mapped = fits-by (isNat kind 1) (countOf (meshOf diag)) (triplesIn addresses) gp-map (y .1 .1 .1 .0);
       }
 
 pub filled-is : (n : ℕ) → n ≡ 0 → Filled ≡ neighbourAnswer n

@@ -28,40 +28,40 @@ use Rattle.bzgrid.specs.Neighbours.{isAddress, mapOnDoubled, sparseNeigh
 pub doubled-below : {m : Mesh} → MeshWithin 128 m → (w : Address) → gridIndex w (doubledMesh m) < 8 * countOf m
 doubled-below {m} h w = omega (arith, index-lt (doubled h) w, count-doubled m)
 
-module _ (m : Mesh) (h : MeshWithin 128 m) (addresses map : List ℤ) (low : countOf m ≤ triplesIn addresses) (w : Address) where
-  sparse-lt : isSparseMap (countOf m) (triplesIn addresses) map ≡ true → sparseNeighbour m map w < triplesIn addresses
+module _ (m : Mesh) (h : MeshWithin 128 m) (addresses gp-map : List ℤ) (low : countOf m ≤ triplesIn addresses) (w : Address) where
+  sparse-lt : isSparseMap (countOf m) (triplesIn addresses) gp-map ≡ true → sparseNeighbour m gp-map w < triplesIn addresses
   unfolding sparseNeighbour mapOnDoubled isPlace
   sparse-lt q =
       let g : ℕ = gridIndex w (doubledMesh m) in
-      cond-lt (eqb (mag (at map g)) (8 * countOf m)) (gridIndex w m) (mag (at map g)) (triplesIn addresses)
+      cond-lt (eqb (mag (at gp-map g)) (8 * countOf m)) (gridIndex w m) (mag (at gp-map g)) (triplesIn addresses)
       (λ e. omega (arith, index-lt h w))
-      (λ e. below-or-nat (at map g) (triplesIn addresses) (8 * countOf m) (sparse-at (countOf m) (triplesIn addresses) map q g (doubled-below h w)) e)
+      (λ e. below-or-nat (at gp-map g) (triplesIn addresses) (8 * countOf m) (sparse-at (countOf m) (triplesIn addresses) gp-map q g (doubled-below h w)) e)
 
-  dense-lt : isDenseMap (countOf m) (triplesIn addresses) map ≡ true → denseNeighbour m addresses map w < triplesIn addresses
+  dense-lt : isDenseMap (countOf m) (triplesIn addresses) gp-map ≡ true → denseNeighbour m addresses gp-map w < triplesIn addresses
   unfolding denseNeighbour inGroup
   dense-lt q =
       let n : ℕ = countOf m in
       let p : ℕ = triplesIn addresses in
       let g : ℕ = gridIndex w m in
       let b : g < n = index-lt h w in
-      let lo : ℕ = mag (at map g) in
-      let hi : ℕ = mag (at map (g + 1)) in
-      let s : lo < hi = dense-step n p map q g b in
-      let t : hi ≤ p = dense-top n p map q (g + 1) (omega arith) in
+      let lo : ℕ = mag (at gp-map g) in
+      let hi : ℕ = mag (at gp-map (g + 1)) in
+      let s : lo < hi = dense-step n p gp-map q g b in
+      let t : hi ≤ p = dense-top n p gp-map q (g + 1) (omega arith) in
       cond-lt (ltb 1 (hi - lo)) (firstAt (isAddress addresses w) lo (hi - lo) lo) lo p
       (λ e. first-lt (isAddress addresses w) lo (hi - lo) lo p (omega arith) (omega arith))
       (λ e. omega arith)
 
-by-kind : (k : GridKind) (m : Mesh) (addresses map : List ℤ) → MeshWithin 128 m → countOf m ≤ triplesIn addresses
-    → mapFits k (countOf m) (triplesIn addresses) map ≡ true → (w : Address)
-    → byKind k (sparseNeighbour m map w) (denseNeighbour m addresses map w) < triplesIn addresses
-by-kind Sparse m addresses map h low q w = sparse-lt m h addresses map low w q
-by-kind Dense m addresses map h low q w = dense-lt m h addresses map low w q
+by-kind : (k : GridKind) (m : Mesh) (addresses gp-map : List ℤ) → MeshWithin 128 m → countOf m ≤ triplesIn addresses
+    → mapFits k (countOf m) (triplesIn addresses) gp-map ≡ true → (w : Address)
+    → byKind k (sparseNeighbour m gp-map w) (denseNeighbour m addresses gp-map w) < triplesIn addresses
+by-kind Sparse m addresses gp-map h low q w = sparse-lt m h addresses gp-map low w q
+by-kind Dense m addresses gp-map h low q w = dense-lt m h addresses gp-map low w q
 
-module _ (grid : BzGrid) (addresses map : List ℤ) (s : SoundGrid grid addresses map) where
-  pub neighbour-lt : (w : Address) → neighbourOf grid addresses map w < triplesIn addresses
+module _ (grid : BzGrid) (addresses gp-map : List ℤ) (s : SoundGrid grid addresses gp-map) where
+  pub neighbour-lt : (w : Address) → neighbourOf grid addresses gp-map w < triplesIn addresses
   unfolding neighbourOf
-  neighbour-lt w = by-kind (grid .kind) (grid .mesh) addresses map (s .mesh) (addresses-low (countOf (grid .mesh)) addresses (s .addressed)) (s .mapped) w
+  neighbour-lt w = by-kind (grid .kind) (grid .mesh) addresses gp-map (s .mesh) (addresses-low (countOf (grid .mesh)) addresses (s .addressed)) (s .mapped) w
 
   -- P is at most 8 * 128 * 128 * 128
   pub addresses-small : triplesIn addresses ≤ 16777216

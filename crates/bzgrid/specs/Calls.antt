@@ -28,13 +28,13 @@ stepsQuestions steps points p out =
 
 -- The questions of `fill_neighboring_grid_points`, in their order.
 abbrev pub pointQuestions : ℤ → List ℤ → List ℤ → List ℤ → List ℤ → ℤ → ℕ → List Question
-pointQuestions kind diag addresses map steps point out =
-    gridQuestions kind diag addresses map ++ stepQuestions steps point (triplesIn addresses) out
+pointQuestions kind diag addresses gp-map steps point out =
+    gridQuestions kind diag addresses gp-map ++ stepQuestions steps point (triplesIn addresses) out
 
 -- The questions of `neighboring_grid_points_many`, in their order.
 abbrev pub manyQuestions : ℤ → List ℤ → List ℤ → List ℤ → List ℤ → List ℤ → ℕ → List Question
-manyQuestions kind diag addresses map steps points out =
-    gridQuestions kind diag addresses map ++ stepsQuestions steps points (triplesIn addresses) out
+manyQuestions kind diag addresses gp-map steps points out =
+    gridQuestions kind diag addresses gp-map ++ stepsQuestions steps points (triplesIn addresses) out
 
 -- The answer of both calls, by the number of the first no: 0 is filled, any other is the refusal.
 abbrev pub neighbourAnswer : ℕ → NeighbourAnswer

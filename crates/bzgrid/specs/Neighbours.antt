@@ -33,11 +33,11 @@ isAddress addresses w j =
 
 -- what the map of kind 1 holds at an address "on the doubled mesh"
 unfoldable pub mapOnDoubled : Mesh → List ℤ → Address → ℕ
-mapOnDoubled m map w = mag (at map (gridIndex w (doubledMesh m)))
+mapOnDoubled m gp-map w = mag (at gp-map (gridIndex w (doubledMesh m)))
 
 -- "Kind 1: look up the address in the map on the doubled mesh. The value 8N means missing; then the number is the grid index on D."
 unfoldable pub sparseNeighbour : Mesh → List ℤ → Address → ℕ
-sparseNeighbour m map w = cond (eqb (mapOnDoubled m map w) (8 * countOf m)) (gridIndex w m) (mapOnDoubled m map w)
+sparseNeighbour m gp-map w = cond (eqb (mapOnDoubled m gp-map w) (8 * countOf m)) (gridIndex w m) (mapOnDoubled m gp-map w)
 
 -- "In a group of more than one, the first address equal to the wanted one ends the search; without a match the number is lo."
 unfoldable pub inGroup : List ℤ → Address → ℕ → ℕ → ℕ
@@ -45,7 +45,7 @@ inGroup addresses w lo hi = cond (ltb 1 (hi - lo)) (firstAt (isAddress addresses
 
 -- "Kind 2: lo and hi are the map at the index and one after."
 unfoldable pub denseNeighbour : Mesh → List ℤ → List ℤ → Address → ℕ
-denseNeighbour m addresses map w = inGroup addresses w (mag (at map (gridIndex w m))) (mag (at map (gridIndex w m + 1)))
+denseNeighbour m addresses gp-map w = inGroup addresses w (mag (at gp-map (gridIndex w m))) (mag (at gp-map (gridIndex w m + 1)))
 
 -- one of two numbers, by the kind
 abbrev pub byKind : GridKind → ℕ → ℕ → ℕ
@@ -54,8 +54,8 @@ byKind Dense a b = b
 
 -- the number of the grid point that stands for the address w
 unfoldable pub neighbourOf : BzGrid → List ℤ → List ℤ → Address → ℕ
-neighbourOf grid addresses map w =
-    byKind (grid .kind) (sparseNeighbour (grid .mesh) map w) (denseNeighbour (grid .mesh) addresses map w)
+neighbourOf grid addresses gp-map w =
+    byKind (grid .kind) (sparseNeighbour (grid .mesh) gp-map w) (denseNeighbour (grid .mesh) addresses gp-map w)
 
 -- component i of the address of point g, moved by step j
 abbrev pub moved : List ℤ → List ℤ → ℕ → ℕ → ℕ → ℤ
@@ -68,21 +68,21 @@ wantedAddress addresses steps g j =
 
 -- the neighbours of point g, one for each step
 unfoldable pub neighboursOf : BzGrid → List ℤ → List ℤ → List ℤ → ℕ → List ℤ
-neighboursOf grid addresses map steps g =
-    tabulate (triplesIn steps) (λ j. pos (neighbourOf grid addresses map (wantedAddress addresses steps g j)))
+neighboursOf grid addresses gp-map steps g =
+    tabulate (triplesIn steps) (λ j. pos (neighbourOf grid addresses gp-map (wantedAddress addresses steps g j)))
 
 -- the neighbours of each of the points in turn
 unfoldable pub neighboursOfAll : BzGrid → List ℤ → List ℤ → List ℤ → List ℤ → List ℤ
-neighboursOfAll grid addresses map steps points =
-    rows (length points) (λ i. neighboursOf grid addresses map steps (mag (at points i)))
+neighboursOfAll grid addresses gp-map steps points =
+    rows (length points) (λ i. neighboursOf grid addresses gp-map steps (mag (at points i)))
 
 -- question 6 of a map, by the kind
 abbrev pub mapFits : GridKind → ℕ → ℕ → List ℤ → Bool
-mapFits Sparse n p map = isSparseMap n p map
-mapFits Dense n p map = isDenseMap n p map
+mapFits Sparse n p gp-map = isSparseMap n p gp-map
+mapFits Dense n p gp-map = isDenseMap n p gp-map
 
 -- questions 4 to 6 are answered yes
-pub record SoundGrid (grid : BzGrid) (addresses map : List ℤ) : Type 0 where
+pub record SoundGrid (grid : BzGrid) (addresses gp-map : List ℤ) : Type 0 where
   pub mesh : MeshWithin 128 (grid .mesh)
   pub addressed : areAddresses (countOf (grid .mesh)) addresses ≡ true
-  pub mapped : mapFits (grid .kind) (countOf (grid .mesh)) (triplesIn addresses) map ≡ true
+  pub mapped : mapFits (grid .kind) (countOf (grid .mesh)) (triplesIn addresses) gp-map ≡ true

@@ -63,14 +63,14 @@ pub weights-numbered : (table : List ℤ) (bands : ℤ) (points : List Float) (g
 weights-numbered table bands points gridPoints p r frequencies irreducible iw = (omega arith, (omega arith, (omega arith, (omega arith, (omega arith, tt)))))
 
 -- the study of a call whose questions are answered yes
-pub sound-study : (kind : ℤ) (diag addresses map table : List ℤ) (bands : ℤ) (points : List Float) (gridPoints : List ℤ) (r : ℤ) (frequencies : List Float) (irreducible : List ℤ) (iw : ℕ) (u : WeightFunction)
-    → firstNo (gridQuestions kind diag addresses map) ≡ 0 → AllYes (weightsQuestions table bands points gridPoints (triplesIn addresses) r frequencies irreducible iw)
-    → Sound (study (gridOf kind diag) addresses map table irreducible frequencies (mag bands) points u)
-sound-study kind diag addresses map table bands points gridPoints r frequencies irreducible iw u z y =
+pub sound-study : (kind : ℤ) (diag addresses gp-map table : List ℤ) (bands : ℤ) (points : List Float) (gridPoints : List ℤ) (r : ℤ) (frequencies : List Float) (irreducible : List ℤ) (iw : ℕ) (u : WeightFunction)
+    → firstNo (gridQuestions kind diag addresses gp-map) ≡ 0 → AllYes (weightsQuestions table bands points gridPoints (triplesIn addresses) r frequencies irreducible iw)
+    → Sound (study (gridOf kind diag) addresses gp-map table irreducible frequencies (mag bands) points u)
+sound-study kind diag addresses gp-map table bands points gridPoints r frequencies irreducible iw u z y =
     let q : areIrreducible r (mag bands) (triplesIn addresses) frequencies irreducible ≡ true =
     and-left (areIrreducible r (mag bands) (triplesIn addresses) frequencies irreducible) (arePoints points) (y .1 .1 .1 .0) in
     record {
-      sound-grid = sound-grid kind diag addresses map z;
+      sound-grid = sound-grid kind diag addresses gp-map z;
       tabled = y .0;
       mapped = irreducible-length r (mag bands) (triplesIn addresses) frequencies irreducible q;
       few = size-few bands (length points) (length gridPoints) (y .1 .0);

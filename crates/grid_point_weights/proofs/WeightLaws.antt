@@ -20,42 +20,42 @@ use Rattle.bzgrid.proofs.NeighbourLaws.{neighbour-lt}
 use Rattle.tetrahedron_method.proofs.SortedLaws.{weight-same}
 use Rattle.grid_point_weights.specs.Weights.{GridStudy, Sound, cornerOf, vertexFrequency, vertexFrequencies, gridPointWeight, weightsOf, cornerFrequency, cornerWeight, Held}
 
--- the irreducible points of all corners around grid point g, in a work area
+-- the irreducible points of all corners around grid point gp, in a work area
 abbrev pub cornersOf : GridStudy → ℕ → List ℕ
-cornersOf s g = area 384 (triplesIn (s .table)) (cornerOf (s .grid) (s .addresses) (s .gp-map) (s .table) (s .irreducible) g) 0
+cornersOf s gp = area 384 (triplesIn (s .table)) (cornerOf (s .grid) (s .addresses) (s .gp-map) (s .table) (s .irreducible) gp) 0
 
-module _ (s : GridStudy) (h : Sound s) (g : ℕ) where
+module _ (s : GridStudy) (h : Sound s) (gp : ℕ) where
   corner : ℕ → ℕ
-  corner j = cornerOf (s .grid) (s .addresses) (s .gp-map) (s .table) (s .irreducible) g j
+  corner j = cornerOf (s .grid) (s .addresses) (s .gp-map) (s .table) (s .irreducible) gp j
 
-  corner-at : (j : ℕ) → j < rowsIn (s .table) * 4 → getD (cornersOf s g) j 0 ≡ corner j
+  corner-at : (j : ℕ) → j < rowsIn (s .table) * 4 → getD (cornersOf s gp) j 0 ≡ corner j
   unfolding corner
   corner-at j l = area-at 384 corner 0 (triplesIn (s .table)) 0 j (omega (arith, corners-whole (s .table) (h .tabled)))
 
   corner-lt : (j : ℕ) → corner j < h .count
   unfolding corner
   corner-lt j =
-      h .below _ (omega (arith, h .mapped, neighbour-lt (s .grid) (s .addresses) (s .gp-map) (h .sound-grid) (wantedAddress (s .addresses) (s .table) g j)))
+      h .below _ (omega (arith, h .mapped, neighbour-lt (s .grid) (s .addresses) (s .gp-map) (h .sound-grid) (wantedAddress (s .addresses) (s .table) gp j)))
 
   -- each corner has its frequency
-  pub corners-held : (band : ℕ) → band < s .bands → Held (cornersOf s g) (rowsIn (s .table) * 4) (length (s .frequencies)) (s .bands) band
+  pub corners-held : (band : ℕ) → band < s .bands → Held (cornersOf s gp) (rowsIn (s .table) * 4) (length (s .frequencies)) (s .bands) band
   corners-held band l j m = rw (corner-at j m) (omega (arith, h .held, digit-lt (corner j) (h .count) band (s .bands) (corner-lt j) l))
 
   -- the weight by numbers of corners is that of the study
-  pub weight-of : (x band : ℕ) → cornerWeight (cornersOf s g) (rowsIn (s .table)) (s .frequencies) (s .bands) (s .points) (s .function) x band ≡ gridPointWeight s g x band
+  pub weight-of : (x band : ℕ) → cornerWeight (cornersOf s gp) (rowsIn (s .table)) (s .frequencies) (s .bands) (s .points) (s .function) x band ≡ gridPointWeight s gp x band
   unfolding cornerWeight gridPointWeight vertexFrequencies corner
   weight-of x band =
       let n : ℕ = rowsIn (s .table) in
-      let f : ℕ → Float = cornerFrequency (cornersOf s g) (s .frequencies) (s .bands) band in
-      weight-same (s .function) (getD (s .points) x nan) (area 384 (n * 4) f (ofBits binary64 0)) (tabulate (triplesIn (s .table)) (vertexFrequency s g band)) n
+      let f : ℕ → Float = cornerFrequency (cornersOf s gp) (s .frequencies) (s .bands) band in
+      weight-same (s .function) (getD (s .points) x nan) (area 384 (n * 4) f (ofBits binary64 0)) (tabulate (triplesIn (s .table)) (vertexFrequency s gp band)) n
       (λ j l.
       area-at 384 f (ofBits binary64 0) (n * 4) nan j l
       ∙ ap (λ (k : ℕ). getD (s .frequencies) (k * s .bands + band) nan) (corner-at j l)
-      ∙ sym (tabulate-at (triplesIn (s .table)) (vertexFrequency s g band) nan j (omega (arith, corners-whole (s .table) (h .tabled)))))
+      ∙ sym (tabulate-at (triplesIn (s .table)) (vertexFrequency s gp band) nan j (omega (arith, corners-whole (s .table) (h .tabled)))))
 
   -- once every band is filled
   pub weights-all : (m₀ m : List Float) → length m₀ ≡ length (s .points) * s .bands
-      → Replaced nan (s .bands) (BeforeColumn (length (s .points)) (s .bands)) (λ x b. cornerWeight (cornersOf s g) (rowsIn (s .table)) (s .frequencies) (s .bands) (s .points) (s .function) x b) m₀ m
-      → m ≡ weightsOf s g
+      → Replaced nan (s .bands) (BeforeColumn (length (s .points)) (s .bands)) (λ x b. cornerWeight (cornersOf s gp) (rowsIn (s .table)) (s .frequencies) (s .bands) (s .points) (s .function) x b) m₀ m
+      → m ≡ weightsOf s gp
   unfolding weightsOf
-  weights-all m₀ m e R = columns-all nan (length (s .points)) (s .bands) (λ x b. gridPointWeight s g x b) m₀ m e (replaced-as R (λ x b q. weight-of x b))
+  weights-all m₀ m e R = columns-all nan (length (s .points)) (s .bands) (λ x b. gridPointWeight s gp x b) m₀ m e (replaced-as R (λ x b q. weight-of x b))

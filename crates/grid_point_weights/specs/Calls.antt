@@ -32,8 +32,8 @@ weightsQuestions table bands points gridPoints p r frequencies irreducible iw =
 
 -- The questions of `integration_weights_at_grid_points`, in their order.
 abbrev pub gridPointQuestions : ℤ → List ℤ → List ℤ → List ℤ → List ℤ → ℤ → List Float → List ℤ → ℤ → List Float → List ℤ → ℕ → List Question
-gridPointQuestions kind diag addresses map table bands points gridPoints r frequencies irreducible iw =
-    gridQuestions kind diag addresses map ++ weightsQuestions table bands points gridPoints (triplesIn addresses) r frequencies irreducible iw
+gridPointQuestions kind diag addresses gp-map table bands points gridPoints r frequencies irreducible iw =
+    gridQuestions kind diag addresses gp-map ++ weightsQuestions table bands points gridPoints (triplesIn addresses) r frequencies irreducible iw
 
 -- The answer, by the number of the first no: 0 is filled, any other is the refusal.
 abbrev pub gridPointAnswer : ℕ → GridPointAnswer

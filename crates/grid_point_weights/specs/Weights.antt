@@ -29,11 +29,11 @@ pub record GridStudy : Type 0 where
 
 -- the study of these parts
 abbrev pub study : BzGrid → List ℤ → List ℤ → List ℤ → List ℤ → List Float → ℕ → List Float → WeightFunction → GridStudy
-study grid addresses map table irreducible frequencies bands points function =
+study grid addresses gp-map table irreducible frequencies bands points function =
     record {
       grid = grid;
       addresses = addresses;
-      gp-map = map;
+      gp-map = gp-map;
       table = table;
       irreducible = irreducible;
       frequencies = frequencies;
@@ -42,26 +42,26 @@ study grid addresses map table irreducible frequencies bands points function =
       function = function;
     }
 
--- the irreducible point of corner j of the table around grid point g
+-- the irreducible point of corner j of the table around grid point gp
 abbrev pub cornerOf : BzGrid → List ℤ → List ℤ → List ℤ → List ℤ → ℕ → ℕ → ℕ
-cornerOf grid addresses map table irreducible g j = mag (at irreducible (neighbourOf grid addresses map (wantedAddress addresses table g j)))
+cornerOf grid addresses gp-map table irreducible gp j = mag (at irreducible (neighbourOf grid addresses gp-map (wantedAddress addresses table gp j)))
 
--- the frequency of a band at corner j around grid point g
+-- the frequency of a band at corner j around grid point gp
 abbrev pub vertexFrequency : GridStudy → ℕ → ℕ → ℕ → Float
-vertexFrequency s g band j =
-    getD (s .frequencies) (cornerOf (s .grid) (s .addresses) (s .gp-map) (s .table) (s .irreducible) g j * s .bands + band) nan
+vertexFrequency s gp band j =
+    getD (s .frequencies) (cornerOf (s .grid) (s .addresses) (s .gp-map) (s .table) (s .irreducible) gp j * s .bands + band) nan
 
 -- the frequencies of a band at all corners, four to a row of the table
 unfoldable pub vertexFrequencies : GridStudy → ℕ → ℕ → List Float
-vertexFrequencies s g band = tabulate (triplesIn (s .table)) (vertexFrequency s g band)
+vertexFrequencies s gp band = tabulate (triplesIn (s .table)) (vertexFrequency s gp band)
 
--- the integration weight of a band at frequency point x, around grid point g
+-- the integration weight of a band at frequency point x, around grid point gp
 unfoldable pub gridPointWeight : GridStudy → ℕ → ℕ → ℕ → Float
-gridPointWeight s g x band = weightOf (s .function) (getD (s .points) x nan) (vertexFrequencies s g band) (rowsIn (s .table))
+gridPointWeight s gp x band = weightOf (s .function) (getD (s .points) x nan) (vertexFrequencies s gp band) (rowsIn (s .table))
 
 -- the weights of one grid point, by point, band
 unfoldable pub weightsOf : GridStudy → ℕ → List Float
-weightsOf s g = rows (length (s .points)) (λ x. tabulate (s .bands) (λ band. gridPointWeight s g x band))
+weightsOf s gp = rows (length (s .points)) (λ x. tabulate (s .bands) (λ band. gridPointWeight s gp x band))
 
 -- "its weights lie by grid point, point, band"
 unfoldable pub weightsOfAll : GridStudy → List ℤ → List Float

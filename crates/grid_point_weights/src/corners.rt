@@ -16,15 +16,15 @@ pub fn corner_points(
     gp_map: &[i64],
     table: &[i64],
     gp2irgp_map: &[i64],
-    g: usize,
+    gp: usize,
 ) -> [usize; 384]
-    requires { ⌜ SoundGrid grid (now addresses) (now «gp_map») × ((areTriples (now table) ≡ true) × ((g < triplesIn (now addresses)) × ((triplesIn (now table) ≤ 384) × (length (now «gp2irgp_map») ≡ triplesIn (now addresses))))) ⌝ }
-    ensures { λ r. ⌜ r ≡ area 384 (triplesIn (now (table .entry))) (cornerOf grid (now (addresses .entry)) (now («gp_map» .entry)) (now (table .entry)) (now («gp2irgp_map» .entry)) g) 0 ⌝ }
+    requires { ⌜ SoundGrid grid (now addresses) (now «gp_map») × ((areTriples (now table) ≡ true) × ((gp < triplesIn (now addresses)) × ((triplesIn (now table) ≤ 384) × (length (now «gp2irgp_map») ≡ triplesIn (now addresses))))) ⌝ }
+    ensures { λ r. ⌜ r ≡ area 384 (triplesIn (now (table .entry))) (cornerOf grid (now (addresses .entry)) (now («gp_map» .entry)) (now (table .entry)) (now («gp2irgp_map» .entry)) gp) 0 ⌝ }
 {
     let mut corners = [0usize; 384];
     let n = table.len() / 3;
     for j in 0..n {
-        let v = bzgrid::kernel::neighbour(grid, addresses, gp_map, table, g, j);
+        let v = bzgrid::kernel::neighbour(grid, addresses, gp_map, table, gp, j);
         corners[j] = common::kernel::magnitude_at(gp2irgp_map, v);
     }
     corners

@@ -9,10 +9,10 @@ ghost use Rattle.grid_point_weights.specs.Weights.{study, weightsOf, wei
 use bzgrid::BzGrid;
 use tetrahedron_method::WeightFunction;
 
-// The weights of every band at every frequency point, around the grid point g.
+// The weights of every band at every frequency point, around the grid point gp.
 fn fill_point(
     iw: &mut [f64],
-    g: usize,
+    gp: usize,
     grid: BzGrid,
     addresses: &[i64],
     gp_map: &[i64],
@@ -23,10 +23,10 @@ fn fill_point(
     points: &[f64],
     function: WeightFunction,
 )
-    requires { ⌜ Sound (study grid (now addresses) (now «gp_map») (now table) (now «gp2irgp_map») (now frequencies) bands (now points) function) × ((g < triplesIn (now addresses)) × (length (now iw) ≡ length (now points) * bands)) ⌝ }
-    ensures { λ _. ⌜ now (iw .exit) ≡ weightsOf (study grid (now (addresses .entry)) (now («gp_map» .entry)) (now (table .entry)) (now («gp2irgp_map» .entry)) (now (frequencies .entry)) bands (now (points .entry)) function) g ⌝ }
+    requires { ⌜ Sound (study grid (now addresses) (now «gp_map») (now table) (now «gp2irgp_map») (now frequencies) bands (now points) function) × ((gp < triplesIn (now addresses)) × (length (now iw) ≡ length (now points) * bands)) ⌝ }
+    ensures { λ _. ⌜ now (iw .exit) ≡ weightsOf (study grid (now (addresses .entry)) (now («gp_map» .entry)) (now (table .entry)) (now («gp2irgp_map» .entry)) (now (frequencies .entry)) bands (now (points .entry)) function) gp ⌝ }
 {
-    let corners = crate::corners::corner_points(grid, addresses, gp_map, table, gp2irgp_map, g);
+    let corners = crate::corners::corner_points(grid, addresses, gp_map, table, gp2irgp_map, gp);
     let rows = table.len() / 12;
     let mut band = 0;
     while band < bands {
@@ -65,11 +65,11 @@ pub fn fill_all(
     let mut i = 0;
     let mut start = 0;
     while i < grid_points.len() {
-        let g = common::kernel::magnitude_at(grid_points, i);
+        let gp = common::kernel::magnitude_at(grid_points, i);
         let end = start + size;
         fill_point(
             &mut iw[start..end],
-            g,
+            gp,
             grid,
             addresses,
             gp_map,

@@ -77,9 +77,9 @@ abbrev pub Claim : Point → Type 0
 Claim (weighs u r w x) = integrationWeightAnswer w (equalRows r 24) u ≡ Weight x
 Claim (stands r p) = sortOf r .place ≡ p
 Claim (picks l n) = tableAnswer l ≡ record { refused = 0; index = n; table = flat (tableOf n) }
-Claim (leads kind mesh addresses map steps from to) =
-    (neighbourAnswer (firstNo (manyQuestions kind mesh addresses map steps from (length to))) ≡ Filled)
-    × (neighboursOfAll (gridOf kind mesh) addresses map steps from ≡ to)
+Claim (leads kind mesh addresses gp-map steps from to) =
+    (neighbourAnswer (firstNo (manyQuestions kind mesh addresses gp-map steps from (length to))) ≡ Filled)
+    × (neighboursOfAll (gridOf kind mesh) addresses gp-map steps from ≡ to)
 Claim (averages bands ids1 ids2 w w′ z z′) =
     (averagingAnswer w z ids1 ids2 (pos 1) bands (pos 4) ≡ Averaged)
     × ((weightsAfter w z ids1 ids2 (pos 1) bands (pos 4) ≡ w′) × (flagsAfter w z ids1 ids2 (pos 1) bands (pos 4) ≡ z′))

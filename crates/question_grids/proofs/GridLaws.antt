@@ -63,53 +63,53 @@ module _ (n : ℕ) (xs : List ℤ) (e : areAddresses n xs ≡ true) where
 
 -- ---- the map
 
-module _ (n p : ℕ) (map : List ℤ) (e : isSparseMap n p map ≡ true) where
-  pub sparse-length : 8 * n ≤ length map
+module _ (n p : ℕ) (gp-map : List ℤ) (e : isSparseMap n p gp-map ≡ true) where
+  pub sparse-length : 8 * n ≤ length gp-map
   unfolding isSparseMap
-  sparse-length = leb-true (8 * n) (length map) (and-left (leb (8 * n) (length map)) (allBelow (8 * n) (λ k. isPlace p (8 * n) (at map k))) e)
+  sparse-length = leb-true (8 * n) (length gp-map) (and-left (leb (8 * n) (length gp-map)) (allBelow (8 * n) (λ k. isPlace p (8 * n) (at gp-map k))) e)
 
-  pub sparse-at : (k : ℕ) → k < 8 * n → isPlace p (8 * n) (at map k) ≡ true
+  pub sparse-at : (k : ℕ) → k < 8 * n → isPlace p (8 * n) (at gp-map k) ≡ true
   unfolding isSparseMap
   sparse-at k h =
-      below-at (8 * n) (λ k. isPlace p (8 * n) (at map k)) (and-right (leb (8 * n) (length map)) (allBelow (8 * n) (λ k. isPlace p (8 * n) (at map k))) e) k h
+      below-at (8 * n) (λ k. isPlace p (8 * n) (at gp-map k)) (and-right (leb (8 * n) (length gp-map)) (allBelow (8 * n) (λ k. isPlace p (8 * n) (at gp-map k))) e) k h
 
-module _ (n p : ℕ) (map : List ℤ) (e : isDenseMap n p map ≡ true) where
-  pub dense-length : n < length map
+module _ (n p : ℕ) (gp-map : List ℤ) (e : isDenseMap n p gp-map ≡ true) where
+  pub dense-length : n < length gp-map
   unfolding isDenseMap
-  dense-length = ltb-true n (length map) (and-left (ltb n (length map)) _ e)
+  dense-length = ltb-true n (length gp-map) (and-left (ltb n (length gp-map)) _ e)
 
-  ends : (isNat (at map 0) 0 && isNat (at map n) p) ≡ true
+  ends : (isNat (at gp-map 0) 0 && isNat (at gp-map n) p) ≡ true
   unfolding isDenseMap
-  ends = and-left (isNat (at map 0) 0 && isNat (at map n) p) _ (and-right (ltb n (length map)) _ e)
+  ends = and-left (isNat (at gp-map 0) 0 && isNat (at gp-map n) p) _ (and-right (ltb n (length gp-map)) _ e)
 
-  up : (k : ℕ) → k < n → ltZ (at map k) (at map (k + 1)) ≡ true
+  up : (k : ℕ) → k < n → ltZ (at gp-map k) (at gp-map (k + 1)) ≡ true
   unfolding isDenseMap
   up k h =
-      below-at n (λ k. ltZ (at map k) (at map (k + 1)))
-      (and-right (isNat (at map 0) 0 && isNat (at map n) p) (allBelow n (λ k. ltZ (at map k) (at map (k + 1)))) (and-right (ltb n (length map)) _ e)) k h
+      below-at n (λ k. ltZ (at gp-map k) (at gp-map (k + 1)))
+      (and-right (isNat (at gp-map 0) 0 && isNat (at gp-map n) p) (allBelow n (λ k. ltZ (at gp-map k) (at gp-map (k + 1)))) (and-right (ltb n (length gp-map)) _ e)) k h
 
-  start : nonNeg (at map 0) ≡ true
-  start = nat-nonneg (at map 0) 0 (and-left (isNat (at map 0) 0) (isNat (at map n) p) ends)
+  start : nonNeg (at gp-map 0) ≡ true
+  start = nat-nonneg (at gp-map 0) 0 (and-left (isNat (at gp-map 0) 0) (isNat (at gp-map n) p) ends)
 
-  top : mag (at map n) ≡ p
-  top = nat-is (at map n) p (and-right (isNat (at map 0) 0) (isNat (at map n) p) ends)
+  top : mag (at gp-map n) ≡ p
+  top = nat-is (at gp-map n) p (and-right (isNat (at gp-map 0) 0) (isNat (at gp-map n) p) ends)
 
-  natural : (k : ℕ) → k ≤ n → nonNeg (at map k) ≡ true
+  natural : (k : ℕ) → k ≤ n → nonNeg (at gp-map k) ≡ true
   natural zero h = start
-  natural (suc k) h = rw (← add-one k) (rises (at map k) (at map (k + 1)) (natural k (omega arith)) (up k (omega arith)) .0)
+  natural (suc k) h = rw (← add-one k) (rises (at gp-map k) (at gp-map (k + 1)) (natural k (omega arith)) (up k (omega arith)) .0)
 
   -- the map rises from each place to the next
-  pub dense-step : (k : ℕ) → k < n → mag (at map k) < mag (at map (k + 1))
-  dense-step k h = rises (at map k) (at map (k + 1)) (natural k (omega arith)) (up k h) .1
+  pub dense-step : (k : ℕ) → k < n → mag (at gp-map k) < mag (at gp-map (k + 1))
+  dense-step k h = rises (at gp-map k) (at gp-map (k + 1)) (natural k (omega arith)) (up k h) .1
 
-  climb : (d k : ℕ) → k + d ≤ n → mag (at map k) ≤ mag (at map (k + d))
+  climb : (d k : ℕ) → k + d ≤ n → mag (at gp-map k) ≤ mag (at gp-map (k + d))
   climb zero k h = rw add-zero (omega arith)
   climb (suc d) k h =
       let s : k + suc d ≡ k + d + 1 = omega arith in
       rw s (omega (arith, climb d k (omega arith), dense-step (k + d) (omega arith)))
 
   -- and stays within P
-  pub dense-top : (k : ℕ) → k ≤ n → mag (at map k) ≤ p
+  pub dense-top : (k : ℕ) → k ≤ n → mag (at gp-map k) ≤ p
   dense-top k h =
       let s : k + (n - k) ≡ n = omega arith in
       omega (arith, top, rw s at (climb (n - k) k (omega arith)))

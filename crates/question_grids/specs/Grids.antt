@@ -37,22 +37,22 @@ isPlace p missing v = isBelow v p || isNat v missing
 
 -- Question 6: "Kind 1: at least 8N long, its first 8N values 0 to P-1 or 8N."
 unfoldable pub isSparseMap : ℕ → ℕ → List ℤ → Bool
-isSparseMap n p map = leb (8 * n) (length map) && allBelow (8 * n) (λ k. isPlace p (8 * n) (at map k))
+isSparseMap n p gp-map = leb (8 * n) (length gp-map) && allBelow (8 * n) (λ k. isPlace p (8 * n) (at gp-map k))
 
 -- Question 6: "Kind 2: at least N+1 long; value 0 is 0, value N is P, rising strictly between."
 unfoldable pub isDenseMap : ℕ → ℕ → List ℤ → Bool
-isDenseMap n p map =
-    ltb n (length map) && ((isNat (at map 0) 0 && isNat (at map n) p) && allBelow n (λ k. ltZ (at map k) (at map (k + 1))))
+isDenseMap n p gp-map =
+    ltb n (length gp-map) && ((isNat (at gp-map 0) 0 && isNat (at gp-map n) p) && allBelow n (λ k. ltZ (at gp-map k) (at gp-map (k + 1))))
 
 -- Question 6: "Is the map sound?"
 unfoldable pub isMap : ℤ → ℕ → ℕ → List ℤ → Bool
-isMap kind n p map = cond (isNat kind 1) (isSparseMap n p map) (isDenseMap n p map)
+isMap kind n p gp-map = cond (isNat kind 1) (isSparseMap n p gp-map) (isDenseMap n p gp-map)
 
 -- The questions that every call on a grid asks first.
 abbrev pub gridQuestions : ℤ → List ℤ → List ℤ → List ℤ → List Question
-gridQuestions kind diag addresses map =
+gridQuestions kind diag addresses gp-map =
     asks 3 (isGridKind kind)
     ∷ asks 4 (isMesh 128 diag)
     ∷ asks 5 (areAddresses (countOf (meshOf diag)) addresses)
-    ∷ asks 6 (isMap kind (countOf (meshOf diag)) (triplesIn addresses) map)
+    ∷ asks 6 (isMap kind (countOf (meshOf diag)) (triplesIn addresses) gp-map)
     ∷ []

@@ -17,6 +17,6 @@ isPointCount n = leb 1 n && leb n 1024
 abbrev pub isTripletCount : ℕ → Bool
 isTripletCount n = leb n 65536
 
--- Question 12: "Is each lent buffer exactly as long as its record?", the record being so many rows of one size
+-- Question 12: "Is each lent buffer exactly as long as its record?", the record being so many parts of one size
 unfoldable pub isProduct : ℕ → ℕ → ℕ → Bool
-isProduct rows size length = eqb length (rows * size)
+isProduct count size total = eqb total (count * size)

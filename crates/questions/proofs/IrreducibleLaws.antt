@@ -17,12 +17,12 @@ use Rattle.question_grids.specs.Steps.{areGridPoints}
 use Rattle.questions.specs.Irreducible.{isIrreducibleMap, areIrreducible}
 use Rattle.question_grids.proofs.StepLaws.{grid-points-at, product-yes}
 
-module _ (r : ℤ) (bands p : ℕ) (frequencies : List Float) (map : List ℤ) (e : areIrreducible r bands p frequencies map ≡ true) where
+module _ (r : ℤ) (bands p : ℕ) (frequencies : List Float) (irreducible : List ℤ) (e : areIrreducible r bands p frequencies irreducible ≡ true) where
   first : ((nonNeg r && leb 1 (mag r)) && isProduct (mag r) bands (length frequencies)) ≡ true
   unfolding areIrreducible
-  first = and-left _ (areFrequencies frequencies && isIrreducibleMap p (mag r) map) e
+  first = and-left _ (areFrequencies frequencies && isIrreducibleMap p (mag r) irreducible) e
 
-  second : isIrreducibleMap p (mag r) map ≡ true
+  second : isIrreducibleMap p (mag r) irreducible ≡ true
   unfolding areIrreducible
   second = and-right (areFrequencies frequencies) _ (and-right ((nonNeg r && leb 1 (mag r)) && isProduct (mag r) bands (length frequencies)) _ e)
 
@@ -31,11 +31,11 @@ module _ (r : ℤ) (bands p : ℕ) (frequencies : List Float) (map : List ℤ) (
   frequencies-held = product-yes (mag r) bands (length frequencies) (and-right (nonNeg r && leb 1 (mag r)) _ first)
 
   -- P values of the map
-  pub irreducible-length : length map ≡ p
+  pub irreducible-length : length irreducible ≡ p
   unfolding isIrreducibleMap
-  irreducible-length = eqb-true (length map) p (and-left (eqb (length map) p) (areGridPoints (mag r) map) second)
+  irreducible-length = eqb-true (length irreducible) p (and-left (eqb (length irreducible) p) (areGridPoints (mag r) irreducible) second)
 
   -- each below R
-  pub irreducible-at : (k : ℕ) → k < length map → mag (at map k) < mag r
+  pub irreducible-at : (k : ℕ) → k < length irreducible → mag (at irreducible k) < mag r
   unfolding isIrreducibleMap
-  irreducible-at = grid-points-at (mag r) map (and-right (eqb (length map) p) (areGridPoints (mag r) map) second)
+  irreducible-at = grid-points-at (mag r) irreducible (and-right (eqb (length irreducible) p) (areGridPoints (mag r) irreducible) second)

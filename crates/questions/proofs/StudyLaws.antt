@@ -105,23 +105,23 @@ pub record SoundStudy (bands1 bands2 p : ℕ) (steps : List ℤ) (frequencies1 f
   pub held1 : length frequencies1 ≡ p * bands1
   pub held2 : length frequencies2 ≡ p * bands2
 
-module _ (kind : ℤ) (diag : List ℤ) (type bands1 bands2 : ℤ) (addresses map steps : List ℤ) (frequencies1 frequencies2 points : List Float) (triplets : List ℤ) where
-  pub study-numbered : Numbered (studyQuestions kind diag type bands1 bands2 addresses map steps frequencies1 frequencies2 points triplets)
+module _ (kind : ℤ) (diag : List ℤ) (type bands1 bands2 : ℤ) (addresses gp-map steps : List ℤ) (frequencies1 frequencies2 points : List Float) (triplets : List ℤ) where
+  pub study-numbered : Numbered (studyQuestions kind diag type bands1 bands2 addresses gp-map steps frequencies1 frequencies2 points triplets)
   study-numbered = (omega arith, (omega arith, (omega arith, (omega arith, (omega arith, (omega arith, (omega arith, (omega arith, (omega arith, tt)))))))))
 
   -- the questions on the grid come first
-  pub grid-yes : firstNo (studyQuestions kind diag type bands1 bands2 addresses map steps frequencies1 frequencies2 points triplets) ≡ 0
-      → firstNo (gridQuestions kind diag addresses map) ≡ 0
+  pub grid-yes : firstNo (studyQuestions kind diag type bands1 bands2 addresses gp-map steps frequencies1 frequencies2 points triplets) ≡ 0
+      → firstNo (gridQuestions kind diag addresses gp-map) ≡ 0
   unfolding firstNo
   grid-yes e =
-      let y : AllYes (studyQuestions kind diag type bands1 bands2 addresses map steps frequencies1 frequencies2 points triplets) = all-yes (studyQuestions kind diag type bands1 bands2 addresses map steps frequencies1 frequencies2 points triplets) study-numbered e in
+      let y : AllYes (studyQuestions kind diag type bands1 bands2 addresses gp-map steps frequencies1 frequencies2 points triplets) = all-yes (studyQuestions kind diag type bands1 bands2 addresses gp-map steps frequencies1 frequencies2 points triplets) study-numbered e in
       rw (y .0, y .1 .0, y .1 .1 .0, y .1 .1 .1 .0)
 
-  pub sound-study : firstNo (studyQuestions kind diag type bands1 bands2 addresses map steps frequencies1 frequencies2 points triplets) ≡ 0
+  pub sound-study : firstNo (studyQuestions kind diag type bands1 bands2 addresses gp-map steps frequencies1 frequencies2 points triplets) ≡ 0
       → SoundStudy (mag bands1) (mag bands2) (triplesIn addresses) steps frequencies1 frequencies2 points triplets
   unfolding isTable areTriplets areStudyFrequencies
   sound-study e =
-      let y : AllYes (studyQuestions kind diag type bands1 bands2 addresses map steps frequencies1 frequencies2 points triplets) = all-yes (studyQuestions kind diag type bands1 bands2 addresses map steps frequencies1 frequencies2 points triplets) study-numbered e in
+      let y : AllYes (studyQuestions kind diag type bands1 bands2 addresses gp-map steps frequencies1 frequencies2 points triplets) = all-yes (studyQuestions kind diag type bands1 bands2 addresses gp-map steps frequencies1 frequencies2 points triplets) study-numbered e in
       let p : ℕ = triplesIn addresses in
       let y7 : (hasRows 12 (length steps) && areTriples steps) ≡ true = y .1 .1 .1 .1 .0 in
       let r : _ = table-rows (length steps) (and-left (hasRows 12 (length steps)) (areTriples steps) y7) in

@@ -13,10 +13,10 @@ use Rattle.question_grids.specs.Steps.{areGridPoints}
 
 -- "P map values 0 to R-1"
 unfoldable pub isIrreducibleMap : ℕ → ℕ → List ℤ → Bool
-isIrreducibleMap p r map = eqb (length map) p && areGridPoints r map
+isIrreducibleMap p r irreducible = eqb (length irreducible) p && areGridPoints r irreducible
 
 -- Question 11: "(grid-point weights: R times bands, and P map values 0 to R-1), each zero or of magnitude 2^-600 to 2^30", R at least 1
 unfoldable pub areIrreducible : ℤ → ℕ → ℕ → List Float → List ℤ → Bool
-areIrreducible r bands p frequencies map =
+areIrreducible r bands p frequencies irreducible =
     ((nonNeg r && leb 1 (mag r)) && isProduct (mag r) bands (length frequencies))
-    && (areFrequencies frequencies && isIrreducibleMap p (mag r) map)
+    && (areFrequencies frequencies && isIrreducibleMap p (mag r) irreducible)

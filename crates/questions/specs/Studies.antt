@@ -49,6 +49,6 @@ tripletQuestions p type bands1 bands2 steps frequencies1 frequencies2 points tri
 
 -- The questions on a study, 3 to 11, in their order.
 abbrev pub studyQuestions : ℤ → List ℤ → ℤ → ℤ → ℤ → List ℤ → List ℤ → List ℤ → List Float → List Float → List Float → List ℤ → List Question
-studyQuestions kind diag type bands1 bands2 addresses map steps frequencies1 frequencies2 points triplets =
-    gridQuestions kind diag addresses map
+studyQuestions kind diag type bands1 bands2 addresses gp-map steps frequencies1 frequencies2 points triplets =
+    gridQuestions kind diag addresses gp-map
     ++ tripletQuestions (triplesIn addresses) type bands1 bands2 steps frequencies1 frequencies2 points triplets

@@ -18,13 +18,13 @@ diagonal-small (suc (suc zero)) h = refl
 diagonal-small (suc (suc (suc zero))) h = refl
 diagonal-small (suc (suc (suc (suc i)))) h = absurd (omega arith)
 
-module _ (length : ℕ → Float) where
-  pub least-none : 0 ≡ leastUpTo length (1 - 1)
+module _ (size : ℕ → Float) where
+  pub least-none : 0 ≡ leastUpTo size (1 - 1)
   unfolding leastUpTo
   least-none = refl
 
-  -- the next length is less, and is taken
-  pub least-take : (i s : ℕ) → 1 ≤ i → s ≡ leastUpTo length (i - 1) → lt (length i) (length s) ≡ true → i ≡ leastUpTo length (i + 1 - 1)
+  -- the next size is less, and is taken
+  pub least-take : (i s : ℕ) → 1 ≤ i → s ≡ leastUpTo size (i - 1) → lt (size i) (size s) ≡ true → i ≡ leastUpTo size (i + 1 - 1)
   unfolding leastUpTo
   least-take i s h e t =
       let n : ℕ = i - 1 in
@@ -33,7 +33,7 @@ module _ (length : ℕ → Float) where
       rw (m, ← k, ← e, t)
 
   -- it is not, and is passed
-  pub least-keep : (i s : ℕ) → 1 ≤ i → s ≡ leastUpTo length (i - 1) → lt (length i) (length s) ≡ false → s ≡ leastUpTo length (i + 1 - 1)
+  pub least-keep : (i s : ℕ) → 1 ≤ i → s ≡ leastUpTo size (i - 1) → lt (size i) (size s) ≡ false → s ≡ leastUpTo size (i + 1 - 1)
   unfolding leastUpTo
   least-keep i s h e t =
       let n : ℕ = i - 1 in
@@ -41,12 +41,12 @@ module _ (length : ℕ → Float) where
       let m : i + 1 - 1 ≡ suc n = omega arith in
       rw (m, ← k, ← e, t)
 
-  pub least-le : (n : ℕ) → leastUpTo length n ≤ n
+  pub least-le : (n : ℕ) → leastUpTo size n ≤ n
   unfolding leastUpTo
   least-le zero = omega arith
-  least-le (suc n) = go (lt (length (suc n)) (length (leastUpTo length n))) (least-le n)
+  least-le (suc n) = go (lt (size (suc n)) (size (leastUpTo size n))) (least-le n)
     where
-      go : (b : Bool) → leastUpTo length n ≤ n → cond b (suc n) (leastUpTo length n) ≤ suc n
+      go : (b : Bool) → leastUpTo size n ≤ n → cond b (suc n) (leastUpTo size n) ≤ suc n
       go true h = omega arith
       go false h = omega arith
 

@@ -29,11 +29,11 @@ unfoldable pub lengthOf : List (List Float) → ℕ → Float
 unfolding normSquared matvecOf mainDiagonals
 lengthOf a i = normSquared (matvecOf a (getD mainDiagonals i []))
 
--- of the lengths 0, 1, .., n the least, the first on a tie: a later one is taken only where it is less
+-- of the sizes 0, 1, .., n the least, the first on a tie: a later one is taken only where it is less
 unfoldable pub leastUpTo : (ℕ → Float) → ℕ → ℕ
 unfolding lt
-leastUpTo length zero = 0
-leastUpTo length (suc n) = cond (lt (length (suc n)) (length (leastUpTo length n))) (suc n) (leastUpTo length n)
+leastUpTo size zero = 0
+leastUpTo size (suc n) = cond (lt (size (suc n)) (size (leastUpTo size n))) (suc n) (leastUpTo size n)
 
 -- "The diagonal with least `norm_squared` picks the table, the first on a tie."
 unfoldable pub mainDiagonalOf : List (List Float) → ℕ

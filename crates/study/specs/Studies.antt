@@ -39,7 +39,7 @@ unfoldable pub gridPart : List (List ℕ) → Part (List ℤ × List ℤ)
 gridPart ls =
     andThen (rows wholeField addrTag 3 ls)
     (λ addresses ls₁. andThen (rows wholeField mapTag 1 ls₁)
-    (λ map ls₂. read (addresses, map) ls₂))
+    (λ gp-map ls₂. read (addresses, gp-map) ls₂))
 
 -- both frequencies and the points, each any number of lines, each float by its bits
 unfoldable pub floatsPart : List (List ℕ) → Part (List ℕ × List ℕ × List ℕ)

@@ -15,8 +15,8 @@ use Rattle.study.specs.Studies.{Holds, holds, holdsNone}
 
 -- of `parse_grid`
 abbrev pub toldGrid : GridRead → List ℤ → List ℤ → List ℕ → Part (List ℤ × List ℤ)
-toldGrid G.Bad addresses map text = wrong
-toldGrid (G.Read a m next) addresses map text = read (take a addresses, take m map) (ended 10 (drop next text))
+toldGrid G.Bad addresses gp-map text = wrong
+toldGrid (G.Read a m next) addresses gp-map text = read (take a addresses, take m gp-map) (ended 10 (drop next text))
 
 -- of `parse_floats`
 abbrev pub toldFloats : FloatsRead → List ℕ → List ℕ → List ℕ → List ℕ → Part (List ℕ × List ℕ × List ℕ)
@@ -25,6 +25,6 @@ toldFloats (F.Read i j k next) f1 f2 points text = read (take i f1, take j f2, t
 
 -- of `read_study`
 abbrev pub toldStudy : StudyRead → List ℤ → List ℤ → List ℕ → List ℕ → List ℕ → List ℤ → Holds
-toldStudy S.Bad addresses map f1 f2 points triplets = holdsNone
-toldStudy (S.Read h a m i j k t) addresses map f1 f2 points triplets =
-    holds (record { head = h; addresses = take a addresses; gp-map = take m map; f1 = take i f1; f2 = take j f2; points = take k points; triplets = take t triplets })
+toldStudy S.Bad addresses gp-map f1 f2 points triplets = holdsNone
+toldStudy (S.Read h a m i j k t) addresses gp-map f1 f2 points triplets =
+    holds (record { head = h; addresses = take a addresses; gp-map = take m gp-map; f1 = take i f1; f2 = take j f2; points = take k points; triplets = take t triplets })

@@ -11,10 +11,10 @@ use crate::StudyRead;
 use sections::Rows;
 use study_head::HeadRead;
 
-// The sections `addr` and `map` from index from on. Their numbers are then at the starts of addresses and map.
-pub fn parse_grid(text: &[u8], from: usize, addresses: &mut [i64], map: &mut [i64]) -> GridRead
-    requires { ⌜ (length (now text) + 3 ≤ length (now addresses)) × (length (now text) + 1 ≤ length (now map)) ⌝ }
-    ensures { λ r. ⌜ gridPart (ended 10 (drop from (now (text .entry)))) ≡ toldGrid r (now (addresses .exit)) (now (map .exit)) (now (text .entry)) ⌝ }
+// The sections `addr` and `map` from index from on. Their numbers are then at the starts of addresses and gp_map.
+pub fn parse_grid(text: &[u8], from: usize, addresses: &mut [i64], gp_map: &mut [i64]) -> GridRead
+    requires { ⌜ (length (now text) + 3 ≤ length (now addresses)) × (length (now text) + 1 ≤ length (now «gp_map»)) ⌝ }
+    ensures { λ r. ⌜ gridPart (ended 10 (drop from (now (text .entry)))) ≡ toldGrid r (now (addresses .exit)) (now («gp_map» .exit)) (now (text .entry)) ⌝ }
 {
     let Rows::Read { count: a, next: p } = sections::kernel::parse_rows(
         text,
@@ -25,13 +25,13 @@ pub fn parse_grid(text: &[u8], from: usize, addresses: &mut [i64], map: &mut [i6
     ) else {
         return GridRead::Bad;
     };
-    let Rows::Read { count: m, next: q } = sections::kernel::parse_rows(text, p, b"map", 1, map)
+    let Rows::Read { count: m, next: q } = sections::kernel::parse_rows(text, p, b"map", 1, gp_map)
     else {
         return GridRead::Bad;
     };
     GridRead::Read {
         addresses: a,
-        map: m,
+        gp_map: m,
         next: q,
     }
 }
@@ -86,14 +86,14 @@ pub fn parse_floats(
 pub fn read_study(
     text: &[u8],
     addresses: &mut [i64],
-    map: &mut [i64],
+    gp_map: &mut [i64],
     f1: &mut [u64],
     f2: &mut [u64],
     points: &mut [u64],
     triplets: &mut [i64],
 ) -> StudyRead
-    requires { ⌜ (16387 ≤ length (now addresses)) × (16385 ≤ length (now map)) × (16385 ≤ length (now f1)) × (16385 ≤ length (now f2)) × (16385 ≤ length (now points)) × (16387 ≤ length (now triplets)) ⌝ }
-    ensures { λ r. ⌜ studyIn (now (text .entry)) ≡ toldStudy r (now (addresses .exit)) (now (map .exit)) (now (f1 .exit)) (now (f2 .exit)) (now (points .exit)) (now (triplets .exit)) ⌝ }
+    requires { ⌜ (16387 ≤ length (now addresses)) × (16385 ≤ length (now «gp_map»)) × (16385 ≤ length (now f1)) × (16385 ≤ length (now f2)) × (16385 ≤ length (now points)) × (16387 ≤ length (now triplets)) ⌝ }
+    ensures { λ r. ⌜ studyIn (now (text .entry)) ≡ toldStudy r (now (addresses .exit)) (now («gp_map» .exit)) (now (f1 .exit)) (now (f2 .exit)) (now (points .exit)) (now (triplets .exit)) ⌝ }
 {
     if 16384 < text.len() {
         return StudyRead::Bad;
@@ -106,9 +106,9 @@ pub fn read_study(
     };
     let GridRead::Read {
         addresses: a,
-        map: m,
+        gp_map: m,
         next: q,
-    } = parse_grid(text, p, addresses, map)
+    } = parse_grid(text, p, addresses, gp_map)
     else {
         return StudyRead::Bad;
     };
@@ -136,7 +136,7 @@ pub fn read_study(
     StudyRead::Read {
         head: h,
         addresses: a,
-        map: m,
+        gp_map: m,
         f1: i,
         f2: j,
         points: k,

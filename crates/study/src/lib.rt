@@ -7,7 +7,7 @@ pub use study_head::Head;
 pub enum GridRead {
     Read {
         addresses: usize,
-        map: usize,
+        gp_map: usize,
         next: usize,
     },
     Bad,
@@ -29,7 +29,7 @@ pub enum StudyRead {
     Read {
         head: Head,
         addresses: usize,
-        map: usize,
+        gp_map: usize,
         f1: usize,
         f2: usize,
         points: usize,

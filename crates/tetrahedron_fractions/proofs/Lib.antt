@@ -1,2 +1,3 @@
 -- The laws.
 pub mod FractionLaws
+pub mod BranchLaws

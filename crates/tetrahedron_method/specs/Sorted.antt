@@ -5,7 +5,7 @@ use Prim.Native.Nat.{ℕ, zero, suc, _+_, _*_, _<_}
 use lib.IntN.{pos}
 use lib.ListN.{getD, set, length}
 use lib.Ieee.{Float, nan, binary64, ofInt}
-use Rattle.ieee_laws.specs.Zeros.{zeroF as z}
+use Rattle.ieee_laws.specs.Zeros.{zeroF}
 use Rattle.tetrahedron_fractions.specs.Binary64.{four, _⊕_, _⊘_}
 use Rattle.tetrahedron_sort.specs.Sort.{sortedOf, placeOf}
 use Rattle.tetrahedron_method.specs.declared.WeightFunction.{WeightFunction}
@@ -32,7 +32,7 @@ sortedRowAt u w s p k = sortedRowWeight u w (rowOf s k) (getD p k 0)
 
 -- what the first k rows add, summed left to right from 0.0
 unfoldable pub sortedSum : WeightFunction → Float → List Float → List ℕ → ℕ → Float
-sortedSum u w s p zero = z
+sortedSum u w s p zero = zeroF
 sortedSum u w s p (suc k) = sortedSum u w s p k ⊕ sortedRowAt u w s p k
 
 -- the weight at omega over a count of rows in order

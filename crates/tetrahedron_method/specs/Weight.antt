@@ -5,7 +5,7 @@ use mathlib.Core.List.{List, [], _∷_}
 use lib.IntN.{pos}
 use lib.ListN.{getD}
 use lib.Ieee.{Float, nan, binary64, ofInt, ne}
-use Rattle.ieee_laws.specs.Zeros.{zeroF as z}
+use Rattle.ieee_laws.specs.Zeros.{zeroF}
 use Rattle.tetrahedron_fractions.specs.Binary64.{four, _⊕_, _⊘_}
 use Rattle.tetrahedron_formulas.specs.Choice.{densityShare, statesShare}
 use Rattle.tetrahedron_fractions.specs.Branch.{branchOf}
@@ -15,7 +15,7 @@ use Rattle.tetrahedron_method.specs.declared.WeightFunction.the-variants
 
 -- a product that is a NaN adds 0 instead
 unfoldable pub orZero : Float → Float
-orZero p = cond (ne p p) z p
+orZero p = cond (ne p p) zeroF p
 
 -- the weight, I times g or J times n, of the vertex at a place in a tetrahedron with the sorted values v
 unfoldable pub shareOf : WeightFunction → Float → List Float → ℕ → Float
@@ -36,7 +36,7 @@ rowOf a k = getD a (k * 4) nan ∷ getD a (k * 4 + 1) nan ∷ getD a (k * 4 + 2)
 
 -- what the first k rows add, summed left to right from 0.0
 unfoldable pub sumOf : WeightFunction → Float → List Float → ℕ → Float
-sumOf u w a zero = z
+sumOf u w a zero = zeroF
 sumOf u w a (suc k) = sumOf u w a k ⊕ rowWeight u w (rowOf a k)
 
 -- the integration weight at omega over a count of rows: the sum divided by rows / 4

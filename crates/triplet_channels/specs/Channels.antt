@@ -4,7 +4,7 @@ use mathlib.Core.List.{List}
 use Prim.Native.Nat.{ℕ, _*_}
 use lib.IntN.{ℤ, pos}
 use lib.Ieee.{Float, le}
-use Rattle.ieee_laws.specs.Zeros.{zeroF as f0}
+use Rattle.ieee_laws.specs.Zeros.{zeroF}
 use Rattle.tetrahedron_fractions.specs.Binary64.{_⊕_, _⊖_}
 use Rattle.tetrahedron_method.specs.Weight.{weightOf}
 use Rattle.tetrahedron_method.specs.declared.WeightFunction.the-variants.{I}
@@ -26,13 +26,13 @@ channelAt w a rows = cond (holds (boxOf a (rows * 4)) w) (Open (weightOf I w a r
 
 -- g0, g1, g2: "0 when closed"
 abbrev pub valueOf : Channel → Float
-valueOf Closed = f0
-valueOf (Open g) = g
+valueOf Closed = zeroF
+valueOf (Open weight) = weight
 
 -- whether a channel is closed
 abbrev pub closedOf : Channel → Bool
 closedOf Closed = true
-closedOf (Open g) = false
+closedOf (Open weight) = false
 
 -- "The flag is 1 when all are closed."
 unfoldable pub flagOf : Channel → Channel → Channel → ℤ
@@ -40,9 +40,9 @@ flagOf a b c = cond ((closedOf a && closedOf b) && closedOf c) (pos 1) (pos 0)
 
 -- "type 2 gives g2, g0-g1; type 3 adds (g0+g1)+g2; type 4 gives g0"
 unfoldable pub outputsBy : TpType → Channel → Channel → Channel → Outputs
-outputsBy Type2 a b c = record { w0 = valueOf c; w1 = valueOf a ⊖ valueOf b; w2 = f0; flag = flagOf a b c }
+outputsBy Type2 a b c = record { w0 = valueOf c; w1 = valueOf a ⊖ valueOf b; w2 = zeroF; flag = flagOf a b c }
 outputsBy Type3 a b c = record { w0 = valueOf c; w1 = valueOf a ⊖ valueOf b; w2 = (valueOf a ⊕ valueOf b) ⊕ valueOf c; flag = flagOf a b c }
-outputsBy Type4 a b c = record { w0 = valueOf a; w1 = f0; w2 = f0; flag = flagOf a b c }
+outputsBy Type4 a b c = record { w0 = valueOf a; w1 = zeroF; w2 = zeroF; flag = flagOf a b c }
 
 -- the second and the third channel: "type 4: the first alone"
 unfoldable pub furtherAt : TpType → Float → List Float → ℕ → Channel

@@ -6,7 +6,7 @@ use Prim.Native.Nat.{ℕ, zero, suc, _+_, _*_, _<_}
 use lib.ListN.{getD, length}
 use lib.Ieee.{Float, nan, lt, neg}
 use Rattle.list_laws.specs.Lists.{tabulate}
-use Rattle.ieee_laws.specs.Zeros.{zeroF as f0}
+use Rattle.ieee_laws.specs.Zeros.{zeroF}
 use Rattle.tetrahedron_fractions.specs.Binary64.{_⊕_, _⊖_}
 use Rattle.triplet_channels.specs.declared.TpType.{TpType}
 use Rattle.triplet_channels.specs.declared.TpType.the-variants.{Type2, Type3, Type4}
@@ -14,7 +14,7 @@ use Rattle.triplet_channels.specs.declared.ValueBox.{ValueBox}
 
 -- a value below 0 replaced by 0
 abbrev pub clamped : Float → Float
-clamped f = cond (lt f f0) f0 f
+clamped f = cond (lt f zeroF) zeroF f
 
 -- "Types 2 and 3 replace values below 0 by 0; type 4 keeps them."
 unfoldable pub cornerFrequency : TpType → Float → Float

@@ -76,16 +76,16 @@ module _ (tp : TpType) (steps : List ℤ) where
       (and-both (eq-eqb (length steps % 3) 0 (triples-whole steps e))
       (below-all (length steps) (λ k. within 4096 (at (secondSteps tp steps) k)) (λ k h. rw (second-at k) (step-small tp (at steps k) (triples-at steps e k h)))))
 
-module _ (grid : BzGrid) (addresses map : List ℤ) (ok : SoundGrid grid addresses map) (steps : List ℤ) (g : ℕ) where
+module _ (grid : BzGrid) (addresses gp-map : List ℤ) (ok : SoundGrid grid addresses gp-map) (steps : List ℤ) (g : ℕ) where
   -- each corner number is the number of an address
-  pub corner-lt : (i : ℕ) → i < triplesIn steps → getD (cornerNumbers grid addresses map steps g) i 0 < triplesIn addresses
+  pub corner-lt : (i : ℕ) → i < triplesIn steps → getD (cornerNumbers grid addresses gp-map steps g) i 0 < triplesIn addresses
   unfolding cornerNumbers
   corner-lt i h =
-      rw (area-at 384 (λ j. neighbourOf grid addresses map (wantedAddress addresses steps g j)) 0 (triplesIn steps) 0 i h)
-      (neighbour-lt grid addresses map ok (wantedAddress addresses steps g i))
+      rw (area-at 384 (λ j. neighbourOf grid addresses gp-map (wantedAddress addresses steps g j)) 0 (triplesIn steps) 0 i h)
+      (neighbour-lt grid addresses gp-map ok (wantedAddress addresses steps g i))
 
   -- and has its frequency of each band
   pub corners-held : (rows bands band count : ℕ) → length steps ≡ rows * 12 → count ≡ triplesIn addresses * bands → band < bands
-      → Held (cornerNumbers grid addresses map steps g) (rows * 4) count bands band
+      → Held (cornerNumbers grid addresses gp-map steps g) (rows * 4) count bands band
   corners-held rows bands band count size e h i l =
-      rw e (digit-lt (getD (cornerNumbers grid addresses map steps g) i 0) (triplesIn addresses) band bands (corner-lt i (omega arith)) h)
+      rw e (digit-lt (getD (cornerNumbers grid addresses gp-map steps g) i 0) (triplesIn addresses) band bands (corner-lt i (omega arith)) h)

@@ -26,5 +26,5 @@ secondArea tp steps = area 1152 (length steps) (λ k. stepOf tp (at steps k)) (p
 
 -- the numbers of the neighbours of point g, one for each step, in front of an array of 384 numbers
 unfoldable pub cornerNumbers : BzGrid → List ℤ → List ℤ → List ℤ → ℕ → List ℕ
-cornerNumbers grid addresses map steps g =
-    area 384 (triplesIn steps) (λ j. neighbourOf grid addresses map (wantedAddress addresses steps g j)) 0
+cornerNumbers grid addresses gp-map steps g =
+    area 384 (triplesIn steps) (λ j. neighbourOf grid addresses gp-map (wantedAddress addresses steps g j)) 0

@@ -69,8 +69,8 @@ slice-aggregate-put-held : tie.Need-slice-aggregate-put-held
 slice-aggregate-put-held c =
     let s : _ = c .before .before .before .before .before .before .before .before .before .before .before .before .before .before .before .before .before .before .before .before .before .before .before .before .before in let w : _ = within (s .args .text .now) (c .before .before .before .before .before .before .before .before .before .before .before .read-study .result) (c .before .before .before .before .before .before .before .before .before .before .before .read-study .last .1 .0) (c .before .before .before .before .before .before .before .before .before .before .before .read-study .last .1 .1 .0) (c .before .before .before .before .before .before .before .before .before .before .before .read-study .last .1 .1 .1 .0) (c .before .before .before .before .before .before .before .before .before .before .before .read-study .last .1 .1 .1 .1 .0) (c .before .before .before .before .before .before .before .before .before .before .before .read-study .last .1 .1 .1 .1 .1 .0) (c .before .before .before .before .before .before .before .before .before .before .before .read-study .last .1 .1 .1 .1 .1 .1 .0) (c .before .before .before .h .given .0 .0) (c .before .before .before .h .given .0 .1 .0) (c .before .before .before .h .given .0 .1 .1 .0) (c .before .before .before .h .given .0 .1 .1 .1 .0) (c .before .before .before .h .given .0 .1 .1 .1 .1 .0) (c .before .before .before .h .given .0 .1 .1 .1 .1 .1 .0) (c .before .before .before .h .given .0 .1 .1 .1 .1 .1 .1 .0) (c .before .before .before .before .before .before .before .before .before .before .before .read-study .ensures) (c .before .before .before .h .given .1) (omega (arith, c .before .before .before .before .before .before .before .before .before .before .before .before .before .before .before .before .before .before .before .before .before .before .before .triples .ensures, c .before .before .before .before .before .before .before .before .before .before .before .read-study .kept .1 .0)) (omega (arith, c .before .before .before .before .before .before .before .before .before .before .before .before .before .before .before .before .before .before .before .before .before .before .numbers .ensures, c .before .before .before .before .before .before .before .before .before .before .before .read-study .kept .1 .1 .0)) (omega (arith, c .before .before .before .before .before .before .before .before .before .before .before .before .before .before .before .before .before .before .before .before .before .patterns .ensures, c .before .before .before .before .before .before .before .before .before .before .before .read-study .kept .1 .1 .1 .0)) (omega (arith, c .before .before .before .before .before .before .before .before .before .before .before .before .before .before .before .before .before .before .before .before .patterns2 .ensures, c .before .before .before .before .before .before .before .before .before .before .before .read-study .kept .1 .1 .1 .1 .0)) (omega (arith, c .before .before .before .before .before .before .before .before .before .before .before .before .before .before .before .before .before .before .before .patterns3 .ensures, c .before .before .before .before .before .before .before .before .before .before .before .read-study .kept .1 .1 .1 .1 .1 .0)) (omega (arith, c .before .before .before .before .before .before .before .before .before .before .before .before .before .before .before .before .before .before .triples2 .ensures, c .before .before .before .before .before .before .before .before .before .before .before .read-study .kept .1 .1 .1 .1 .1 .1 .0)) in sym (length-take-le (c .before .before .before .h .given .0 .1 .0) (c .before .before .before .before .before .before .before .before .before .before .before .read-study .last .1 .0) (w .addresses))
 
-array-share-prefix-map : tie.Need-array-share-prefix-map
-array-share-prefix-map c =
+array-share-prefix-gp-map : tie.Need-array-share-prefix-gp-map
+array-share-prefix-gp-map c =
     let s : _ = c .before .before .before .before .before .before .before .before .before .before .before .before .before .before .before .before .before .before .before .before .before .before .before .before .before in let w : _ = within (s .args .text .now) (c .before .before .before .before .before .before .before .before .before .before .before .read-study .result) (c .before .before .before .before .before .before .before .before .before .before .before .read-study .last .1 .0) (c .before .before .before .before .before .before .before .before .before .before .before .read-study .last .1 .1 .0) (c .before .before .before .before .before .before .before .before .before .before .before .read-study .last .1 .1 .1 .0) (c .before .before .before .before .before .before .before .before .before .before .before .read-study .last .1 .1 .1 .1 .0) (c .before .before .before .before .before .before .before .before .before .before .before .read-study .last .1 .1 .1 .1 .1 .0) (c .before .before .before .before .before .before .before .before .before .before .before .read-study .last .1 .1 .1 .1 .1 .1 .0) (c .before .before .before .h .given .0 .0) (c .before .before .before .h .given .0 .1 .0) (c .before .before .before .h .given .0 .1 .1 .0) (c .before .before .before .h .given .0 .1 .1 .1 .0) (c .before .before .before .h .given .0 .1 .1 .1 .1 .0) (c .before .before .before .h .given .0 .1 .1 .1 .1 .1 .0) (c .before .before .before .h .given .0 .1 .1 .1 .1 .1 .1 .0) (c .before .before .before .before .before .before .before .before .before .before .before .read-study .ensures) (c .before .before .before .h .given .1) (omega (arith, c .before .before .before .before .before .before .before .before .before .before .before .before .before .before .before .before .before .before .before .before .before .before .before .triples .ensures, c .before .before .before .before .before .before .before .before .before .before .before .read-study .kept .1 .0)) (omega (arith, c .before .before .before .before .before .before .before .before .before .before .before .before .before .before .before .before .before .before .before .before .before .before .numbers .ensures, c .before .before .before .before .before .before .before .before .before .before .before .read-study .kept .1 .1 .0)) (omega (arith, c .before .before .before .before .before .before .before .before .before .before .before .before .before .before .before .before .before .before .before .before .before .patterns .ensures, c .before .before .before .before .before .before .before .before .before .before .before .read-study .kept .1 .1 .1 .0)) (omega (arith, c .before .before .before .before .before .before .before .before .before .before .before .before .before .before .before .before .before .before .before .before .patterns2 .ensures, c .before .before .before .before .before .before .before .before .before .before .before .read-study .kept .1 .1 .1 .1 .0)) (omega (arith, c .before .before .before .before .before .before .before .before .before .before .before .before .before .before .before .before .before .before .before .patterns3 .ensures, c .before .before .before .before .before .before .before .before .before .before .before .read-study .kept .1 .1 .1 .1 .1 .0)) (omega (arith, c .before .before .before .before .before .before .before .before .before .before .before .before .before .before .before .before .before .before .triples2 .ensures, c .before .before .before .before .before .before .before .before .before .before .before .read-study .kept .1 .1 .1 .1 .1 .1 .0)) in w .gp-map
 
 slice-aggregate-put-held-2 : tie.Need-slice-aggregate-put-held-2
@@ -140,7 +140,7 @@ answer-spec =
     returns
     array-share-prefix-addresses
     slice-aggregate-put-held
-    array-share-prefix-map
+    array-share-prefix-gp-map
     slice-aggregate-put-held-2
     array-share-prefix-f1
     slice-aggregate-put-held-3

@@ -53,64 +53,64 @@ pub fn addresses_ok(n: usize, addresses: &[i64]) -> bool
     triples_ok(addresses) & (n <= p) & (p <= 8 * n)
 }
 
-fn all_places(map: &[i64], n: usize, p: usize) -> bool
-    requires { ⌜ n ≤ length (now map) ⌝ }
-    ensures { λ r. ⌜ r ≡ allBelow n (λ k. isPlace p n (at (now (map .entry)) k)) ⌝ }
+fn all_places(gp_map: &[i64], n: usize, p: usize) -> bool
+    requires { ⌜ n ≤ length (now «gp_map») ⌝ }
+    ensures { λ r. ⌜ r ≡ allBelow n (λ k. isPlace p n (at (now («gp_map» .entry)) k)) ⌝ }
 {
     let mut ok = true;
     let mut i = 0;
     while i < n {
-        ok = ok & (kernel::below_at(map, i, p) | kernel::nat_at(map, i, n));
+        ok = ok & (kernel::below_at(gp_map, i, p) | kernel::nat_at(gp_map, i, n));
         i += 1;
     }
     ok
 }
 
-fn all_rising(map: &[i64], n: usize) -> bool
-    requires { ⌜ n < length (now map) ⌝ }
-    ensures { λ r. ⌜ r ≡ allBelow n (λ k. ltZ (at (now (map .entry)) k) (at (now (map .entry)) (k + 1))) ⌝ }
+fn all_rising(gp_map: &[i64], n: usize) -> bool
+    requires { ⌜ n < length (now «gp_map») ⌝ }
+    ensures { λ r. ⌜ r ≡ allBelow n (λ k. ltZ (at (now («gp_map» .entry)) k) (at (now («gp_map» .entry)) (k + 1))) ⌝ }
 {
     let mut ok = true;
     let mut i = 0;
     while i < n {
-        ok = ok & kernel::less_at(map, i);
+        ok = ok & kernel::less_at(gp_map, i);
         i += 1;
     }
     ok
 }
 
 // Question 6, kind 1.
-fn sparse_map_ok(n: usize, p: usize, map: &[i64]) -> bool
+fn sparse_map_ok(n: usize, p: usize, gp_map: &[i64]) -> bool
     requires { ⌜ n ≤ 16777216 ⌝ }
-    ensures { λ r. ⌜ r ≡ isSparseMap n p (now (map .entry)) ⌝ }
+    ensures { λ r. ⌜ r ≡ isSparseMap n p (now («gp_map» .entry)) ⌝ }
 {
-    if 8 * n <= map.len() {
-        all_places(map, 8 * n, p)
+    if 8 * n <= gp_map.len() {
+        all_places(gp_map, 8 * n, p)
     } else {
         false
     }
 }
 
 // Question 6, kind 2.
-fn dense_map_ok(n: usize, p: usize, map: &[i64]) -> bool
-    ensures { λ r. ⌜ r ≡ isDenseMap n p (now (map .entry)) ⌝ }
+fn dense_map_ok(n: usize, p: usize, gp_map: &[i64]) -> bool
+    ensures { λ r. ⌜ r ≡ isDenseMap n p (now («gp_map» .entry)) ⌝ }
 {
-    if n < map.len() {
-        kernel::nat_at(map, 0, 0) & kernel::nat_at(map, n, p) & all_rising(map, n)
+    if n < gp_map.len() {
+        kernel::nat_at(gp_map, 0, 0) & kernel::nat_at(gp_map, n, p) & all_rising(gp_map, n)
     } else {
         false
     }
 }
 
 // Question 6.
-pub fn map_ok(bz_grid_type: i64, n: usize, p: usize, map: &[i64]) -> bool
+pub fn map_ok(bz_grid_type: i64, n: usize, p: usize, gp_map: &[i64]) -> bool
     requires { ⌜ n ≤ 16777216 ⌝ }
-    ensures { λ r. ⌜ r ≡ isMap «bz_grid_type» n p (now (map .entry)) ⌝ }
+    ensures { λ r. ⌜ r ≡ isMap «bz_grid_type» n p (now («gp_map» .entry)) ⌝ }
 {
     if kernel::is_nat(bz_grid_type, 1) {
-        sparse_map_ok(n, p, map)
+        sparse_map_ok(n, p, gp_map)
     } else {
-        dense_map_ok(n, p, map)
+        dense_map_ok(n, p, gp_map)
     }
 }
 

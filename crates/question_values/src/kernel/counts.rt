@@ -25,10 +25,10 @@ pub fn triplet_count_ok(n: usize) -> bool
     n <= 65536
 }
 
-// Question 12: `length` is `rows` times `size`. The product itself could be too large.
-pub fn length_ok(rows: usize, size: usize, length: usize) -> bool
+// Question 12: `total` is `count` times `size`. The product itself could be too large.
+pub fn length_ok(count: usize, size: usize, total: usize) -> bool
     requires { ⌜ 0 < size ⌝ }
-    ensures { λ r. ⌜ r ≡ isProduct rows size length ⌝ }
+    ensures { λ r. ⌜ r ≡ isProduct count size total ⌝ }
 {
-    (length % size == 0) & (length / size == rows)
+    (total % size == 0) & (total / size == count)
 }

@@ -59,7 +59,7 @@ fn value_of(c: Channel) -> f64
 {
     match c {
         Channel::Closed => 0.0,
-        Channel::Open(g) => g,
+        Channel::Open(weight) => weight,
     }
 }
 

@@ -14,16 +14,16 @@ use Rattle.grid_point_weights.proofs.corners.corner_points.Statement.{s
 use Rattle.grid_point_weights.proofs.corners.corner_points.Tie as tie
 
 abbrev Inv-loop : tie.InvT-loop
-Inv-loop grid addresses gp-map table gp2irgp-map g corners₀ n j₀ corners j =
-    (j ≤ n) × (corners ≡ area 384 j (cornerOf grid addresses gp-map table gp2irgp-map g) 0)
+Inv-loop grid addresses gp-map table gp2irgp-map gp corners₀ n j₀ corners j =
+    (j ≤ n) × (corners ≡ area 384 j (cornerOf grid addresses gp-map table gp2irgp-map gp) 0)
 
 abbrev μ-loop : tie.MeasureT-loop
-μ-loop grid addresses gp-map table gp2irgp-map g corners₀ n j₀ corners j =
+μ-loop grid addresses gp-map table gp2irgp-map gp corners₀ n j₀ corners j =
     n - j
 
 loop-holds : tie.Need-loop-holds Inv-loop μ-loop
 loop-holds c =
-    let s : _ = c in (omega arith, area-none 384 (cornerOf (s .args .grid) (s .args .addresses .now) (s .args .gp-map .now) (s .args .table .now) (s .args .gp2irgp-map .now) (s .args .g)) 0)
+    let s : _ = c in (omega arith, area-none 384 (cornerOf (s .args .grid) (s .args .addresses .now) (s .args .gp-map .now) (s .args .table .now) (s .args .gp2irgp-map .now) (s .args .gp)) 0)
 
 neighbour-requires : tie.Need-neighbour-requires Inv-loop μ-loop
 neighbour-requires c κs =
@@ -31,7 +31,7 @@ neighbour-requires c κs =
 
 magnitude-at-requires : tie.Need-magnitude-at-requires Inv-loop μ-loop
 magnitude-at-requires c κs =
-    let s : _ = c .before .before .before in omega (arith, c .neighbour .ensures, neighbour-lt (s .args .grid) (s .args .addresses .now) (s .args .gp-map .now) (s .pre .0) (wantedAddress (s .args .addresses .now) (s .args .table .now) (s .args .g) (c .before .before .loop .j)), s .pre .1 .1 .1 .1)
+    let s : _ = c .before .before .before in omega (arith, c .neighbour .ensures, neighbour-lt (s .args .grid) (s .args .addresses .now) (s .args .gp-map .now) (s .pre .0) (wantedAddress (s .args .addresses .now) (s .args .table .now) (s .args .gp) (c .before .before .loop .j)), s .pre .1 .1 .1 .1)
 
 mul-corners : tie.Need-mul-corners Inv-loop μ-loop
 mul-corners c =
@@ -39,7 +39,7 @@ mul-corners c =
 
 array-write-corners : tie.Need-array-write-corners Inv-loop μ-loop
 array-write-corners c =
-    let s : _ = c .before .before .before .before in omega (arith, ap length (c .before .before .before .loop .inv .1) ∙ length-area 384 (cornerOf (s .args .grid) (s .args .addresses .now) (s .args .gp-map .now) (s .args .table .now) (s .args .gp2irgp-map .now) (s .args .g)) 0 (c .before .before .before .loop .j) (omega arith))
+    let s : _ = c .before .before .before .before in omega (arith, ap length (c .before .before .before .loop .inv .1) ∙ length-area 384 (cornerOf (s .args .grid) (s .args .addresses .now) (s .args .gp-map .now) (s .args .table .now) (s .args .gp2irgp-map .now) (s .args .gp)) 0 (c .before .before .before .loop .j) (omega arith))
 
 add-j : tie.Need-add-j Inv-loop μ-loop
 add-j c =
@@ -51,7 +51,7 @@ loop-less c =
 
 loop-again : tie.Need-loop-again Inv-loop μ-loop
 loop-again c =
-    let s : _ = c .before .before .before .before in (omega arith, rw (c .before .before .before .loop .inv .1) (area-next 384 (cornerOf (s .args .grid) (s .args .addresses .now) (s .args .gp-map .now) (s .args .table .now) (s .args .gp2irgp-map .now) (s .args .g)) 0 (c .before .before .before .loop .j) _ (omega arith) (c .magnitude-at .ensures ∙ ap (λ (k : ℕ). mag (at (s .args .gp2irgp-map .now) k)) (c .before .neighbour .ensures))))
+    let s : _ = c .before .before .before .before in (omega arith, rw (c .before .before .before .loop .inv .1) (area-next 384 (cornerOf (s .args .grid) (s .args .addresses .now) (s .args .gp-map .now) (s .args .table .now) (s .args .gp2irgp-map .now) (s .args .gp)) 0 (c .before .before .before .loop .j) _ (omega arith) (c .magnitude-at .ensures ∙ ap (λ (k : ℕ). mag (at (s .args .gp2irgp-map .now) k)) (c .before .neighbour .ensures))))
 
 returns : tie.Need-returns Inv-loop μ-loop
 returns c =

@@ -16,11 +16,11 @@ use Rattle.grid_point_weights.proofs.fill.fill_point.Statement.{stateme
 use Rattle.grid_point_weights.proofs.fill.fill_point.Tie as tie
 
 abbrev Inv-loop : tie.InvT-loop
-Inv-loop iw₀ g addresses gp-map table gp2irgp-map frequencies bands points function corners rows band₀ iw band =
+Inv-loop iw₀ gp addresses gp-map table gp2irgp-map frequencies bands points function corners rows band₀ iw band =
     (band ≤ bands) × Replaced nan bands (BeforeColumn (length points) band) (λ x b. cornerWeight corners rows frequencies bands points function x b) iw₀ iw
 
 abbrev μ-loop : tie.MeasureT-loop
-μ-loop iw₀ g addresses gp-map table gp2irgp-map frequencies bands points function corners rows band₀ iw band =
+μ-loop iw₀ gp addresses gp-map table gp2irgp-map frequencies bands points function corners rows band₀ iw band =
     bands - band
 
 corner-points-requires : tie.Need-corner-points-requires Inv-loop μ-loop
@@ -33,7 +33,7 @@ loop-holds c =
 
 fill-band-requires : tie.Need-fill-band-requires Inv-loop μ-loop
 fill-band-requires c κs =
-    let s : _ = c .before .before .before .before .before .before .before .before in (rows-most (s .args .table .now) (s .pre .0 .tabled), (c .before .before .loop-test .taken, (rw (c .before .before .before .before .corner-points .ensures) (corners-held (study (s .args .grid) (s .args .addresses .now) (s .args .gp-map .now) (s .args .table .now) (s .args .gp2irgp-map .now) (s .args .frequencies .now) (s .args .bands) (s .args .points .now) (s .args .function)) (s .pre .0) (s .args .g) (c .before .before .before .loop .band) (c .before .before .loop-test .taken)), c .before .before .before .loop .inv .1 .same-length ∙ s .pre .1 .1)))
+    let s : _ = c .before .before .before .before .before .before .before .before in (rows-most (s .args .table .now) (s .pre .0 .tabled), (c .before .before .loop-test .taken, (rw (c .before .before .before .before .corner-points .ensures) (corners-held (study (s .args .grid) (s .args .addresses .now) (s .args .gp-map .now) (s .args .table .now) (s .args .gp2irgp-map .now) (s .args .frequencies .now) (s .args .bands) (s .args .points .now) (s .args .function)) (s .pre .0) (s .args .gp) (c .before .before .before .loop .band) (c .before .before .loop-test .taken)), c .before .before .before .loop .inv .1 .same-length ∙ s .pre .1 .1)))
 
 add-band : tie.Need-add-band Inv-loop μ-loop
 add-band c =
@@ -53,7 +53,7 @@ same-length c =
 
 returns : tie.Need-returns Inv-loop μ-loop
 returns c =
-    let s : _ = c .before .before .before .before .before .before in let e : c .before .loop .band ≡ s .args .bands = omega arith in weights-all (study (s .args .grid) (s .args .addresses .now) (s .args .gp-map .now) (s .args .table .now) (s .args .gp2irgp-map .now) (s .args .frequencies .now) (s .args .bands) (s .args .points .now) (s .args .function)) (s .pre .0) (s .args .g) (s .args .iw .now) (c .before .loop .iw) (s .pre .1 .1) (rw (c .before .before .corner-points .ensures, e) at (c .before .loop .inv .1))
+    let s : _ = c .before .before .before .before .before .before in let e : c .before .loop .band ≡ s .args .bands = omega arith in weights-all (study (s .args .grid) (s .args .addresses .now) (s .args .gp-map .now) (s .args .table .now) (s .args .gp2irgp-map .now) (s .args .frequencies .now) (s .args .bands) (s .args .points .now) (s .args .function)) (s .pre .0) (s .args .gp) (s .args .iw .now) (c .before .loop .iw) (s .pre .1 .1) (rw (c .before .before .corner-points .ensures, e) at (c .before .loop .inv .1))
 
 pub fill-point-spec : {M : Type 1} → statement M
 fill-point-spec =

@@ -15,7 +15,7 @@ use Rattle.triplet_corners.proofs.kernel.corner_numbers.Statement.{stat
 use Rattle.triplet_corners.proofs.kernel.corner_numbers.Tie as tie
 
 abbrev entry : BzGrid → List ℤ → List ℤ → List ℤ → ℕ → ℕ → ℕ
-entry grid addresses map steps g j = neighbourOf grid addresses map (wantedAddress addresses steps g j)
+entry grid addresses gp-map steps g j = neighbourOf grid addresses gp-map (wantedAddress addresses steps g j)
 
 abbrev Inv-loop : tie.InvT-loop
 Inv-loop grid addresses gp-map steps g a₀ n j₀ a j =

@@ -9,11 +9,11 @@ use Rattle.question_grids.proofs.kernel.grid.all_places.Statement.{stat
 use Rattle.question_grids.proofs.kernel.grid.all_places.Tie as tie
 
 abbrev Inv-loop : tie.InvT-loop
-Inv-loop map n p ok₀ i₀ ok i =
-    (i ≤ n) × (ok ≡ allBelow i (λ k. isPlace p n (at map k)))
+Inv-loop gp-map n p ok₀ i₀ ok i =
+    (i ≤ n) × (ok ≡ allBelow i (λ k. isPlace p n (at gp-map k)))
 
 abbrev μ-loop : tie.MeasureT-loop
-μ-loop map n p ok₀ i₀ ok i =
+μ-loop gp-map n p ok₀ i₀ ok i =
     n - i
 
 loop-holds : tie.Need-loop-holds Inv-loop μ-loop

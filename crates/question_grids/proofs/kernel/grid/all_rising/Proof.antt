@@ -9,11 +9,11 @@ use Rattle.question_grids.proofs.kernel.grid.all_rising.Statement.{stat
 use Rattle.question_grids.proofs.kernel.grid.all_rising.Tie as tie
 
 abbrev Inv-loop : tie.InvT-loop
-Inv-loop map n ok₀ i₀ ok i =
-    (i ≤ n) × (ok ≡ allBelow i (λ k. ltZ (at map k) (at map (k + 1))))
+Inv-loop gp-map n ok₀ i₀ ok i =
+    (i ≤ n) × (ok ≡ allBelow i (λ k. ltZ (at gp-map k) (at gp-map (k + 1))))
 
 abbrev μ-loop : tie.MeasureT-loop
-μ-loop map n ok₀ i₀ ok i =
+μ-loop gp-map n ok₀ i₀ ok i =
     n - i
 
 loop-holds : tie.Need-loop-holds Inv-loop μ-loop

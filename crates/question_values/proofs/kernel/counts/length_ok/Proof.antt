@@ -14,7 +14,7 @@ div-result c = search needs
 returns : tie.Need-returns
 unfolding isProduct
 returns c =
-    product-is (c .args .rows) (c .args .size) (c .args .length) (c .pre)
+    product-is (c .args .count) (c .args .size) (c .args .total) (c .pre)
 
 pub length-ok-spec : {M : Type 1} → statement M
 length-ok-spec = tie.close (tie.spec rem-result div-result returns)

@@ -1,0 +1,44 @@
+-- The counts of the readers' statements by the program's own answers: a call counts where its entry answers Done, on the sheet that it was given.
+use mathlib.Core.Bool.{Bool, true, false, _||_, cond}
+use mathlib.Core.List.{List, [], _∷_}
+use Prim.Native.Nat.{ℕ, _+_}
+use lib.Dec.{eqb}
+use Rattle.list_laws.specs.Lists.{oneIf}
+use Rattle.triplet_study.specs.Given.{Given}
+use Rattle.sheet_step.specs.declared.SheetAnswer.{SheetAnswer}
+use Rattle.sheet_step.specs.declared.SheetAnswer.the-variants.{Done, Refused}
+use Rattle.sheet_step.specs.Marks.{isOpenAt, openPieces}
+use Rattle.sheet_step.specs.Steps.{Sheet, Call, run, carry, average, countsOf, pieceOf, step, stepAnswer}
+use Rattle.book_claim.specs.Counts.{averages}
+
+-- the entry answered Done
+abbrev pub isDone : SheetAnswer → Bool
+isDone (Done tally) = true
+isDone (Refused n) = false
+
+-- how many runs a call makes on a sheet: a run of a piece one, a carry-on one for each mark 0, an averaging none
+abbrev pub runsOn : Sheet → Call → ℕ
+runsOn s (run t b1 b2) = 1
+runsOn s carry = openPieces (s .marks)
+runsOn s (average t ids1 ids2) = 0
+
+-- the runs of the calls that were answered Done
+abbrev pub runsDone : Given → Sheet → List Call → ℕ
+runsDone g s [] = 0
+runsDone g s (c ∷ calls) = cond (isDone (stepAnswer g s c)) (runsOn s c) 0 + runsDone g (step g s c) calls
+
+-- whether a call runs piece q of a sheet: it names it, or carries on while its mark is 0
+abbrev pub runsPieceOn : Given → Sheet → ℕ → Call → Bool
+runsPieceOn g s q (run t b1 b2) = eqb q (pieceOf (countsOf g) t b1 b2)
+runsPieceOn g s q carry = isOpenAt (s .marks) q
+runsPieceOn g s q (average t ids1 ids2) = false
+
+-- whether a call that was answered Done has run it
+abbrev pub ranDone : Given → Sheet → ℕ → List Call → Bool
+ranDone g s q [] = false
+ranDone g s q (c ∷ calls) = cond (isDone (stepAnswer g s c)) (runsPieceOn g s q c) false || ranDone g (step g s c) q calls
+
+-- the averagings of triplet t that were answered Done
+abbrev pub averagingsDone : Given → Sheet → ℕ → List Call → ℕ
+averagingsDone g s t [] = 0
+averagingsDone g s t (c ∷ calls) = cond (isDone (stepAnswer g s c)) (oneIf (averages t c)) 0 + averagingsDone g (step g s c) t calls
