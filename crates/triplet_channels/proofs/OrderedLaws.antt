@@ -1,10 +1,12 @@
--- Work areas that begin alike have the same boxes and weights, and channels in order have the plain outputs. Assumes nothing.
-use mathlib.Core.Path.{_≡_, refl, _∙_}
+-- Work areas that begin alike have the same boxes and weights, and channels in order have the plain outputs; of type 4 the first channel is enough. Assumes nothing.
+use mathlib.Core.Path.{_≡_, refl, subst, _∙_}
+use mathlib.Core.Bool.{Bool, true, false}
 use mathlib.Core.List.{List}
 use Prim.Native.Nat.{ℕ, zero, suc, _*_, _≤_}
 use native.Mathlib.Omega.{arith}
 use lib.Ieee.{Float, nan}
 use lib.ListN.{getD}
+use Rattle.list_laws.proofs.BoolLaws.{clash}
 use Rattle.list_laws.proofs.FillLaws.{tabulate-ext}
 use Rattle.tetrahedron_method.specs.Weight.{weightOf}
 use Rattle.tetrahedron_method.specs.Sorted.{Ordered, sortedWeight}
@@ -15,7 +17,7 @@ use Rattle.triplet_channels.specs.declared.TpType.the-variants.{Type2, T
 use Rattle.triplet_channels.specs.declared.ValueBox.{ValueBox}
 use Rattle.triplet_channels.specs.Values.{combined, channelValues, leastOf, greatestOf, boxOf, Begun}
 use Rattle.triplet_channels.specs.Channels.{channelAt, furtherAt, outputsAt}
-use Rattle.triplet_channels.specs.Ordered.{orderedChannelAt, orderedFurtherAt, outputsOrdered}
+use Rattle.triplet_channels.specs.Ordered.{furtherRows, orderedChannelAt, orderedFurtherAt, outputsOrdered}
 
 -- the values of a channel go by the first entries alone
 pub values-same : (c n : ℕ) {s t u v : List Float} → Begun n s t → Begun n u v → channelValues c s u n ≡ channelValues c t v n
@@ -52,18 +54,28 @@ module _ {rows : ℕ} {s t z : List Float} {p : List ℕ} {b : ValueBox} (h : Pr
       let g : b ≡ boxOf t (rows * 4) = h .bounds ∙ box-same (rows * 4) s t (h .begun) (omega arith) in
       rw (e, g)
 
-  further-is : (tp : TpType) → orderedFurtherAt tp w z p rows b ≡ furtherAt tp w t rows
-  unfolding orderedFurtherAt furtherAt
-  further-is Type2 = channel-is
-  further-is Type3 = channel-is
-  further-is Type4 = refl
+-- whether a type has a second and a third channel
+abbrev pub hasFurther : TpType → Bool
+hasFurther Type2 = true
+hasFurther Type3 = true
+hasFurther Type4 = false
+
+-- the same of the second or the third channel, where the type has it
+pub record Further (tp : TpType) (rows : ℕ) (s t z : List Float) (p : List ℕ) (b : ValueBox) : Type 0 where
+  pub ready : hasFurther tp ≡ true → Prepared rows s t z p b
+
+further-is : (tp : TpType) (w : Float) {rows : ℕ} {s t z : List Float} {p : List ℕ} {b : ValueBox} → Further tp rows s t z p b → 1 ≤ rows → orderedFurtherAt tp w z p rows b ≡ furtherAt tp w t rows
+unfolding orderedFurtherAt furtherAt
+further-is Type2 w h pos = channel-is (h .ready refl) pos w
+further-is Type3 w h pos = channel-is (h .ready refl) pos w
+further-is Type4 w h pos = refl
 
 -- the outputs of channels in order are the plain outputs
 pub outputs-is : (tp : TpType) (w : Float) (rows : ℕ) → 1 ≤ rows → {s0 t0 z0 s1 t1 z1 s2 t2 z2 : List Float} {p0 p1 p2 : List ℕ} {b0 b1 b2 : ValueBox}
-    → Prepared rows s0 t0 z0 p0 b0 → Prepared rows s1 t1 z1 p1 b1 → Prepared rows s2 t2 z2 p2 b2
+    → Prepared rows s0 t0 z0 p0 b0 → Further tp rows s1 t1 z1 p1 b1 → Further tp rows s2 t2 z2 p2 b2
     → outputsOrdered tp w z0 p0 z1 p1 z2 p2 rows b0 b1 b2 ≡ outputsAt tp w t0 t1 t2 rows
 unfolding outputsOrdered outputsAt
-outputs-is tp w rows pos h0 h1 h2 = rw (channel-is h0 pos w, further-is h1 pos w tp, further-is h2 pos w tp)
+outputs-is tp w rows pos h0 h1 h2 = rw (channel-is h0 pos w, further-is tp w h1 pos, further-is tp w h2 pos)
 
 -- a channel's area made ready: filled, its box taken, its rows put in order
 pub prepare : (c rows : ℕ) {f f' g g' s z : List Float} {p : List ℕ} {b : ValueBox} → Begun (rows * 4) f f' → Begun (rows * 4) g g' → Begun (rows * 4) s (channelValues c f g (rows * 4))
@@ -73,4 +85,25 @@ prepare c rows h k m o e =
       begun = record { size = m .size; same = λ i l. rw (← values-same c (rows * 4) h k) (m .same i l) };
       sorted = o;
       bounds = e;
+    }
+
+-- a type gives its further channels all rows or none
+further-all : (tp : TpType) (rows : ℕ) → hasFurther tp ≡ true → furtherRows tp rows ≡ rows
+further-all Type2 rows h = refl
+further-all Type3 rows h = refl
+further-all Type4 rows h = clash h
+
+pub further-le : (tp : TpType) (rows : ℕ) → furtherRows tp rows ≤ rows
+further-le Type2 rows = omega arith
+further-le Type3 rows = omega arith
+further-le Type4 rows = omega arith
+
+-- a further channel's area made ready in the rows that its type gives it
+pub prepare-further : (tp : TpType) (c rows n : ℕ) → n ≡ furtherRows tp rows → {f f' g g' s z : List Float} {p : List ℕ} {b : ValueBox} → Begun (rows * 4) f f' → Begun (rows * 4) g g'
+    → Begun (n * 4) s (channelValues c f g (n * 4)) → Ordered s n z p → b ≡ boxOf s (n * 4) → Further tp rows s (channelValues c f' g' (rows * 4)) z p b
+prepare-further tp c rows n q {f} {f'} {g} {g'} {s} {z} {p} {b} h k m o e =
+    record {
+      ready = λ y.
+          let u : n ≡ rows = q ∙ further-all tp rows y in
+          prepare c rows h k (subst (λ (i : ℕ). Begun (i * 4) s (channelValues c f g (i * 4))) u m) (subst (λ (i : ℕ). Ordered s i z p) u o) (subst (λ (i : ℕ). b ≡ boxOf s (i * 4)) u e);
     }

@@ -13,6 +13,12 @@ use Rattle.triplet_channels.specs.declared.Channel.the-variants.{Closed,
 use Rattle.triplet_channels.specs.declared.Outputs.{Outputs}
 use Rattle.triplet_channels.specs.Channels.{holds, outputsBy}
 
+-- how many rows the second and the third channel are given: none where there is "the first alone"
+abbrev pub furtherRows : TpType → ℕ → ℕ
+furtherRows Type2 rows = rows
+furtherRows Type3 rows = rows
+furtherRows Type4 rows = 0
+
 -- a channel
 unfoldable pub orderedChannelAt : Float → List Float → List ℕ → ℕ → ValueBox → Channel
 orderedChannelAt w s p rows b = cond (holds b w) (Open (sortedWeight I w s p rows)) Closed

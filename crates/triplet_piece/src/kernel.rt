@@ -91,7 +91,7 @@ fn fill_points(
 
 // Writes the piece of triplet `t` and bands `b1`, `b2`: its weights in every channel and its flag, at every point.
 // The numbers are the corners of the triplet's second and third point; the work areas are lent. Corner values and boxes are
-// made once, and the rows of each channel are put in order once.
+// made once, and the rows of each channel are put in order once; type 4 makes the first channel alone.
 pub fn fill_piece(
     f1: &mut [f64; 384],
     f2: &mut [f64; 384],
@@ -130,6 +130,8 @@ pub fn fill_piece(
     let bands1 = z.bands1;
     let bands2 = z.bands2;
     let pair = b1 * bands2 + b2;
+    let further = triplet_channels::kernel::channels::further_rows(tp, rows);
+    let m = further * 4;
     triplet_channels::kernel::values::fill_frequencies(
         f1,
         tp,
@@ -149,14 +151,14 @@ pub fn fill_piece(
         b2,
     );
     triplet_channels::kernel::values::fill_channel(a0, 0, f1, f2, n);
-    triplet_channels::kernel::values::fill_channel(a1, 1, f1, f2, n);
-    triplet_channels::kernel::values::fill_channel(a2, 2, f1, f2, n);
+    triplet_channels::kernel::values::fill_channel(a1, 1, f1, f2, m);
+    triplet_channels::kernel::values::fill_channel(a2, 2, f1, f2, m);
     let x0 = triplet_channels::kernel::values::box_of(a0, n);
-    let x1 = triplet_channels::kernel::values::box_of(a1, n);
-    let x2 = triplet_channels::kernel::values::box_of(a2, n);
+    let x1 = triplet_channels::kernel::values::box_of(a1, m);
+    let x2 = triplet_channels::kernel::values::box_of(a2, m);
     tetrahedron_method::kernel::sorted::sort_rows(a0, p0, rows);
-    tetrahedron_method::kernel::sorted::sort_rows(a1, p1, rows);
-    tetrahedron_method::kernel::sorted::sort_rows(a2, p2, rows);
+    tetrahedron_method::kernel::sorted::sort_rows(a1, p1, further);
+    tetrahedron_method::kernel::sorted::sort_rows(a2, p2, further);
     fill_points(
         weights,
         flags,

@@ -2,7 +2,7 @@
 ghost use mathlib.Core.Path.{_≡_};
 ghost use Prim.Native.Nat.{_≤_};
 ghost use Rattle.triplet_channels.specs.Channels.{holds, valueOf, closedOf, flagOf, outputsBy};
-ghost use Rattle.triplet_channels.specs.Ordered.{orderedChannelAt, orderedFurtherAt, outputsOrdered};
+ghost use Rattle.triplet_channels.specs.Ordered.{furtherRows, orderedChannelAt, orderedFurtherAt, outputsOrdered};
 use crate::Channel;
 use crate::Outputs;
 use crate::TpType;
@@ -31,6 +31,17 @@ fn channel_at(f0: f64, s: &[f64; 384], places: &[usize; 96], rows: usize, b: Val
         ))
     } else {
         Channel::Closed
+    }
+}
+
+// How many rows to make of a channel that type 4 does not have.
+pub fn further_rows(tp: TpType, rows: usize) -> usize
+    ensures { λ r. ⌜ r ≡ furtherRows tp rows ⌝ }
+{
+    match tp {
+        TpType::Type2 => rows,
+        TpType::Type3 => rows,
+        TpType::Type4 => 0,
     }
 }
 

@@ -6,7 +6,7 @@ use lib.ListN.{getD}
 use mathlib.Core.Path.{_∙_}
 use native.Mathlib.Omega.{arith}
 use Rattle.list_laws.proofs.ProductLaws.{digit-lt}
-use Rattle.triplet_channels.proofs.OrderedLaws.{outputs-is, prepare}
+use Rattle.triplet_channels.proofs.OrderedLaws.{outputs-is, prepare, prepare-further, further-le}
 use Rattle.triplet_piece.proofs.LayoutLaws.{cell-in, flags-same, weights-same}
 use Rattle.triplet_piece.specs.Study.{outputsOfCorners}
 use Rattle.triplet_piece.proofs.kernel.fill_piece.Statement.{statement}
@@ -29,51 +29,59 @@ add-pair c =
     let ci : _ = cell-in (s .args .z) (s .pre .0 .1 .0) (s .args .t) (s .args .b1 * s .args .z .bands2 + s .args .b2) 0 (s .pre .0 .1 .1 .0) hk (s .pre .0 .1 .0 .some) in
     omega (arith, s .pre .0 .1 .0 .flagged, s .good)
 
+further-rows-requires : tie.Need-further-rows-requires
+further-rows-requires c κs = search needs
+
+mul-m : tie.Need-mul-m
+mul-m c =
+    let s : _ = c .before .before .before .before .before in
+    omega (arith, s .pre .0 .0 .1, c .further-rows .ensures, further-le (s .args .tp) (s .args .rows))
+
 fill-frequencies-requires : tie.Need-fill-frequencies-requires
 fill-frequencies-requires c κs =
-    let s : _ = c .before .before .before .before .before in let le : s .args .rows ≤ 96 = s .pre .0 .0 .1 in (omega arith, (s .pre .1 .0 .0, s .pre .1 .1 .size1))
+    let s : _ = c .before .before .before .before .before .before in let le : s .args .rows ≤ 96 = s .pre .0 .0 .1 in (omega arith, (s .pre .1 .0 .0, s .pre .1 .1 .size1))
 
 fill-frequencies-requires-2 : tie.Need-fill-frequencies-requires-2
 fill-frequencies-requires-2 c κs =
-    let s : _ = c .before .before .before .before .before .before .before in let le : s .args .rows ≤ 96 = s .pre .0 .0 .1 in (omega arith, (s .pre .1 .0 .1, s .pre .1 .1 .size2))
+    let s : _ = c .before .before .before .before .before .before .before .before in let le : s .args .rows ≤ 96 = s .pre .0 .0 .1 in (omega arith, (s .pre .1 .0 .1, s .pre .1 .1 .size2))
 
 fill-channel-requires : tie.Need-fill-channel-requires
 fill-channel-requires c κs =
-    let s : _ = c .before .before .before .before .before .before .before .before .before .before .before in let le : s .args .rows ≤ 96 = s .pre .0 .0 .1 in (omega arith, s .pre .1 .1 .channel0)
+    let s : _ = c .before .before .before .before .before .before .before .before .before .before .before .before in let le : s .args .rows ≤ 96 = s .pre .0 .0 .1 in (omega arith, s .pre .1 .1 .channel0)
 
 fill-channel-requires-2 : tie.Need-fill-channel-requires-2
 fill-channel-requires-2 c κs =
-    let s : _ = c .before .before .before .before .before .before .before .before .before .before .before .before .before .before .before in
+    let s : _ = c .before .before .before .before .before .before .before .before .before .before .before .before .before .before .before .before in
     let le : s .args .rows ≤ 96 = s .pre .0 .0 .1 in
-    (omega arith, s .pre .1 .1 .channel1)
+    (omega (arith, c .before .before .before .before .before .before .before .before .before .before .before .further-rows .ensures, further-le (s .args .tp) (s .args .rows)), s .pre .1 .1 .channel1)
 
 fill-channel-requires-3 : tie.Need-fill-channel-requires-3
 fill-channel-requires-3 c κs =
-    let s : _ = c .before .before .before .before .before .before .before .before .before .before .before .before .before .before .before .before .before .before .before in
+    let s : _ = c .before .before .before .before .before .before .before .before .before .before .before .before .before .before .before .before .before .before .before .before in
     let le : s .args .rows ≤ 96 = s .pre .0 .0 .1 in
-    (omega arith, s .pre .1 .1 .channel2)
+    (omega (arith, c .before .before .before .before .before .before .before .before .before .before .before .before .before .before .before .further-rows .ensures, further-le (s .args .tp) (s .args .rows)), s .pre .1 .1 .channel2)
 
 box-of-requires : tie.Need-box-of-requires
 box-of-requires c κs =
-    let s : _ = c .before .before .before .before .before .before .before .before .before .before .before .before .before .before .before .before .before .before .before .before .before in
+    let s : _ = c .before .before .before .before .before .before .before .before .before .before .before .before .before .before .before .before .before .before .before .before .before .before in
     let le : s .args .rows ≤ 96 = s .pre .0 .0 .1 in
     omega arith
 
 box-of-requires-2 : tie.Need-box-of-requires-2
 box-of-requires-2 c κs =
-    let s : _ = c .before .before .before .before .before .before .before .before .before .before .before .before .before .before .before .before .before .before .before .before .before .before .before in
+    let s : _ = c .before .before .before .before .before .before .before .before .before .before .before .before .before .before .before .before .before .before .before .before .before .before .before .before in
     let le : s .args .rows ≤ 96 = s .pre .0 .0 .1 in
-    omega arith
+    omega (arith, c .before .before .before .before .before .before .before .before .before .before .before .before .before .before .before .before .before .before .before .further-rows .ensures, further-le (s .args .tp) (s .args .rows))
 
 box-of-requires-3 : tie.Need-box-of-requires-3
 box-of-requires-3 c κs =
-    let s : _ = c .before .before .before .before .before .before .before .before .before .before .before .before .before .before .before .before .before .before .before .before .before .before .before .before .before in
+    let s : _ = c .before .before .before .before .before .before .before .before .before .before .before .before .before .before .before .before .before .before .before .before .before .before .before .before .before .before in
     let le : s .args .rows ≤ 96 = s .pre .0 .0 .1 in
-    omega arith
+    omega (arith, c .before .before .before .before .before .before .before .before .before .before .before .before .before .before .before .before .before .before .before .before .before .further-rows .ensures, further-le (s .args .tp) (s .args .rows))
 
 sort-rows-requires : tie.Need-sort-rows-requires
 sort-rows-requires c κs =
-    let s : _ = c .before .before .before .before .before .before .before .before .before .before .before .before .before .before .before .before .before .before .before .before .before .before .before .before .before .before .before .before in (
+    let s : _ = c .before .before .before .before .before .before .before .before .before .before .before .before .before .before .before .before .before .before .before .before .before .before .before .before .before .before .before .before .before in (
       s .pre .0 .0 .1,
       c .before .before .before .before .before .before .before .before .before .before .before .before .before .before .before .before .fill-channel .ensures .size,
       s .pre .1 .1 .places0,
@@ -81,23 +89,23 @@ sort-rows-requires c κs =
 
 sort-rows-requires-2 : tie.Need-sort-rows-requires-2
 sort-rows-requires-2 c κs =
-    let s : _ = c .before .before .before .before .before .before .before .before .before .before .before .before .before .before .before .before .before .before .before .before .before .before .before .before .before .before .before .before .before .before .before in (
-      s .pre .0 .0 .1,
+    let s : _ = c .before .before .before .before .before .before .before .before .before .before .before .before .before .before .before .before .before .before .before .before .before .before .before .before .before .before .before .before .before .before .before .before in (
+      omega (arith, s .pre .0 .0 .1, c .before .before .before .before .before .before .before .before .before .before .before .before .before .before .before .before .before .before .before .before .before .before .before .before .before .before .before .further-rows .ensures, further-le (s .args .tp) (s .args .rows)),
       c .before .before .before .before .before .before .before .before .before .before .before .before .before .before .before .fill-channel2 .ensures .size,
       s .pre .1 .1 .places1,
     )
 
 sort-rows-requires-3 : tie.Need-sort-rows-requires-3
 sort-rows-requires-3 c κs =
-    let s : _ = c .before .before .before .before .before .before .before .before .before .before .before .before .before .before .before .before .before .before .before .before .before .before .before .before .before .before .before .before .before .before .before .before .before .before in (
-      s .pre .0 .0 .1,
+    let s : _ = c .before .before .before .before .before .before .before .before .before .before .before .before .before .before .before .before .before .before .before .before .before .before .before .before .before .before .before .before .before .before .before .before .before .before .before in (
+      omega (arith, s .pre .0 .0 .1, c .before .before .before .before .before .before .before .before .before .before .before .before .before .before .before .before .before .before .before .before .before .before .before .before .before .before .before .before .before .before .further-rows .ensures, further-le (s .args .tp) (s .args .rows)),
       c .before .before .before .before .before .before .before .before .before .before .before .before .before .before .fill-channel3 .ensures .size,
       s .pre .1 .1 .places2,
     )
 
 fill-points-requires : tie.Need-fill-points-requires
 fill-points-requires c κs =
-    let s : _ = c .before .before .before .before .before .before .before .before .before .before .before .before .before .before .before .before .before .before .before .before .before .before .before .before .before .before .before .before .before .before .before .before .before .before .before .before .before .before .before .before .before .before .before in
+    let s : _ = c .before .before .before .before .before .before .before .before .before .before .before .before .before .before .before .before .before .before .before .before .before .before .before .before .before .before .before .before .before .before .before .before .before .before .before .before .before .before .before .before .before .before .before .before in
     let hk : s .args .b1 * s .args .z .bands2 + s .args .b2 < s .args .z .pairs = rw (s .pre .0 .1 .0 .pairs) (digit-lt (s .args .b1) (s .args .z .bands1) (s .args .b2) (s .args .z .bands2) (s .pre .0 .1 .1 .1 .0) (s .pre .0 .1 .1 .1 .1)) in
     (s .pre .0 .0 .1, (s .pre .0 .1 .0, (s .pre .0 .1 .1 .0, hk)))
 
@@ -110,10 +118,10 @@ same-length-2 c = search needs
 returns : tie.Need-returns
 unfolding outputsOfCorners
 returns c =
-    let s : _ = c .before .before .before .before .before .before .before .before .before .before .before .before .before .before .before .before .before .before .before .before .before .before .before .before .before .before .before .before .before .before .before .before .before .before .before .before .before .before .before .before .before .before .before .before .before .before .before in
+    let s : _ = c .before .before .before .before .before .before .before .before .before .before .before .before .before .before .before .before .before .before .before .before .before .before .before .before .before .before .before .before .before .before .before .before .before .before .before .before .before .before .before .before .before .before .before .before .before .before .before .before in
     let p0 : _ = prepare 0 (s .args .rows) (c .before .before .before .before .before .before .before .before .before .before .before .before .before .before .before .before .before .before .before .before .before .before .before .before .before .before .before .before .before .before .before .before .before .before .before .before .before .before .before .before .before .fill-frequencies .ensures) (c .before .before .before .before .before .before .before .before .before .before .before .before .before .before .before .before .before .before .before .before .before .before .before .before .before .before .before .before .before .before .before .before .before .before .before .before .before .before .before .fill-frequencies2 .ensures) (c .before .before .before .before .before .before .before .before .before .before .before .before .before .before .before .before .before .before .before .before .before .before .before .before .before .before .before .before .before .before .before .before .before .before .before .fill-channel .ensures) (c .before .before .before .before .before .before .before .before .before .before .before .before .before .before .before .before .before .before .sort-rows .ensures .sorted) (c .before .before .before .before .before .before .before .before .before .before .before .before .before .before .before .before .before .before .before .before .before .before .before .before .before .box-of .ensures) in
-    let p1 : _ = prepare 1 (s .args .rows) (c .before .before .before .before .before .before .before .before .before .before .before .before .before .before .before .before .before .before .before .before .before .before .before .before .before .before .before .before .before .before .before .before .before .before .before .before .before .before .before .before .before .fill-frequencies .ensures) (c .before .before .before .before .before .before .before .before .before .before .before .before .before .before .before .before .before .before .before .before .before .before .before .before .before .before .before .before .before .before .before .before .before .before .before .before .before .before .before .fill-frequencies2 .ensures) (c .before .before .before .before .before .before .before .before .before .before .before .before .before .before .before .before .before .before .before .before .before .before .before .before .before .before .before .before .before .before .before .fill-channel2 .ensures) (c .before .before .before .before .before .before .before .before .before .before .before .before .before .before .before .sort-rows2 .ensures .sorted) (c .before .before .before .before .before .before .before .before .before .before .before .before .before .before .before .before .before .before .before .before .before .before .before .box-of2 .ensures) in
-    let p2 : _ = prepare 2 (s .args .rows) (c .before .before .before .before .before .before .before .before .before .before .before .before .before .before .before .before .before .before .before .before .before .before .before .before .before .before .before .before .before .before .before .before .before .before .before .before .before .before .before .before .before .fill-frequencies .ensures) (c .before .before .before .before .before .before .before .before .before .before .before .before .before .before .before .before .before .before .before .before .before .before .before .before .before .before .before .before .before .before .before .before .before .before .before .before .before .before .before .fill-frequencies2 .ensures) (c .before .before .before .before .before .before .before .before .before .before .before .before .before .before .before .before .before .before .before .before .before .before .before .before .before .before .before .fill-channel3 .ensures) (c .before .before .before .before .before .before .before .before .before .before .before .before .sort-rows3 .ensures .sorted) (c .before .before .before .before .before .before .before .before .before .before .before .before .before .before .before .before .before .before .before .before .before .box-of3 .ensures) in (
+    let p1 : _ = prepare-further (s .args .tp) 1 (s .args .rows) (c .before .before .before .before .before .before .before .before .before .before .before .before .before .before .before .before .before .before .before .before .before .before .before .before .before .before .before .before .before .before .before .before .before .before .before .before .before .before .before .before .before .before .before .further-rows .result) (c .before .before .before .before .before .before .before .before .before .before .before .before .before .before .before .before .before .before .before .before .before .before .before .before .before .before .before .before .before .before .before .before .before .before .before .before .before .before .before .before .before .before .before .further-rows .ensures) (c .before .before .before .before .before .before .before .before .before .before .before .before .before .before .before .before .before .before .before .before .before .before .before .before .before .before .before .before .before .before .before .before .before .before .before .before .before .before .before .before .before .fill-frequencies .ensures) (c .before .before .before .before .before .before .before .before .before .before .before .before .before .before .before .before .before .before .before .before .before .before .before .before .before .before .before .before .before .before .before .before .before .before .before .before .before .before .before .fill-frequencies2 .ensures) (c .before .before .before .before .before .before .before .before .before .before .before .before .before .before .before .before .before .before .before .before .before .before .before .before .before .before .before .before .before .before .before .fill-channel2 .ensures) (c .before .before .before .before .before .before .before .before .before .before .before .before .before .before .before .sort-rows2 .ensures .sorted) (c .before .before .before .before .before .before .before .before .before .before .before .before .before .before .before .before .before .before .before .before .before .before .before .box-of2 .ensures) in
+    let p2 : _ = prepare-further (s .args .tp) 2 (s .args .rows) (c .before .before .before .before .before .before .before .before .before .before .before .before .before .before .before .before .before .before .before .before .before .before .before .before .before .before .before .before .before .before .before .before .before .before .before .before .before .before .before .before .before .before .before .further-rows .result) (c .before .before .before .before .before .before .before .before .before .before .before .before .before .before .before .before .before .before .before .before .before .before .before .before .before .before .before .before .before .before .before .before .before .before .before .before .before .before .before .before .before .before .before .further-rows .ensures) (c .before .before .before .before .before .before .before .before .before .before .before .before .before .before .before .before .before .before .before .before .before .before .before .before .before .before .before .before .before .before .before .before .before .before .before .before .before .before .before .before .before .fill-frequencies .ensures) (c .before .before .before .before .before .before .before .before .before .before .before .before .before .before .before .before .before .before .before .before .before .before .before .before .before .before .before .before .before .before .before .before .before .before .before .before .before .before .before .fill-frequencies2 .ensures) (c .before .before .before .before .before .before .before .before .before .before .before .before .before .before .before .before .before .before .before .before .before .before .before .before .before .before .before .fill-channel3 .ensures) (c .before .before .before .before .before .before .before .before .before .before .before .before .sort-rows3 .ensures .sorted) (c .before .before .before .before .before .before .before .before .before .before .before .before .before .before .before .before .before .before .before .before .before .box-of3 .ensures) in (
       record {
         size1 = c .before .before .before .before .before .before .before .before .before .before .before .before .before .before .before .before .before .before .before .before .before .before .before .before .before .before .before .before .before .before .before .before .before .before .before .before .before .before .before .before .before .fill-frequencies .ensures .size;
         size2 = c .before .before .before .before .before .before .before .before .before .before .before .before .before .before .before .before .before .before .before .before .before .before .before .before .before .before .before .before .before .before .before .before .before .before .before .before .before .before .before .fill-frequencies2 .ensures .size;
@@ -137,6 +145,8 @@ fill-piece-spec =
     mul-n
     mul-pair
     add-pair
+    further-rows-requires
+    mul-m
     fill-frequencies-requires
     fill-frequencies-requires-2
     fill-channel-requires
