@@ -72,7 +72,8 @@ static void take(pelmetsavory_sheet *s, const pelmetsavory_sheet *w)
 
 int main(int argc, char **argv)
 {
-    if (!pelmetsavory_float_mode_ok()) { fprintf(stderr, "the float mode is not IEEE 754's\n"); return 1; }
+    const char *why;
+    if (!pelmetsavory_ready(&why)) { fprintf(stderr, "%s\n", why); return 1; }
     pelmetsavory_study y = small_study();
     pelmetsavory_sheet sheet = new_sheet(0, 0, 0), part = new_sheet(0, 0, 0), one = new_sheet(0, 0, 0);
     char folder[] = "/tmp/pelmetsavory.XXXXXX", path[WORKERS][40];

@@ -356,10 +356,11 @@ static void stack_need(void)
 
 int main(int argc, char **argv)
 {
-    YES(pelmetsavory_float_mode_ok() && sizeof(pelmetsavory_shape) == 56);
+    const char *why = "";
+    YES(pelmetsavory_ready(&why) && !why && pelmetsavory_ready(NULL) && pelmetsavory_float_mode_ok() && sizeof(pelmetsavory_shape) == 56);
     if (argc < 2) { /* valgrind keeps no float mode: any argument leaves this out */
         const unsigned modes[] = {0x8000, 0x0040, 0x2000, 0x4000, 0x6000}; /* flush to zero, denormals are zero, down, up, towards zero */
-        for (int k = 0; k < 5; k++) { _mm_setcsr(_mm_getcsr() | modes[k]); YES(!pelmetsavory_float_mode_ok()); _mm_setcsr(_mm_getcsr() & ~modes[k]); }
+        for (int k = 0; k < 5; k++) { _mm_setcsr(_mm_getcsr() | modes[k]); YES(!pelmetsavory_float_mode_ok() && !pelmetsavory_ready(&why) && strstr(why, "float mode")); _mm_setcsr(_mm_getcsr() & ~modes[k]); }
     }
     (void)argv;
     if (getenv("PELMETSAVORY_OUT")) out = fopen(getenv("PELMETSAVORY_OUT"), "w");

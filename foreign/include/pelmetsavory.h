@@ -7,8 +7,9 @@
  * Any values in arrays and structs are taken: what is wrong is told by the status, 0 or the number of the first question that is
  * answered no (pelmetsavory_question gives its words). After a refusal every buffer and the tally are as they were. pelmetsavory_answer
  * has no status but the length of its answer, and writes a refusal as a line of text.
- * A function letter is 'I'; any other byte is J.
- * Floats: the thread must round to nearest, without flush-to-zero (FTZ) and denormals-are-zero (DAZ): pelmetsavory_float_mode_ok.
+ * A function letter 'I' names the weight of the density; any other byte names J, that of the number of states.
+ * Call pelmetsavory_ready before anything else, in each thread. Floats: the thread must round to nearest, without flush-to-zero (FTZ) and
+ * denormals-are-zero (DAZ). The library must be of the header's interface version.
  * A call needs less than 48 KiB of stack, pelmetsavory_answer less than 1.25 MiB; it allocates nothing, and keeps nothing: threads may call
  * on different sheets at once. */
 #ifndef PELMETSAVORY_H
@@ -25,6 +26,24 @@ extern "C" {
 
 /* 1 where the thread's float mode is the one that the proofs speak of. Loading a library built with -ffast-math can change it. */
 static inline int pelmetsavory_float_mode_ok(void) { return (_mm_getcsr() & 0xe040u) == 0; }
+
+#define PELMETSAVORY_TEXT_(x) #x
+#define PELMETSAVORY_TEXT(x) PELMETSAVORY_TEXT_(x)
+
+/* 1 where calls may be made: the library has this header's interface version, and the thread's float mode is right. Otherwise 0, and
+ * `*why`, where `why` is not NULL, says in words what is wrong: make no call. */
+static inline int pelmetsavory_ready(const char **why)
+{
+    const char *no = NULL;
+    if (pelmetsavory_interface_version() != PELMETSAVORY_INTERFACE_VERSION)
+        no = "libpelmetsavory has another interface version than pelmetsavory.h, which was made for "
+            PELMETSAVORY_TEXT(PELMETSAVORY_INTERFACE_VERSION) ": take both from one source";
+    else if (!pelmetsavory_float_mode_ok())
+        no = "this thread's float mode is not IEEE 754's: rounding is not to nearest, or subnormals are flushed (was a library built with "
+            "-ffast-math loaded?)";
+    if (why) *why = no;
+    return no == NULL;
+}
 
 /* A study and a sheet as structs, and the calls on them: the entries' arguments in order, nothing else. */
 typedef struct {

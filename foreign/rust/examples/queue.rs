@@ -1,7 +1,7 @@
 //! The pieces of one sheet on worker processes, some of them killed: in every bit the sheet of one process that carries on.
 #[path = "../tests/small/mod.rs"]
 mod small;
-use pelmetsavory::{float_mode_ok, Piece, Sheet};
+use pelmetsavory::{ready, Piece, Sheet};
 use small::Small;
 use std::collections::hash_map::RandomState;
 use std::hash::{BuildHasher, Hasher};
@@ -29,7 +29,10 @@ fn shuffle(pieces: &mut [usize]) {
 }
 
 fn main() {
-    assert!(float_mode_ok());
+    if let Err(why) = ready() {
+        eprintln!("{why}");
+        std::process::exit(1);
+    }
     let args: Vec<String> = env::args().collect();
     if args.get(1).is_some_and(|a| a == "work") {
         return work(Path::new(&args[2]), &args[3..]);

@@ -1,10 +1,10 @@
 //! A safe face of the proved library. A slice crosses as a pointer and a count; the borrow checker gives what a call takes for granted:
 //! valid memory, and no overlap with what is written. An `Err` carries the first question that is answered no; nothing was written then.
-//! The thread's float mode must be IEEE 754's: see [`float_mode_ok`].
+//! The thread's float mode must be IEEE 754's, and the library of this crate's interface version: see [`ready`].
 
 #[rustfmt::skip]
 mod c;
-pub use c::{Counts, Grid, Piece, Shape};
+pub use c::{Counts, Grid, Piece, Shape, INTERFACE_VERSION};
 use c::Triple;
 use std::{fmt, fs, io, path::Path};
 
@@ -35,6 +35,47 @@ pub fn float_mode_ok() -> bool {
     // SAFETY: stores the four bytes of MXCSR.
     unsafe { std::arch::asm!("stmxcsr [{}]", in(reg) &mut mode, options(nostack)) };
     mode & 0xe040 == 0
+}
+
+/// Why no call may be made.
+#[derive(Clone, Copy, Debug, PartialEq, Eq)]
+pub enum NotReady {
+    /// The linked library has this interface version, and not [`INTERFACE_VERSION`].
+    InterfaceVersion(u64),
+    /// This thread's float mode is not IEEE 754's.
+    FloatMode,
+}
+
+impl fmt::Display for NotReady {
+    fn fmt(&self, f: &mut fmt::Formatter) -> fmt::Result {
+        match self {
+            NotReady::InterfaceVersion(linked) => {
+                write!(f, "libpelmetsavory.a has interface version {linked}, and this crate was made for {INTERFACE_VERSION}: take both from one source")
+            }
+            NotReady::FloatMode => f.write_str("this thread's float mode is not IEEE 754's: rounding is not to nearest, or subnormals are flushed"),
+        }
+    }
+}
+
+impl std::error::Error for NotReady {}
+
+/// Whether calls may be made: the library has this crate's interface version, and the thread's float mode is right. Ask it first, in each
+/// thread. A call on a library of another version panics, whether or not this was asked.
+pub fn ready() -> Result<(), NotReady> {
+    match c::linked_version() {
+        INTERFACE_VERSION if float_mode_ok() => Ok(()),
+        INTERFACE_VERSION => Err(NotReady::FloatMode),
+        linked => Err(NotReady::InterfaceVersion(linked)),
+    }
+}
+
+/// On the way of every call: refuses a library of another interface version.
+#[inline]
+fn asked_version() {
+    let linked = c::linked_version();
+    if linked != INTERFACE_VERSION {
+        panic!("{}", NotReady::InterfaceVersion(linked));
+    }
 }
 
 /// Which weight: I times the density, or J times the number of states.

@@ -44,7 +44,7 @@ fn kept(number: u64, s: &mut Sheet, call: impl FnOnce(&mut Sheet) -> Result<(), 
 
 #[test]
 fn every_entry_and_every_refusal() {
-    assert!(float_mode_ok());
+    assert_eq!(ready(), Ok(()));
     let small = Small::new();
     let y = small.study();
     let mut out = String::new();
