@@ -1,5 +1,6 @@
 """Arrays as numpy's users know them: assigned, changed in place, copied, pickled, sent to other processes; shapes and types that are refused."""
 import copy
+import ctypes
 import multiprocessing
 import pickle
 
@@ -211,6 +212,8 @@ def test_nothing_wraps_and_nothing_is_rounded():
         (TypeError, "triplets", lambda: other(triplets=TWO.astype(np.float32))),
         (TypeError, "triplets", lambda: other(triplets=[[big, 0, 0]])),
         (TypeError, "table", lambda: other(table=table / 1)),
+        (ValueError, "triplets is no array", lambda: other(triplets=[[0, 1, 2], [3, 5]])),
+        (TypeError, "frequencies1 is a masked array", lambda: other(f1=np.ma.masked_less(F1, 1))),
         (TypeError, "points", lambda: other(points=[1, 2**53 + 1])),
         (TypeError, "points", lambda: other(points=[1 + 0j])),
         (TypeError, "frequencies1", lambda: other(f1=F1.astype(np.longdouble))),
@@ -247,6 +250,11 @@ def test_a_sheet_s_arrays_must_be_fit_to_be_written():
     sheet.weights.flags.writeable = True
     sheet.carry_on()
     assert held(sheet) == carried(study)
+
+
+def test_bytes_begin_at_a_multiple_of_8():
+    kept = [bytes(size) for size in [*range(2000), 2**16, 2**17 + 8, 2**20, 2**25]]
+    assert all(ctypes.cast(b, ctypes.c_void_p).value % 8 == 0 for b in kept)
 
 
 def test_no_rows():

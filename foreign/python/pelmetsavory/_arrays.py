@@ -31,14 +31,23 @@ def letter(function: str) -> int:
 
 
 def numbers(name: str, kind: type, given: ArrayLike, *shape: Union[int, str]) -> np.ndarray:
-    """The values as an array of that kind. In the wanted shape a word stands for any count; a list of no rows is taken for `[]`."""
-    a = np.asarray(given)
+    """The values as an array of that kind and shape. A word in the shape stands for any count; `[]` has no rows, whatever the shape of a row."""
+    a = _array(name, given)
     if a.shape == (0,) and isinstance(shape[0], str):
         return np.zeros([0 if isinstance(n, str) else n for n in shape], kind)
     if len(a.shape) != len(shape) or any(n != m for n, m in zip(a.shape, shape) if not isinstance(m, str)):
         wanted = ", ".join(map(str, shape)) + ("," if len(shape) == 1 else "")
         raise ValueError(f"{name} has the shape {a.shape}; ({wanted}) is wanted")
     return a if a.dtype == kind else _converted(name, kind, a)
+
+
+def _array(name: str, given: ArrayLike) -> np.ndarray:
+    if isinstance(given, np.ma.MaskedArray):
+        raise TypeError(f"{name} is a masked array: fill it first")
+    try:
+        return np.asarray(given)
+    except ValueError as error:  # rows of different lengths
+        raise ValueError(f"{name} is no array: {error}") from None
 
 
 def _converted(name: str, kind: type, a: np.ndarray) -> np.ndarray:

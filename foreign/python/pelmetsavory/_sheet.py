@@ -3,7 +3,7 @@ import copy
 import ctypes
 import operator
 import os
-from typing import Any, Iterable, List, Tuple, Union
+from typing import Any, Iterable, List, Optional, Tuple, Union
 
 import numpy as np
 from numpy.typing import ArrayLike
@@ -79,7 +79,7 @@ class Sheet:
     flags = Written("The flags (triplet, point, b1, b2): 1 where every channel is closed.", np.int8)
     marks = Written("The marks (triplet, b1, b2): 0 open, 1 computed, 2 averaged.", np.uint8)
 
-    def __init__(self, study: Study, weights: Any = None, flags: Any = None, marks: Any = None, tally: int = 0) -> None:
+    def __init__(self, study: Study, weights: Optional[np.ndarray] = None, flags: Optional[np.ndarray] = None, marks: Optional[np.ndarray] = None, tally: int = 0) -> None:
         shapes, self._study = study.shapes(), study
         self.weights = np.zeros(shapes.weights, np.float64) if weights is None else weights
         self.flags = np.zeros(shapes.flags, np.int8) if flags is None else flags
@@ -149,18 +149,19 @@ class Sheet:
 
         A sheet of another study or shape, marks that are not sound, a triplet that is averaged there and not here, and a tally that would not
         stay below 2^63 are refused before anything is changed. The worker's sheet then counts as taken: taking it again adds nothing."""
-        tally = self._tally_with(other)
-        new = (other.marks == COMPUTED) & (self.marks == OPEN)
+        tally, marks, counter, theirs = self._tally_with(other), self.marks, self._tally, other.tally
+        new = (other.marks == COMPUTED) & (marks == OPEN)
         at_each_point = new[:, np.newaxis]
         np.copyto(self.weights, other.weights, where=at_each_point)
         np.copyto(self.flags, other.flags, where=at_each_point)
-        self.marks[new] = COMPUTED
-        self._tally[0] = tally
-        other.began = other.tally
+        # stores alone, which no interrupt parts
+        marks[new] = COMPUTED
+        counter[0] = tally
+        other._began = theirs
 
     def _tally_with(self, other: "Sheet") -> int:
         """The tally after taking another sheet, where it can be taken."""
-        if not isinstance(other, Sheet) or np.may_share_memory(self._tally, other._tally):
+        if not isinstance(other, Sheet) or other is self:
             raise TypeError("another sheet is wanted")
         if self._records() != other._records():
             raise ValueError("the other sheet is of another study")

@@ -24,8 +24,10 @@ class Stored(NamedTuple):
 def packed(s: Stored) -> bytes:
     """A sheet's bytes."""
     head = HEAD.pack(MAGIC, VERSION, s.fingerprint, *s.shape, s.began, s.tally)
-    body = b"".join([head, s.weights.tobytes(), s.flags.tobytes(), s.marks.tobytes()])
-    return body + hashlib.sha256(body).digest()
+    parts, sha = [head, s.weights.tobytes(), s.flags.tobytes(), s.marks.tobytes()], hashlib.sha256()
+    for part in parts:
+        sha.update(part)
+    return b"".join([*parts, sha.digest()])
 
 
 def unpacked(data: bytes, fingerprint: bytes, shape: Tuple[int, ...]) -> Stored:
@@ -40,7 +42,7 @@ def unpacked(data: bytes, fingerprint: bytes, shape: Tuple[int, ...]) -> Stored:
     cells = pieces * points
     if len(data) != HEAD.size + 8 * channels * cells + cells + pieces + SUM:
         raise ValueError("this stored sheet was cut short, or is too long")
-    if data[-SUM:] != hashlib.sha256(data[:-SUM]).digest():
+    if data[-SUM:] != hashlib.sha256(memoryview(data)[:-SUM]).digest():
         raise ValueError("this stored sheet is damaged: its checksum is not right")
     if of != fingerprint:
         raise ValueError("this sheet is of another study")
