@@ -1,6 +1,4 @@
 """What the tests share: the small study, changes of it, and what a refusal must leave."""
-import numpy as np
-
 import pelmetsavory as pm
 from queue_example import addresses, grid, n, study, table
 

@@ -7,7 +7,7 @@ import numpy as np
 import pelmetsavory as pm
 from pelmetsavory._arrays import inputs, output
 from pelmetsavory._library import LIBRARY, checked
-from small import addresses, grid, held, n, other, raises, refused, study, table
+from small import addresses, grid, held, other, refused, study, table
 
 DATA = os.path.join(os.environ.get("PELMETSAVORY_DATA") or os.path.join(os.path.dirname(os.path.abspath(__file__)), "../data"), "")
 lines = []

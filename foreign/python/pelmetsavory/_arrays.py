@@ -1,7 +1,9 @@
 """What a caller gives: checked, converted where nothing is lost, never reshaped; and how it crosses to the library."""
+from __future__ import annotations
+
 import ctypes
 import operator
-from typing import Any, List, Union
+from typing import Any
 
 import numpy as np
 from numpy.typing import ArrayLike
@@ -30,7 +32,7 @@ def letter(function: str) -> int:
     return ord(function)
 
 
-def numbers(name: str, kind: type, given: ArrayLike, *shape: Union[int, str]) -> np.ndarray:
+def numbers(name: str, kind: type, given: ArrayLike, *shape: int | str) -> np.ndarray:
     """The values as an array of that kind and shape. A word in the shape stands for any count; `[]` has no rows, whatever the shape of a row."""
     a = _array(name, given)
     if a.shape == (0,) and isinstance(shape[0], str):
@@ -76,12 +78,12 @@ class Owned:
         owner.__dict__[self.name] = np.array(numbers(self.name, self.kind, given, *shape), self.kind, order="C")
 
 
-def inputs(*arrays: np.ndarray) -> List[Any]:
+def inputs(*arrays: np.ndarray) -> list[Any]:
     """Each array as a call reads it: its bytes, and the count of its numbers of 8 bytes. The bytes are a copy in one block, which nothing can
     change or free while the call runs; a bytes object begins at a multiple of 8."""
     return [x for a in arrays for x in (a.tobytes(), a.nbytes // 8)]
 
 
-def output(a: np.ndarray, size: int) -> List[Any]:
+def output(a: np.ndarray, size: int) -> list[Any]:
     """An array as a call writes it: where it lies now, and the count of its elements of `size` bytes. Read-only or scattered memory is refused."""
     return [ctypes.byref(ctypes.c_char.from_buffer(a)) if a.nbytes else None, a.nbytes // size]

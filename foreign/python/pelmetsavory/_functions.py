@@ -1,6 +1,8 @@
 """The entries that need no sheet."""
+from __future__ import annotations
+
 import ctypes
-from typing import Any, Tuple
+from typing import Any
 
 import numpy as np
 from numpy.typing import ArrayLike
@@ -37,7 +39,7 @@ def tetrahedra_integration_weight(omega: float, vertices: ArrayLike, function: s
     return weight.value
 
 
-def integration_weight(study: Study) -> Tuple[np.ndarray, np.ndarray]:
+def integration_weight(study: Study) -> tuple[np.ndarray, np.ndarray]:
     """The weights (channel, triplet, point, b1, b2) and flags (triplet, point, b1, b2) of all triplets."""
     shapes, given = study.shapes(), arguments(study._records())
     weights, flags = np.zeros(shapes.weights), np.zeros(shapes.flags, np.int8)
@@ -45,7 +47,7 @@ def integration_weight(study: Study) -> Tuple[np.ndarray, np.ndarray]:
     return weights, flags
 
 
-def integration_weight_per_triplet(study: Study, triplet: ArrayLike) -> Tuple[np.ndarray, np.ndarray]:
+def integration_weight_per_triplet(study: Study, triplet: ArrayLike) -> tuple[np.ndarray, np.ndarray]:
     """The weights (channel, point, b1, b2) and flags (point, b1, b2) of one triplet, any three grid points (3,); the study's own are not read."""
     (channels, _, *rest), given = study.shapes().weights, arguments(study._records())
     weights, flags = np.zeros((channels, *rest)), np.zeros(rest, np.int8)
@@ -53,7 +55,7 @@ def integration_weight_per_triplet(study: Study, triplet: ArrayLike) -> Tuple[np
     return weights, flags
 
 
-def average_weights_over_degenerate_sets(weights: ArrayLike, flags: ArrayLike, ids1: ArrayLike, ids2: ArrayLike, tp_type: int) -> Tuple[np.ndarray, np.ndarray]:
+def average_weights_over_degenerate_sets(weights: ArrayLike, flags: ArrayLike, ids1: ArrayLike, ids2: ArrayLike, tp_type: int) -> tuple[np.ndarray, np.ndarray]:
     """The averages of one triplet's weights (channel, point, bands, bands) and flags (point, bands, bands), as new arrays; id lists as in
     `Sheet.average_triplet`."""
     f = numbers("flags", np.int8, flags, "points", "bands", "bands").copy()
@@ -65,7 +67,7 @@ def average_weights_over_degenerate_sets(weights: ArrayLike, flags: ArrayLike, i
     return w, f
 
 
-def _grid(grid: Grid) -> Tuple[Any, ...]:
+def _grid(grid: Grid) -> tuple[Any, ...]:
     return (grid._numbers(), *inputs(grid.addresses, grid.gp_map))
 
 
@@ -119,12 +121,12 @@ def grid_index_from_address(address: ArrayLike, mesh: ArrayLike) -> int:
     return index.value
 
 
-def relative_grid_address(rec_lattice: ArrayLike) -> Tuple[np.ndarray, int]:
+def relative_grid_address(rec_lattice: ArrayLike) -> tuple[np.ndarray, int]:
     """The table (24, 4, 3) of the shortest main diagonal of a microzone, and the number 0 to 3 of that diagonal.
 
-    `rec_lattice` (3, 3) has the reciprocal basis vectors as COLUMNS (`rec_lattice[:, 0]` is the first); phono3py divides each by its mesh number,
-    and where these are not all equal that can choose another table. The diagonals are 1,1,1; -1,1,1; 1,-1,1; 1,1,-1 in these vectors; of several
-    shortest the first is taken.
+    `rec_lattice` (3, 3) has the reciprocal basis vectors as COLUMNS: `rec_lattice[:, 0]` is the first. Divide each by its mesh number, as phono3py
+    does; where these are not all equal that can choose another table. The diagonals are 1,1,1; -1,1,1; 1,-1,1; 1,1,-1 in these vectors, and of
+    several shortest the first is taken.
 
     >>> rec_lattice = np.array([[0, 0, 1], [1, 1, 1], [0, 1, 0]])
     >>> relative_grid_address(rec_lattice / [4, 4, 1])[1]  # the mesh 4, 4, 1

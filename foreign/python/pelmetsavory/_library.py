@@ -1,4 +1,6 @@
 """The shared library: where it is, whether it is the one that this module was made for, and what it refuses."""
+from __future__ import annotations
+
 import ctypes
 import os
 

@@ -1,9 +1,11 @@
 """The run sheet of a study."""
+from __future__ import annotations
+
 import copy
 import ctypes
 import operator
 import os
-from typing import Any, Iterable, List, Optional, Tuple, Union
+from typing import Any, Iterable
 
 import numpy as np
 from numpy.typing import ArrayLike
@@ -29,7 +31,7 @@ class Written:
     def __get__(self, sheet: Any, kind: Any = None) -> np.ndarray:
         return self if sheet is None else sheet.__dict__[self.name]
 
-    def __set__(self, sheet: "Sheet", a: np.ndarray) -> None:
+    def __set__(self, sheet: Sheet, a: np.ndarray) -> None:
         shape = getattr(sheet.study.shapes(), self.name)
         if not isinstance(a, np.ndarray) or a.dtype != self.kind or not a.flags.carray:
             raise TypeError(f"{self.name}: a writable, aligned, C-contiguous array of {np.dtype(self.kind)} is wanted")
@@ -48,15 +50,15 @@ def _unsigned(name: str, given: Any) -> int:
     return number
 
 
-def _run_row(ids: List[int], triplet: int, b1: int, b2: int) -> Tuple[int, ...]:
+def _run_row(ids: list[int], triplet: int, b1: int, b2: int) -> tuple[int, ...]:
     return 0, whole("triplet", triplet), whole("b1", b1), whole("b2", b2), 0, 0
 
 
-def _carry_on_row(ids: List[int]) -> Tuple[int, ...]:
+def _carry_on_row(ids: list[int]) -> tuple[int, ...]:
     return 1, 0, 0, 0, 0, 0
 
 
-def _average_row(ids: List[int], triplet: int, ids1: ArrayLike, ids2: ArrayLike) -> Tuple[int, ...]:
+def _average_row(ids: list[int], triplet: int, ids1: ArrayLike, ids2: ArrayLike) -> tuple[int, ...]:
     start = len(ids)
     ids.extend(numbers("ids1", np.int64, ids1, "bands").tolist())
     middle = len(ids)
@@ -79,7 +81,7 @@ class Sheet:
     flags = Written("The flags (triplet, point, b1, b2): 1 where every channel is closed.", np.int8)
     marks = Written("The marks (triplet, b1, b2): 0 open, 1 computed, 2 averaged.", np.uint8)
 
-    def __init__(self, study: Study, weights: Optional[np.ndarray] = None, flags: Optional[np.ndarray] = None, marks: Optional[np.ndarray] = None, tally: int = 0) -> None:
+    def __init__(self, study: Study, weights: np.ndarray | None = None, flags: np.ndarray | None = None, marks: np.ndarray | None = None, tally: int = 0) -> None:
         shapes, self._study = study.shapes(), study
         self.weights = np.zeros(shapes.weights, np.float64) if weights is None else weights
         self.flags = np.zeros(shapes.flags, np.int8) if flags is None else flags
@@ -122,17 +124,17 @@ class Sheet:
         a, b = numbers("ids1", np.int64, ids1, "bands"), numbers("ids2", np.int64, ids2, "bands")
         checked(LIBRARY.pelmetsavory_average_triplet(*self._arguments(), whole("triplet", triplet), *inputs(a, b)))
 
-    def replay(self, calls: Iterable[Tuple]) -> Tuple[np.ndarray, np.ndarray]:
+    def replay(self, calls: Iterable[tuple]) -> tuple[np.ndarray, np.ndarray]:
         """Makes a list of calls: the status of each, 0 or the number of its question, and the tally after it.
 
         A call is ("run_piece", triplet, b1, b2), ("carry_on",) or ("average_triplet", triplet, ids1, ids2); one that is refused changes nothing,
         and the next is made. The replay itself asks two questions of its own, which it alone raises: 13, is every piece of the sheet open; and 12,
         has the list six numbers a call, and as many answers and tallies as calls (here always yes)."""
-        ids: List[int] = []
+        ids: list[int] = []
         rows = [_ROWS[name](ids, *given) for name, *given in calls]
         return self.replay_list(rows, ids)
 
-    def replay_list(self, rows: ArrayLike, ids: ArrayLike) -> Tuple[np.ndarray, np.ndarray]:
+    def replay_list(self, rows: ArrayLike, ids: ArrayLike) -> tuple[np.ndarray, np.ndarray]:
         """The same by numbers (n, 6): 0, triplet, b1, b2 runs a piece; 1 carries on; any other kind averages a triplet, with the start and the
         end in `ids` of the first id list and of the second."""
         r, i = numbers("rows", np.int64, rows, "n", 6), numbers("ids", np.int64, ids, "n")
@@ -144,7 +146,7 @@ class Sheet:
         """The number of flags 0 of a triplet."""
         return open_count(self.flags, triplet)
 
-    def take(self, other: "Sheet") -> None:
+    def take(self, other: Sheet) -> None:
         """Takes over the pieces that a worker's sheet has computed and this one has open; the tally grows by the worker's own growth.
 
         A sheet of another study or shape, marks that are not sound, a triplet that is averaged there and not here, and a tally that would not
@@ -159,7 +161,7 @@ class Sheet:
         counter[0] = tally
         other._began = theirs
 
-    def _tally_with(self, other: "Sheet") -> int:
+    def _tally_with(self, other: Sheet) -> int:
         """The tally after taking another sheet, where it can be taken."""
         if not isinstance(other, Sheet) or other is self:
             raise TypeError("another sheet is wanted")
@@ -183,7 +185,7 @@ class Sheet:
         return packed(Stored(fingerprint(records), self.weights.shape, self.began, self.tally, self.weights, self.flags, self.marks))
 
     @classmethod
-    def from_bytes(cls, study: Study, data: bytes) -> "Sheet":
+    def from_bytes(cls, study: Study, data: bytes) -> Sheet:
         """A stored sheet of the study. A ValueError says what is wrong with any other bytes; unsound marks are refused by question 13."""
         stored = unpacked(bytes(data), study.fingerprint(), study.shapes().weights)
         _check_marks(stored.marks)
@@ -191,7 +193,7 @@ class Sheet:
         sheet.began = stored.began
         return sheet
 
-    def save(self, path: Union[str, os.PathLike]) -> None:
+    def save(self, path: str | os.PathLike) -> None:
         """Stores the sheet so that a reader finds the old one or the new one whole."""
         path = os.fsdecode(path)
         draft = f"{path}.{os.getpid()}"
@@ -200,15 +202,15 @@ class Sheet:
         os.replace(draft, path)
 
     @classmethod
-    def load(cls, study: Study, path: Union[str, os.PathLike]) -> "Sheet":
+    def load(cls, study: Study, path: str | os.PathLike) -> Sheet:
         """Reads a stored sheet of the study: see `from_bytes`."""
         with open(path, "rb") as f:
             return cls.from_bytes(study, f.read())
 
-    def __copy__(self) -> "Sheet":
+    def __copy__(self) -> Sheet:
         return copy.deepcopy(self, {id(self.study): self.study})
 
-    def _records(self) -> List[bytes]:
+    def _records(self) -> list[bytes]:
         """The study as it is now, which must be the one that the pieces of this sheet were computed from."""
         records = self.study._records()
         if records != self._made_of:
@@ -223,7 +225,7 @@ class Sheet:
             if getattr(self, name).shape != getattr(shapes, name):
                 raise ValueError(f"{name} has the shape {getattr(self, name).shape}; the study now wants {getattr(shapes, name)}")
 
-    def _arguments(self) -> List[Any]:
+    def _arguments(self) -> list[Any]:
         """Study and sheet as a call takes them."""
         return arguments(self._records()) + output(self.weights, 8) + output(self.flags, 1) + output(self.marks, 1) + output(self._tally, 8)[:1]
 

@@ -1,7 +1,9 @@
 """The stored sheet, format 1: the table in foreign/README.md."""
+from __future__ import annotations
+
 import hashlib
 import struct
-from typing import NamedTuple, Tuple
+from typing import NamedTuple
 
 import numpy as np
 
@@ -13,7 +15,7 @@ class Stored(NamedTuple):
     """What a stored sheet holds."""
 
     fingerprint: bytes
-    shape: Tuple[int, ...]
+    shape: tuple[int, ...]
     began: int
     tally: int
     weights: np.ndarray
@@ -30,7 +32,7 @@ def packed(s: Stored) -> bytes:
     return b"".join([*parts, sha.digest()])
 
 
-def unpacked(data: bytes, fingerprint: bytes, shape: Tuple[int, ...]) -> Stored:
+def unpacked(data: bytes, fingerprint: bytes, shape: tuple[int, ...]) -> Stored:
     """What the bytes of a sheet hold, where they are whole and of that study and shape; otherwise a ValueError says what they are."""
     if len(data) < HEAD.size + SUM or data[:8] != MAGIC:
         raise ValueError("this is not a stored sheet")

@@ -1,7 +1,9 @@
 """What weights are made of: a grid and a study."""
+from __future__ import annotations
+
 import copy
 import hashlib
-from typing import Any, List, NamedTuple, Tuple
+from typing import Any, NamedTuple
 
 import numpy as np
 from numpy.typing import ArrayLike
@@ -35,7 +37,7 @@ class Grid:
     def kind(self, given: int) -> None:
         self._kind = whole("kind", given)
 
-    def __copy__(self) -> "Grid":
+    def __copy__(self) -> Grid:
         return copy.deepcopy(self)
 
     def _numbers(self) -> GridNumbers:
@@ -45,12 +47,12 @@ class Grid:
 class Shapes(NamedTuple):
     """The shapes of a sheet's arrays."""
 
-    weights: Tuple[int, ...]
-    flags: Tuple[int, ...]
-    marks: Tuple[int, ...]
+    weights: tuple[int, ...]
+    flags: tuple[int, ...]
+    marks: tuple[int, ...]
 
 
-def _points(study: "Study") -> int:
+def _points(study: Study) -> int:
     return len(study.grid.addresses)
 
 
@@ -96,7 +98,7 @@ class Study:
         self._tp_type = whole("tp_type", given)
 
     @property
-    def bands(self) -> Tuple[int, int]:
+    def bands(self) -> tuple[int, int]:
         """How many bands either array of frequencies has."""
         return self.frequencies1.shape[-1], self.frequencies2.shape[-1]
 
@@ -109,22 +111,22 @@ class Study:
         """The 32 bytes by which a stored sheet knows its study: of all arrays and numbers."""
         return fingerprint(self._records())
 
-    def __copy__(self) -> "Study":
+    def __copy__(self) -> Study:
         return copy.deepcopy(self)
 
-    def _records(self) -> List[bytes]:
+    def _records(self) -> list[bytes]:
         """The eight records of a study, in the order of the interface: its numbers, and each array."""
         one = np.array([self.grid.kind, *self.grid.mesh, self.tp_type, *self.bands], np.int64)
         arrays = self.grid.addresses, self.grid.gp_map, self.table, self.frequencies1, self.frequencies2, self.points, self.triplets
         return [a.tobytes() for a in (one, *arrays)]
 
 
-def arguments(records: List[bytes]) -> List[Any]:
+def arguments(records: list[bytes]) -> list[Any]:
     """A study as a call takes it: its numbers by value, then each array's bytes and the count of its numbers of 8 bytes; triplets last."""
     return [Shape.from_buffer_copy(records[0])] + [x for r in records[1:] for x in (r, len(r) // 8)]
 
 
-def fingerprint(records: List[bytes]) -> bytes:
+def fingerprint(records: list[bytes]) -> bytes:
     """SHA-256 of the records, each with its count before it."""
     sha = hashlib.sha256(b"pelmetsavory study 1\n")
     for r in records:
