@@ -62,6 +62,8 @@ typedef struct {
     int8_t *flags; size_t flags_len;      /* by triplet, point, b1, b2 */
     uint8_t *marks; size_t marks_len;     /* by triplet, b1, b2: 0 open, 1 computed, 2 averaged */
     uint64_t tally;
+    uint64_t began;                       /* the tally that the sheet began with, and the fingerprint of its study: for storing and */
+    uint8_t study[32];                    /* taking over (pelmetsavory_store.h); no call below reads them */
 } pelmetsavory_sheet;
 
 #define PELMETSAVORY_STUDY(y) \
@@ -92,7 +94,8 @@ static inline uint64_t pelmetsavory_sheet_average_triplet(const pelmetsavory_stu
  * the start and end in `ids` of the first id list and of the second (average, and any other kind). What is left of the six is not read. */
 enum { PELMETSAVORY_RUN = 0, PELMETSAVORY_CARRY_ON = 1, PELMETSAVORY_AVERAGE = 2 };
 
-/* Replays `calls` calls on a sheet with every piece open: the status of each, and the tally after it. */
+/* Replays `calls` calls on a sheet with every piece open: the status of each, and the tally after it. The status of the replay is 0 or 13, a
+ * mark that is not 0 (12, which is its own too, asks for the lengths that this call gives); what a call asks goes to its place alone. */
 static inline uint64_t pelmetsavory_sheet_replay(const pelmetsavory_study *y, pelmetsavory_sheet *s, size_t calls, const int64_t (*list)[6],
     const int64_t *ids, size_t ids_len, uint64_t *answers, uint64_t *tallies)
 {

@@ -7,11 +7,11 @@ use std::panic::catch_unwind;
 fn another_version_is_refused() {
     assert_eq!(ready(), Err(NotReady::InterfaceVersion(4095)));
     let calls: [fn(); 5] = [
-        || drop(num_channels(2)),
-        || drop(answer(b"")),
-        || drop(tally_add(&mut 0, 1)),
-        || drop(all_relative_grid_address()),
-        || drop(relative_grid_address(&[1., 0., 0., 0., 1., 0., 0., 0., 1.])),
+        || _ = num_channels(2),
+        || _ = answer(b""),
+        || _ = tally_add(&mut 0, 1),
+        || _ = all_relative_grid_address(),
+        || _ = relative_grid_address(&[1., 0., 0., 0., 1., 0., 0., 0., 1.]),
     ];
     for call in calls.into_iter().chain(calls) {
         let words = *catch_unwind(call).unwrap_err().downcast::<String>().unwrap();
