@@ -9,7 +9,8 @@ use book::Shape;
 use book::Tally;
 
 // Replays a list of calls, six numbers a call, on a sheet with every piece open, and counts the runs behind `tally`. Each call's status
-// goes to its place in `answers`, the tally after it to its place in `tallies`. Questions 12, 13.
+// goes to its place in `answers`, the tally after it to its place in `tallies`. The status is 0 or one of two questions of its own: 12, has
+// the list six numbers for each of `answers` and of `tallies`; 13, is every mark 0? What a call asks is told in its place alone.
 #[no_mangle]
 pub extern "C" fn pelmetsavory_replay(
     shape: Shape,
