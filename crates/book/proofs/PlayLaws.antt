@@ -10,14 +10,14 @@ use lib.ListN.{length, replicate}
 use Rattle.list_laws.specs.Lists.{tabulate, fronted}
 use Rattle.list_laws.proofs.FillLaws.{tabulate-ext, front-all}
 use Rattle.triplet_study.specs.Given.{Given}
-use Rattle.sheet_step.specs.declared.SheetAnswer.{SheetAnswer}
+use Rattle.sheet_marks.specs.declared.SheetAnswer.{SheetAnswer}
 use Rattle.sheet_step.specs.Steps.{Sheet, Call, step, stepAnswer, Did}
 use Rattle.book_claim.specs.Book.{Book, opened, render, turn, booked}
 use Rattle.book_claim.specs.Lists.{played, answers}
 use Rattle.book_claim.proofs.CutLaws.{played-cut, answers-cut, booked-cut}
 use Rattle.book_claim.proofs.Demand3.{demand-3}
 use Rattle.book.specs.Calls.{callAt, callsOf}
-use Rattle.book.specs.Replay.{answerNumber, bookSheet, bookNumbers, bookTallies, talliesFrom, Replayed, replayed, bookReplay}
+use Rattle.book.specs.Replay.{numberIn, bookSheet, bookNumbers, bookTallies, talliesFrom, Replayed, replayed, bookReplay}
 
 -- ---- the first calls
 
@@ -28,7 +28,7 @@ module _ (g : Given) (start : Sheet) (call : ℕ → Call) where
 
   -- the number of call i's answer, and the tally after it
   abbrev pub numberAfter : ℕ → ℕ
-  numberAfter i = answerNumber (stepAnswer g (after i) (call i))
+  numberAfter i = numberIn (stepAnswer g (after i) (call i))
 
   abbrev pub tallyAfter : ℕ → ℕ
   tallyAfter i = after (suc i) .tally
@@ -46,21 +46,21 @@ module _ (g : Given) (start : Sheet) (call : ℕ → Call) where
     pub sheet-next : left ≡ after (i + 1)
     sheet-next = d .leaves ∙ ap (λ (x : Sheet). step g x (call i)) e ∙ after-next i ∙ ap after (sym (add-one i))
 
-    pub number-next : answerNumber r ≡ numberAfter i
-    number-next = ap answerNumber (d .answers) ∙ ap (λ (x : Sheet). answerNumber (stepAnswer g x (call i))) e
+    pub number-next : numberIn r ≡ numberAfter i
+    number-next = ap numberIn (d .answers) ∙ ap (λ (x : Sheet). numberIn (stepAnswer g x (call i))) e
 
     pub tally-next : left .tally ≡ tallyAfter i
     tally-next = ap (λ (x : Sheet). x .tally) (d .leaves ∙ ap (λ (x : Sheet). step g x (call i)) e ∙ after-next i)
 
   -- ---- all of them
 
-  all-numbers : (n : ℕ) → tabulate n numberAfter ≡ map answerNumber (answers g start (tabulate n call))
+  all-numbers : (n : ℕ) → tabulate n numberAfter ≡ map numberIn (answers g start (tabulate n call))
   unfolding tabulate
   all-numbers zero = refl
   all-numbers (suc n) =
       ap (λ (l : List ℕ). l ++ (numberAfter n ∷ [])) (all-numbers n)
-      ∙ sym (map-append answerNumber (answers g start (tabulate n call)) (stepAnswer g (after n) (call n) ∷ []))
-      ∙ ap (map answerNumber) (sym (answers-cut g start (tabulate n call) (call n ∷ [])))
+      ∙ sym (map-append numberIn (answers g start (tabulate n call)) (stepAnswer g (after n) (call n) ∷ []))
+      ∙ ap (map numberIn) (sym (answers-cut g start (tabulate n call) (call n ∷ [])))
 
   tallies-cut : (b : Book) (first rest : List Call) → talliesFrom g start b (first ++ rest) ≡ talliesFrom g start b first ++ talliesFrom g start (booked g start b first) rest
   tallies-cut b [] rest = refl
@@ -80,7 +80,7 @@ module _ (g : Given) (start : Sheet) (call : ℕ → Call) where
     tally-book calls = ap (λ (x : Sheet). x .tally) (demand-3 g start o calls .0)
 
     numbers-book : (n : ℕ) → tabulate n numberAfter ≡ bookNumbers g start (tabulate n call)
-    numbers-book n = all-numbers n ∙ ap (map answerNumber) (demand-3 g start o (tabulate n call) .1)
+    numbers-book n = all-numbers n ∙ ap (map numberIn) (demand-3 g start o (tabulate n call) .1)
 
     tallies-book : (n : ℕ) → tabulate n tallyAfter ≡ bookTallies g start (tabulate n call)
     tallies-book n = tabulate-ext n tallyAfter _ (λ i _. tally-book (tabulate (suc i) call)) ∙ all-tallies (opened start) n

@@ -1,8 +1,8 @@
--- What a replay's own questions say, and its answer. Assumes nothing.
-use mathlib.Core.Path.{_≡_, refl, sym, ap, _∙_}
+-- What a replay's own questions say. Assumes nothing.
+use mathlib.Core.Path.{_≡_, sym, _∙_}
 use mathlib.Core.Bool.{true}
 use mathlib.Core.List.{List}
-use Prim.Native.Nat.{ℕ, zero, suc, _*_}
+use Prim.Native.Nat.{ℕ, _*_}
 use native.Mathlib.Omega.{arith}
 use borrow.Author.Tests.{eqb-true}
 use lib.Dec.{eqb}
@@ -13,8 +13,7 @@ use Rattle.list_laws.proofs.BelowLaws.{below-at}
 use Rattle.question_grids.specs.Ask.{AllYes}
 use Rattle.question_grids.proofs.AskLaws.{all-yes}
 use Rattle.sheet_step.specs.Marks.{isOpenAt}
-use Rattle.book.specs.declared.ReplayAnswer.the-variants.{Done, Refused}
-use Rattle.book.specs.Replay.{areReplayLengths, areOpen, replayQuestions, replayNo, replayAnswer}
+use Rattle.book.specs.Replay.{areReplayLengths, areOpen, replayQuestions, replayNo}
 
 -- where every piece is open, every mark is 0
 open-marks : (marks : List ℕ) → areOpen marks ≡ true → marks ≡ replicate (length marks) 0
@@ -32,11 +31,3 @@ replay-yes list answers tallies marks e =
       eqb-true list (answers * 6) (and-left (eqb list (answers * 6)) (eqb tallies answers) (y .0)),
       (eqb-true tallies answers (and-right (eqb list (answers * 6)) (eqb tallies answers) (y .0)), open-marks marks (y .1 .0)),
     )
-
-pub answer-refused : (n tally : ℕ) → (n ≡ 0 → ⊥) → Refused n ≡ replayAnswer n tally
-answer-refused zero tally h = absurd (h refl)
-answer-refused (suc n) tally h = refl
-
-pub answer-done : (n tally runs : ℕ) → n ≡ 0 → runs ≡ tally → Done (record { runs = runs }) ≡ replayAnswer n tally
-answer-done zero tally runs e h = ap (λ (k : ℕ). Done (record { runs = k })) h
-answer-done (suc n) tally runs e h = absurd (let z : ⊥ = omega arith in z)

@@ -2,19 +2,17 @@
 use mathlib.Core.Path.{_≡_}
 use mathlib.Core.Bool.{Bool, _&&_}
 use mathlib.Core.List.{List, [], _∷_, map}
-use Prim.Native.Nat.{ℕ, zero, suc, _*_}
+use Prim.Native.Nat.{ℕ, _*_}
 use lib.Dec.{eqb}
 use lib.ListN.{length}
 use Rattle.list_laws.specs.Lists.{allBelow}
 use Rattle.question_grids.specs.Ask.{Question, asks, firstNo, afterCall}
 use Rattle.triplet_study.specs.Given.{Given}
-use Rattle.sheet_step.specs.declared.SheetAnswer.{SheetAnswer}
-use Rattle.sheet_step.specs.declared.SheetAnswer.the-variants.{Done, Refused}
+use Rattle.sheet_marks.specs.declared.SheetAnswer.{SheetAnswer}
+use Rattle.sheet_marks.specs.Tallies.{answerNumber, sheetAnswer}
 use Rattle.sheet_step.specs.Marks.{isOpenAt}
 use Rattle.sheet_step.specs.Steps.{Sheet, Call}
 use Rattle.book_claim.specs.Book.{Book, opened, render, turn, booked, bookAnswers}
-use Rattle.book.specs.declared.ReplayAnswer.{ReplayAnswer}
-use Rattle.book.specs.declared.ReplayAnswer.the-variants.{Done as Replayed′, Refused as NotReplayed}
 
 -- ---- what it asks
 
@@ -40,14 +38,13 @@ replayNo list answers tallies marks = firstNo (replayQuestions list answers tall
 abbrev pub bookSheet : Given → Sheet → List Call → Sheet
 bookSheet g start calls = render g start (booked g start (opened start) calls)
 
--- the number of an answer: 0 done, otherwise that of the first no
-abbrev pub answerNumber : SheetAnswer → ℕ
-answerNumber (Done tally) = 0
-answerNumber (Refused n) = n
+-- the number of a call's answer: 0 done, otherwise that of the first no
+abbrev pub numberIn : SheetAnswer → ℕ
+numberIn a = answerNumber (a .answer)
 
 -- "for each call accepted or which number", by the book
 abbrev pub bookNumbers : Given → Sheet → List Call → List ℕ
-bookNumbers g start calls = map answerNumber (bookAnswers g start (opened start) calls)
+bookNumbers g start calls = map numberIn (bookAnswers g start (opened start) calls)
 
 -- the book's tally after each of the calls, from a book
 abbrev pub talliesFrom : Given → Sheet → Book → List Call → List ℕ
@@ -72,17 +69,7 @@ replayed sheet numbers tallies = record { sheet = sheet; numbers = numbers; tall
 unfoldable pub bookReplay : Given → Sheet → List Call → Replayed
 bookReplay g start calls = replayed (bookSheet g start calls) (bookNumbers g start calls) (bookTallies g start calls)
 
--- done with the tally, or refused with the number of the first no
-abbrev pub replayAnswer : ℕ → ℕ → ReplayAnswer
-replayAnswer zero tally = Replayed′ (record { runs = tally })
-replayAnswer (suc n) tally = NotReplayed (suc n)
-
--- the tally after a replay
-abbrev pub replayRuns : ReplayAnswer → ℕ → ℕ
-replayRuns (Replayed′ tally) old = tally .runs
-replayRuns (NotReplayed n) old = old
-
--- What a replay did: its answer by the number of its first no, and what it left.
-pub record DidReplay (g : Given) (start : Sheet) (calls : List Call) (no : ℕ) (answers tallies : List ℕ) (answer : ReplayAnswer) (left : Replayed) : Type 0 where
-  pub answers-with : answer ≡ replayAnswer no (bookSheet g start calls .tally)
-  pub leaves : left ≡ afterCall no (bookReplay g start calls) (replayed start answers tallies)
+-- What a replay did: its answer by the number of its first no, with the tally that it left, and what it left.
+pub record DidReplay (g : Given) (start : Sheet) (calls : List Call) (n : ℕ) (answers tallies : List ℕ) (answer : SheetAnswer) (left : Replayed) : Type 0 where
+  pub answers-with : answer ≡ sheetAnswer n (left .sheet .tally)
+  pub leaves : left ≡ afterCall n (bookReplay g start calls) (replayed start answers tallies)

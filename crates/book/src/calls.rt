@@ -2,12 +2,12 @@
 ghost use mathlib.Core.Path.{_≡_};
 ghost use Prim.Native.Nat.{_+_, _*_, _≤_, _<_};
 ghost use lib.ListN.{length};
-ghost use Rattle.sheet_step.specs.Lent.{studyIn, sheetIn, sheetOut};
-ghost use Rattle.sheet_step.specs.Steps.{Did, runsAfter};
+ghost use Rattle.triplet_study.specs.Lent.{studyIn};
+ghost use Rattle.sheet_step.specs.Lent.{sheetIn, sheetOut};
+ghost use Rattle.sheet_step.specs.Steps.{Did};
 ghost use Rattle.book.specs.Calls.{numberAt, isPart, idsFrom, callAt};
-ghost use Rattle.book.specs.Replay.{answerNumber};
+use sheet_marks::SheetAnswer;
 use sheet_marks::Tally;
-use sheet_step::SheetAnswer;
 use triplet_study::Shape;
 
 // Number `k` of call `i`.
@@ -59,7 +59,7 @@ pub fn one_call(
 ) -> SheetAnswer
     requires { ⌜ i * 6 + 6 ≤ length (now list) ⌝ }
     ensures { λ r. ⌜ Did (studyIn shape addresses «gp_map» «relative_grid_address» frequencies1 frequencies2 «frequency_points» triplets)
-        (sheetIn weights flags marks (tally .runs)) (callAt (now (list .entry)) (now (ids .entry)) i) r (sheetOut weights flags marks (runsAfter r (tally .runs))) ⌝ }
+        (sheetIn weights flags marks (tally .runs)) (callAt (now (list .entry)) (now (ids .entry)) i) r (sheetOut weights flags marks (r .tally .runs)) ⌝ }
 {
     let kind = number(list, i, 0);
     let a = number(list, i, 1);
@@ -121,24 +121,4 @@ pub fn one_call(
         ids1,
         ids2,
     )
-}
-
-// The number of an answer, 0 where the call is done.
-pub fn number_of(answer: SheetAnswer) -> u64
-    ensures { λ r. ⌜ r ≡ answerNumber answer ⌝ }
-{
-    match answer {
-        SheetAnswer::Done(_) => 0,
-        SheetAnswer::Refused(no) => no,
-    }
-}
-
-// The tally after an answer, where it was `runs` before.
-pub fn tally_after(answer: SheetAnswer, runs: u64) -> u64
-    ensures { λ r. ⌜ r ≡ runsAfter answer runs ⌝ }
-{
-    match answer {
-        SheetAnswer::Done(tally) => tally.runs,
-        SheetAnswer::Refused(_) => runs,
-    }
 }

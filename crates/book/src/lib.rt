@@ -1,20 +1,17 @@
 // The book of demand 3 and the code: a whole list of calls, replayed on a sheet.
 ghost use lib.ListN.{length};
-ghost use Rattle.sheet_step.specs.Lent.{studyIn, sheetIn, sheetOut};
+ghost use Rattle.triplet_study.specs.Lent.{studyIn};
+ghost use Rattle.sheet_step.specs.Lent.{sheetIn, sheetOut};
 ghost use Rattle.book.specs.Calls.{callsOf};
-ghost use Rattle.book.specs.Replay.{replayNo, replayed, replayRuns, DidReplay};
+ghost use Rattle.book.specs.Replay.{replayNo, replayed, DidReplay};
+pub use sheet_marks::Answer;
+pub use sheet_marks::SheetAnswer;
 pub use sheet_marks::Tally;
 pub use triplet_study::Shape;
 
 mod asks;
 mod calls;
 mod play;
-
-// A replay that is done gives the tally; a refused one the number of the first question that is answered no.
-pub enum ReplayAnswer {
-    Done(Tally),
-    Refused(u64),
-}
 
 // Replays a list of calls, six numbers a call, on a sheet with every piece open. The id lists of the averagings are parts of `ids`.
 // Each call's number, 0 where it is done, goes to its place in `answers`, the tally after it to its place in `tallies`. Questions 12, 13.
@@ -35,14 +32,14 @@ pub fn replay(
     ids: &[i64],
     answers: &mut [u64],
     tallies: &mut [u64],
-) -> ReplayAnswer
+) -> SheetAnswer
     ensures { λ r. ⌜ DidReplay (studyIn shape addresses «gp_map» «relative_grid_address» frequencies1 frequencies2 «frequency_points» triplets) (sheetIn weights flags marks (tally .runs)) (callsOf (now (list .entry)) (now (ids .entry)))
         (replayNo (length (now (list .entry))) (length (now (answers .entry))) (length (now (tallies .entry))) (now (marks .entry)))
-        (now (answers .entry)) (now (tallies .entry)) r (replayed (sheetOut weights flags marks (replayRuns r (tally .runs))) (now (answers .exit)) (now (tallies .exit))) ⌝ }
+        (now (answers .entry)) (now (tallies .entry)) r (replayed (sheetOut weights flags marks (r .tally .runs)) (now (answers .exit)) (now (tallies .exit))) ⌝ }
 {
     let no = asks::replay_no(list, answers, tallies, marks);
     if no != 0 {
-        return ReplayAnswer::Refused(no);
+        return sheet_marks::kernel::refused(no, tally);
     }
     let runs = play::play(
         shape,
@@ -62,5 +59,8 @@ pub fn replay(
         answers,
         tallies,
     );
-    ReplayAnswer::Done(Tally { runs })
+    SheetAnswer {
+        answer: Answer::Done,
+        tally: Tally { runs },
+    }
 }

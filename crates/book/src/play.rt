@@ -2,11 +2,13 @@
 ghost use mathlib.Core.Path.{_≡_};
 ghost use Prim.Native.Nat.{_*_};
 ghost use lib.ListN.{length, replicate};
-ghost use Rattle.sheet_step.specs.Lent.{studyIn, sheetIn, sheetOut};
+ghost use Rattle.triplet_study.specs.Lent.{studyIn};
+ghost use Rattle.sheet_step.specs.Lent.{sheetIn, sheetOut};
 ghost use Rattle.book.specs.Calls.{callsOf};
 ghost use Rattle.book.specs.Replay.{replayed, bookReplay};
 use crate::calls;
 use sheet_marks::Tally;
+use sheet_marks::kernel::number_of;
 use triplet_study::Shape;
 
 // Runs the calls on an open sheet, and gives the tally after the last.
@@ -35,7 +37,7 @@ pub fn play(
     let mut runs = tally.runs;
     let mut i = 0;
     while i < answers.len() {
-        let answer = calls::one_call(
+        let done = calls::one_call(
             shape,
             addresses,
             gp_map,
@@ -52,9 +54,11 @@ pub fn play(
             ids,
             i,
         );
-        runs = calls::tally_after(answer, runs);
-        answers[i] = calls::number_of(answer);
-        tallies[i] = runs;
+        let answer = done.answer;
+        let after = done.tally;
+        answers[i] = number_of(answer);
+        tallies[i] = after.runs;
+        runs = after.runs;
         i += 1;
     }
     runs

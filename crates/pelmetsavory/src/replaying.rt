@@ -1,12 +1,13 @@
 // A whole list of calls on a sheet, in one call.
 ghost use lib.ListN.{length};
-ghost use Rattle.sheet_step.specs.Lent.{studyIn, sheetIn, sheetOut};
+ghost use Rattle.triplet_study.specs.Lent.{studyIn};
+ghost use Rattle.sheet_step.specs.Lent.{sheetIn, sheetOut};
 ghost use Rattle.book.specs.Calls.{callsOf};
 ghost use Rattle.book.specs.Replay.{replayNo, replayed};
 ghost use Rattle.pelmetsavory.specs.Sheets.{CalledReplay};
-use book::ReplayAnswer;
 use book::Shape;
 use book::Tally;
+use sheet_marks::kernel::number_of;
 
 // Replays a list of calls, six numbers a call, on a sheet with every piece open, and counts the runs behind `tally`. Each call's status
 // goes to its place in `answers`, the tally after it to its place in `tallies`. The status is 0 or one of two questions of its own: 12, has
@@ -36,7 +37,7 @@ pub extern "C" fn pelmetsavory_replay(
 {
     let runs = *tally;
     let before = Tally { runs };
-    match book::replay(
+    let done = book::replay(
         shape,
         addresses,
         gp_map,
@@ -53,11 +54,9 @@ pub extern "C" fn pelmetsavory_replay(
         ids,
         answers,
         tallies,
-    ) {
-        ReplayAnswer::Done(after) => {
-            *tally = after.runs;
-            0
-        }
-        ReplayAnswer::Refused(number) => number,
-    }
+    );
+    let after = done.tally;
+    *tally = after.runs;
+    let answer = done.answer;
+    number_of(answer)
 }

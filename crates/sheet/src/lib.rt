@@ -1,13 +1,15 @@
 // The run sheet: run a named piece, carry on, average a triplet. Weights lie by channel, triplet, point, b1, b2; flags without
 // the channel; marks by triplet, b1, b2.
-ghost use Rattle.sheet_step.specs.Lent.{studyIn, sheetIn, sheetOut};
-ghost use Rattle.sheet_step.specs.Steps.{run, carry, average, Did, runsAfter};
-pub use sheet_marks::Added;
+ghost use Rattle.triplet_study.specs.Lent.{studyIn};
+ghost use Rattle.sheet_step.specs.Lent.{sheetIn, sheetOut};
+ghost use Rattle.sheet_step.specs.Steps.{run, carry, average, Did};
+pub use sheet_marks::Answer;
 pub use sheet_marks::Counts;
 pub use sheet_marks::OpenAnswer;
+pub use sheet_marks::SheetAnswer;
 pub use sheet_marks::Tally;
+use sheet_marks::kernel::refused;
 pub use sheet_marks::open_count;
-pub use sheet_step::SheetAnswer;
 use sheet_step::kernel::marks::COMPUTED;
 use sheet_step::kernel::marks::set_mark;
 pub use triplet_study::Shape;
@@ -31,7 +33,7 @@ pub fn run_piece(
     b2: i64,
 ) -> SheetAnswer
     ensures { λ r. ⌜ Did (studyIn shape addresses «gp_map» «relative_grid_address» frequencies1 frequencies2 «frequency_points» triplets)
-        (sheetIn weights flags marks (tally .runs)) (run triplet b1 b2) r (sheetOut weights flags marks (runsAfter r (tally .runs))) ⌝ }
+        (sheetIn weights flags marks (tally .runs)) (run triplet b1 b2) r (sheetOut weights flags marks (r .tally .runs)) ⌝ }
 {
     let no = sheet_step::kernel::asks::common_no(
         shape,
@@ -47,15 +49,17 @@ pub fn run_piece(
         marks,
     );
     if no != 0 {
-        return SheetAnswer::Refused(no);
+        return refused(no, tally);
     }
     let z = triplet_study::kernel::sizes_of(shape, frequency_points.len(), triplets.len() / 3);
     let own = sheet_step::kernel::asks::piece_no(z, marks, triplet, b1, b2);
     if own != 0 {
-        return SheetAnswer::Refused(own);
+        return refused(own, tally);
     }
-    let Added::To(next) = tally.add(1) else {
-        return SheetAnswer::Refused(questions::TALLY_FULL);
+    let added = tally.add(1);
+    let room = added.answer;
+    let Answer::Done = room else {
+        return added;
     };
     let tp_type = shape.tp_type;
     let bz_grid_type = shape.bz_grid_type;
@@ -85,7 +89,7 @@ pub fn run_piece(
     let pairs = z.pairs;
     let bands2 = z.bands2;
     set_mark(marks, t * pairs + (n1 * bands2 + n2), COMPUTED);
-    SheetAnswer::Done(next)
+    added
 }
 
 // Runs all pieces marked 0, in ascending order. Questions 3 to 13, 20 for all runs of the call.
@@ -104,7 +108,7 @@ pub fn carry_on(
     tally: Tally,
 ) -> SheetAnswer
     ensures { λ r. ⌜ Did (studyIn shape addresses «gp_map» «relative_grid_address» frequencies1 frequencies2 «frequency_points» triplets)
-        (sheetIn weights flags marks (tally .runs)) carry r (sheetOut weights flags marks (runsAfter r (tally .runs))) ⌝ }
+        (sheetIn weights flags marks (tally .runs)) carry r (sheetOut weights flags marks (r .tally .runs)) ⌝ }
 {
     let no = sheet_step::kernel::asks::common_no(
         shape,
@@ -120,12 +124,14 @@ pub fn carry_on(
         marks,
     );
     if no != 0 {
-        return SheetAnswer::Refused(no);
+        return refused(no, tally);
     }
     let z = triplet_study::kernel::sizes_of(shape, frequency_points.len(), triplets.len() / 3);
     let runs = sheet_step::kernel::marks::open_pieces(marks);
-    let Added::To(next) = tally.add(runs) else {
-        return SheetAnswer::Refused(questions::TALLY_FULL);
+    let added = tally.add(runs);
+    let room = added.answer;
+    let Answer::Done = room else {
+        return added;
     };
     let tp_type = shape.tp_type;
     let bz_grid_type = shape.bz_grid_type;
@@ -147,7 +153,7 @@ pub fn carry_on(
         frequency_points,
         triplets,
     );
-    SheetAnswer::Done(next)
+    added
 }
 
 // Averages a triplet over the degenerate sets of two id lists: each channel, then the flags; its marks become 2. Questions 3 to 19.
@@ -169,7 +175,7 @@ pub fn average_triplet(
     degenerate_ids2: &[i64],
 ) -> SheetAnswer
     ensures { λ r. ⌜ Did (studyIn shape addresses «gp_map» «relative_grid_address» frequencies1 frequencies2 «frequency_points» triplets)
-        (sheetIn weights flags marks (tally .runs)) (average triplet (now («degenerate_ids1» .entry)) (now («degenerate_ids2» .entry))) r (sheetOut weights flags marks (runsAfter r (tally .runs))) ⌝ }
+        (sheetIn weights flags marks (tally .runs)) (average triplet (now («degenerate_ids1» .entry)) (now («degenerate_ids2» .entry))) r (sheetOut weights flags marks (r .tally .runs)) ⌝ }
 {
     let no = sheet_step::kernel::asks::common_no(
         shape,
@@ -185,7 +191,7 @@ pub fn average_triplet(
         marks,
     );
     if no != 0 {
-        return SheetAnswer::Refused(no);
+        return refused(no, tally);
     }
     let z = triplet_study::kernel::sizes_of(shape, frequency_points.len(), triplets.len() / 3);
     let own = sheet_step::kernel::asks::average_no(
@@ -197,12 +203,15 @@ pub fn average_triplet(
         degenerate_ids2,
     );
     if own != 0 {
-        return SheetAnswer::Refused(own);
+        return refused(own, tally);
     }
     let t = common::kernel::magnitude(triplet);
     sheet_fill::kernel::average::average_weights(z, weights, t, degenerate_ids1, degenerate_ids2);
     sheet_fill::kernel::average::average_flags(z, flags, t, degenerate_ids1, degenerate_ids2);
     let pairs = z.pairs;
     sheet_step::kernel::marks::average_marks(pairs, marks, t);
-    SheetAnswer::Done(tally)
+    SheetAnswer {
+        answer: Answer::Done,
+        tally,
+    }
 }

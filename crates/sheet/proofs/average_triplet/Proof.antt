@@ -8,6 +8,7 @@ use mir.Syntax.{w64}
 use mir.ValLaws.{toZ-ofZ}
 use Rattle.question_grids.specs.Ask.{Question, firstNo}
 use Rattle.sheet_step.proofs.CountLaws.{marks-place}
+use Rattle.sheet_marks.proofs.TallyLaws.{refused-is}
 use Rattle.sheet_step.proofs.StepLaws.{average-named, common-refused, commonOf, counts-yes, done-call, given-yes, lengths-yes, refused-call, verdict-own}
 use Rattle.sheet_step.specs.Marks.{averagedMarks}
 use Rattle.sheet_step.specs.Steps.{Call, Sheet, average, averageQuestions, countsOf, effect, sheet, tripletAveraged, tripletFlagsAveraged}
@@ -60,8 +61,14 @@ same-length c = search needs
 
 returns : tie.Need-returns
 returns c =
-    let s : _ = c .before .before .before .before .before .before .before .before in
-    common-refused (asked s) (start s) (call s) (c .before .common-no .result) (c .before .common-no .ensures) (c .if1 .taken)
+    let s : _ = c .before .before .before .before .before .before .before .before .before in
+    common-refused (asked s) (start s) (call s) (c .before .before .common-no .result) (c .refused .result) (c .before .before .common-no .ensures) (c .before .if1 .taken) (c .refused .ensures)
+
+refused-requires : tie.Need-refused-requires
+refused-requires c κs = search needs
+
+refused-requires-2 : tie.Need-refused-requires-2
+refused-requires-2 c κs = search needs
 
 sizes-of-requires : tie.Need-sizes-of-requires
 sizes-of-requires c κs =
@@ -83,9 +90,10 @@ same-length-3 c = search needs
 
 returns-2 : tie.Need-returns-2
 returns-2 c =
-    let s : _ = c .before .before .before .before .before .before .before .before .before .before .before .before .before in
-    refused-call (asked s) (start s) (call s) (c .before .average-no .result)
-    (verdict-own (asked s) (start s) (call s) (common-yes (c .before .before .before .before .before)) ∙ sym (own-asked (c .before))) (c .if2 .taken)
+    let s : _ = c .before .before .before .before .before .before .before .before .before .before .before .before .before .before in
+    refused-call (asked s) (start s) (call s) (c .before .before .average-no .result) (c .refused2 .result)
+    (verdict-own (asked s) (start s) (call s) (common-yes (c .before .before .before .before .before .before)) ∙ sym (own-asked (c .before .before))) (c .before .if2 .taken)
+    (c .refused2 .ensures ∙ refused-is (c .before .before .average-no .result) (s .args .tally .runs) (c .before .if2 .taken))
 
 magnitude-requires : tie.Need-magnitude-requires
 magnitude-requires c κs = search needs
@@ -134,7 +142,7 @@ returns-3 c =
     let s : _ = c .before .before .before .before .before .before .before .before .before .before .before .before .before .before .before .before .before .before .before .before .before .before .before .before .before in
     let z : _ = counts-are (c .before .before .before .before .before .before .before .before .before .before .before .before .before .before .before .before) in
     let t : _ = number-is (c .before .before .before .before .before .before .before .before .before .before .before) in
-    done-call (asked s) (start s) (call s) (s .args .tally) _ _ _ (verdict-own (asked s) (start s) (call s) (common-yes (c .before .before .before .before .before .before .before .before .before .before .before .before .before .before .before .before .before)) ∙ own-yes (c .before .before .before .before .before .before .before .before .before .before .before .before)) refl
+    done-call (asked s) (start s) (call s) _ _ _ _ (verdict-own (asked s) (start s) (call s) (common-yes (c .before .before .before .before .before .before .before .before .before .before .before .before .before .before .before .before .before)) ∙ own-yes (c .before .before .before .before .before .before .before .before .before .before .before .before)) refl
     (c .before .before .before .before .before .before .before .before .before .average-weights .ensures ∙ (λ i. tripletAveraged (z i) (t i) (s .args .degenerate-ids1 .now) (s .args .degenerate-ids2 .now) (s .args .weights .now)))
     (c .before .before .before .before .before .average-flags .ensures ∙ (λ i. tripletFlagsAveraged (z i) (t i) (s .args .degenerate-ids1 .now) (s .args .degenerate-ids2 .now) (s .args .flags .now)))
     (c .before .before .average-marks .ensures ∙ (λ i. averagedMarks (z i .pairs) (t i) (s .args .marks .now)))
@@ -144,10 +152,12 @@ average-triplet-spec =
     tie.close
     (tie.spec
     common-no-requires
+    refused-requires
     same-length
     returns
     sizes-of-requires
     average-no-requires
+    refused-requires-2
     same-length-2
     same-length-3
     returns-2

@@ -46,10 +46,6 @@ one-call-requires c κs =
     let at-i : c .before .before .before .before .loop .i < length (s .args .answers .now) = omega (arith, v .4, c .before .before .before .loop-test .taken) in
     omega (arith, at-i, s .pre .0)
 
-tally-after-requires : tie.Need-tally-after-requires Inv-loop μ-loop
-tally-after-requires c κs =
-    search needs
-
 number-of-requires : tie.Need-number-of-requires Inv-loop μ-loop
 number-of-requires c κs =
     search needs
@@ -96,17 +92,23 @@ loop-less c =
 
 loop-again : tie.Need-loop-again Inv-loop μ-loop
 loop-again c =
-    let v = c .before .before .before .before .before .before .before .before .before .before .before .before .loop .inv in let at-i : c .before .before .before .before .before .before .before .before .before .before .before .before .loop .i < length (c .before .before .before .before .before .before .before .before .before .before .before .before .before .before .before .before .before .before .before .before .args .answers .now) = omega (arith, v .4, c .before .before .before .before .before .before .before .before .before .before .before .loop-test .taken) in
-    let k = c .before .before .before .before .before .before .before .one-call .kept in (
+    let s : _ = c .before .before .before .before .before .before .before .before .before .before .before .before .before .before .before .before .before .before .before .before in
+    let x : _ = c .before .before .before .before .before .before .before .before .before .before .before .before .loop in
+    let d : _ = c .before .before .before .before .before .before .before .one-call in
+    let v = x .inv in
+    let here : Sheet = sheet (x .weights) (x .flags) (x .marks) (x .runs) in
+    let at-i : x .i < length (s .args .answers .now) = omega (arith, v .4, c .before .before .before .before .before .before .before .before .before .before .before .loop-test .taken) in (
       omega (arith, at-i),
-      k .1 .1 .1 .1 .1 .1 .1 .1 .0 ∙ v .1,
-      k .1 .1 .1 .1 .1 .1 .1 .1 .1 .0 ∙ v .2,
-      k .1 .1 .1 .1 .1 .1 .1 .1 .1 .1 .0 ∙ v .3,
+      d .kept .1 .1 .1 .1 .1 .1 .1 .1 .0 ∙ v .1,
+      d .kept .1 .1 .1 .1 .1 .1 .1 .1 .1 .0 ∙ v .2,
+      d .kept .1 .1 .1 .1 .1 .1 .1 .1 .1 .1 .0 ∙ v .3,
       simp length-set (v .4),
       simp length-set (v .5),
-      rw (c .before .tally-after .ensures) (sheet-next (asked (c .before .before .before .before .before .before .before .before .before .before .before .before .before .before .before .before .before .before .before .before)) (start (c .before .before .before .before .before .before .before .before .before .before .before .before .before .before .before .before .before .before .before .before)) (call (c .before .before .before .before .before .before .before .before .before .before .before .before .before .before .before .before .before .before .before .before)) (c .before .before .before .before .before .before .before .before .before .before .before .before .loop .i) (sheet (c .before .before .before .before .before .before .before .before .before .before .before .before .loop .weights) (c .before .before .before .before .before .before .before .before .before .before .before .before .loop .flags) (c .before .before .before .before .before .before .before .before .before .before .before .before .loop .marks) (c .before .before .before .before .before .before .before .before .before .before .before .before .loop .runs)) (c .before .before .before .before .before .before .before .one-call .result) (v .6) (c .before .before .before .before .before .before .before .one-call .ensures)),
-      rw (v .7) (front-next (numberAfter (asked (c .before .before .before .before .before .before .before .before .before .before .before .before .before .before .before .before .before .before .before .before)) (start (c .before .before .before .before .before .before .before .before .before .before .before .before .before .before .before .before .before .before .before .before)) (call (c .before .before .before .before .before .before .before .before .before .before .before .before .before .before .before .before .before .before .before .before))) (c .before .before .before .before .before .before .before .before .before .before .before .before .before .before .before .before .before .before .before .before .args .answers .now) (c .before .before .before .before .before .before .before .before .before .before .before .before .loop .i) (c .number-of .result) at-i (c .number-of .ensures ∙ number-next (asked (c .before .before .before .before .before .before .before .before .before .before .before .before .before .before .before .before .before .before .before .before)) (start (c .before .before .before .before .before .before .before .before .before .before .before .before .before .before .before .before .before .before .before .before)) (call (c .before .before .before .before .before .before .before .before .before .before .before .before .before .before .before .before .before .before .before .before)) (c .before .before .before .before .before .before .before .before .before .before .before .before .loop .i) (sheet (c .before .before .before .before .before .before .before .before .before .before .before .before .loop .weights) (c .before .before .before .before .before .before .before .before .before .before .before .before .loop .flags) (c .before .before .before .before .before .before .before .before .before .before .before .before .loop .marks) (c .before .before .before .before .before .before .before .before .before .before .before .before .loop .runs)) (c .before .before .before .before .before .before .before .one-call .result) (v .6) (c .before .before .before .before .before .before .before .one-call .ensures))),
-      rw (v .8) (front-next (tallyAfter (asked (c .before .before .before .before .before .before .before .before .before .before .before .before .before .before .before .before .before .before .before .before)) (start (c .before .before .before .before .before .before .before .before .before .before .before .before .before .before .before .before .before .before .before .before)) (call (c .before .before .before .before .before .before .before .before .before .before .before .before .before .before .before .before .before .before .before .before))) (c .before .before .before .before .before .before .before .before .before .before .before .before .before .before .before .before .before .before .before .before .args .tallies .now) (c .before .before .before .before .before .before .before .before .before .before .before .before .loop .i) (c .before .tally-after .result) (omega (arith, at-i, c .before .before .before .before .before .before .before .before .before .before .before .before .before .before .before .before .before .before .before .before .pre .1 .0)) (c .before .tally-after .ensures ∙ tally-next (asked (c .before .before .before .before .before .before .before .before .before .before .before .before .before .before .before .before .before .before .before .before)) (start (c .before .before .before .before .before .before .before .before .before .before .before .before .before .before .before .before .before .before .before .before)) (call (c .before .before .before .before .before .before .before .before .before .before .before .before .before .before .before .before .before .before .before .before)) (c .before .before .before .before .before .before .before .before .before .before .before .before .loop .i) (sheet (c .before .before .before .before .before .before .before .before .before .before .before .before .loop .weights) (c .before .before .before .before .before .before .before .before .before .before .before .before .loop .flags) (c .before .before .before .before .before .before .before .before .before .before .before .before .loop .marks) (c .before .before .before .before .before .before .before .before .before .before .before .before .loop .runs)) (c .before .before .before .before .before .before .before .one-call .result) (v .6) (c .before .before .before .before .before .before .before .one-call .ensures))),
+      sheet-next (asked s) (start s) (call s) (x .i) here (d .result) (v .6) (d .ensures),
+      rw (v .7) (front-next (numberAfter (asked s) (start s) (call s)) (s .args .answers .now) (x .i) (c .number-of .result) at-i
+          (c .number-of .ensures ∙ number-next (asked s) (start s) (call s) (x .i) here (d .result) (v .6) (d .ensures))),
+      rw (v .8) (front-next (tallyAfter (asked s) (start s) (call s)) (s .args .tallies .now) (x .i) (d .result .tally .runs) (omega (arith, at-i, s .pre .1 .0))
+          (tally-next (asked s) (start s) (call s) (x .i) here (d .result) (v .6) (d .ensures))),
     )
 
 same-length : tie.Need-same-length Inv-loop μ-loop
@@ -144,7 +146,6 @@ play-spec =
     μ-loop
     loop-holds
     one-call-requires
-    tally-after-requires
     number-of-requires
     mul-answers
     slice-write-answers
