@@ -23,11 +23,12 @@ use Rattle.question_grids.specs.Steps.{areSteps, areGridPoints}
 use Rattle.question_values.specs.TpTypes.{isTpType, channelsOf}
 use Rattle.tetrahedron_formulas.specs.Choice.{iOf, gOf, jOf, nOf}
 use Rattle.tetrahedron_fractions.specs.Branch.{branchOf}
-use Rattle.tetrahedron_fractions.specs.Fraction.{isSmall, fraction}
+use Rattle.tetrahedron_fractions.specs.Fraction.{isSmall}
+use Rattle.tetrahedron_paper.specs.Paper as P
 use Rattle.tetrahedron_method.specs.Weight.{weightOf, sumOf, rowWeight, shareOf, orZero}
 use Rattle.tetrahedron_sort.specs.Sort.{sortedOf, placeOf}
 use Rattle.points.specs.Points.{Every, points}
 
 pub starred : Every points
-unfolding firstNo areInRange inRange allBelow absolute weightOf sumOf rowWeight shareOf orZero branchOf iOf gOf jOf nOf isSmall fraction sortedOf placeOf ofBits ofInt lt eq le ne add sub mul div tableAnswer isLattice isLatticeRow isLatticeEntry mainDiagonalOf rowTimes isGridKind isMesh areTriples areAddresses isMap isDenseMap isSparseMap areSteps areGridPoints isProduct isNat isBelow isBetween within meshOf countOf gridOf kindOf neighboursOfAll neighboursOf neighbourOf wantedAddress sparseNeighbour mapOnDoubled denseNeighbour inGroup isAddress gridIndex tabulate rows firstAt isTpType channelsOf isBandCount isDegenerateId areDegenerateIds isNegativeZero isWeight areWeights averagedPoints averagedFlagPoints eachPart
+unfolding firstNo areInRange inRange allBelow absolute weightOf sumOf rowWeight shareOf orZero branchOf iOf gOf jOf nOf isSmall P.fraction sortedOf placeOf ofBits ofInt lt eq le ne add sub mul div tableAnswer isLattice isLatticeRow isLatticeEntry mainDiagonalOf rowTimes isGridKind isMesh areTriples areAddresses isMap isDenseMap isSparseMap areSteps areGridPoints isProduct isNat isBelow isBetween within meshOf countOf gridOf kindOf neighboursOfAll neighboursOf neighbourOf wantedAddress sparseNeighbour mapOnDoubled denseNeighbour inGroup isAddress gridIndex tabulate rows firstAt isTpType channelsOf isBandCount isDegenerateId areDegenerateIds isNegativeZero isWeight areWeights averagedPoints averagedFlagPoints eachPart
 starred = (refl, (refl, (refl, (refl, (refl, (refl, (refl, (refl, (refl, (refl, (refl, (refl, (refl, (refl, (refl, ((refl, refl), ((refl, refl), ((refl, (refl, refl)), tt))))))))))))))))))

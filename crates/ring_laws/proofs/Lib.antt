@@ -1,0 +1,5 @@
+-- The laws.
+pub mod RingLaws
+pub mod PolynomialLaws
+pub mod IntegerLaws
+pub mod RationalLaws

@@ -1,0 +1,13 @@
+-- The laws.
+pub mod Symbolic
+pub mod Quotients
+pub mod Shares
+pub mod Derivative
+pub mod Slopes
+pub mod Volumes
+pub mod Ends
+pub mod Joins
+pub mod MethodLaws
+pub mod Inside
+pub mod Ranges
+pub mod Witness
