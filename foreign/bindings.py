@@ -195,7 +195,7 @@ def main(argv):
     if stored.exists() and (wrong := not_raised(now, stored.read_text())):
         print(wrong)
         return 1
-    made = (("include/pelmetsavory_entries.h", header), ("rust/src/c.rs", rust), ("python/pelmetsavory_entries.py", python), ("interface.txt", lambda *_: now))
+    made = (("include/pelmetsavory_entries.h", header), ("rust/src/c.rs", rust), ("python/pelmetsavory/entries.py", python), ("interface.txt", lambda *_: now))
     for name, make in made:
         text, path = make(kept, fns, questions), HERE / name
         if argv != ["--check"]:
