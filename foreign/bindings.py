@@ -34,6 +34,11 @@ pub fn linked_version() -> u64 {{
     unsafe {{ {ASKED}() }}
 }}
 
+/// What is wrong with a library of another interface version.
+pub fn another_version(linked: u64) -> String {{
+    format!("lib{LIBRARY}.a has interface version {{linked}}, and this program was made for {{INTERFACE_VERSION}}: take both from one source")
+}}
+
 /// Declares the entries; each asks for the version before it calls the library.
 macro_rules! entries {{
     ($(pub fn $name:ident($($p:ident: $t:ty,)*) $(-> $r:ty)?;)*) => {{
@@ -45,7 +50,8 @@ macro_rules! entries {{
         }}
         $(
             pub unsafe fn $name($($p: $t),*) $(-> $r)? {{
-                super::asked_version();
+                let linked = linked_version();
+                assert!(linked == INTERFACE_VERSION, "{{}}", another_version(linked));
                 library::$name($($p),*)
             }}
         )*

@@ -53,9 +53,7 @@ pub enum NotReady {
 impl fmt::Display for NotReady {
     fn fmt(&self, f: &mut fmt::Formatter) -> fmt::Result {
         match self {
-            NotReady::InterfaceVersion(linked) => {
-                write!(f, "libpelmetsavory.a has interface version {linked}, and this crate was made for {INTERFACE_VERSION}: take both from one source")
-            }
+            NotReady::InterfaceVersion(linked) => f.write_str(&c::another_version(*linked)),
             NotReady::FloatMode => f.write_str("this thread's float mode is not IEEE 754's: rounding is not to nearest, or subnormals are flushed"),
         }
     }
@@ -70,15 +68,6 @@ pub fn ready() -> Result<(), NotReady> {
         INTERFACE_VERSION if float_mode_ok() => Ok(()),
         INTERFACE_VERSION => Err(NotReady::FloatMode),
         linked => Err(NotReady::InterfaceVersion(linked)),
-    }
-}
-
-/// On the way of every call: refuses a library of another interface version.
-#[inline]
-fn asked_version() {
-    let linked = c::linked_version();
-    if linked != INTERFACE_VERSION {
-        panic!("{}", NotReady::InterfaceVersion(linked));
     }
 }
 
