@@ -51,7 +51,8 @@ def test_imports_that_cannot_work_say_what_to_do():
         shutil.copy(good, so("pelmetsavory/libpelmetsavory.so"))
         assert said_at_import(folder) == ""
         says(["PELMETSAVORY_SO names"], so("none.so"))  # no other library in place of the named one
-        assert said_at_import(folder, "pelmetsavory/libpelmetsavory.so") == ""
+        shutil.copy(good, so("here.so"))
+        assert said_at_import(folder, "here.so") == ""
 
 
 def public():
