@@ -62,8 +62,8 @@ typedef struct {
     int8_t *flags; size_t flags_len;      /* by triplet, point, b1, b2 */
     uint8_t *marks; size_t marks_len;     /* by triplet, b1, b2: 0 open, 1 computed, 2 averaged */
     uint64_t tally;
-    uint64_t began;                       /* the tally that the sheet began with, and the fingerprint of its study: for storing and */
-    uint8_t study[32];                    /* taking over (pelmetsavory_store.h); no call below reads them */
+    uint64_t began;                       /* the tally that the sheet began with, and the fingerprint of its study: for storing and taking */
+    uint8_t study[32];                    /* over (pelmetsavory_store.h); the calls below do not compare: give every one the same study */
 } pelmetsavory_sheet;
 
 #define PELMETSAVORY_STUDY(y) \

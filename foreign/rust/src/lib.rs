@@ -183,7 +183,8 @@ fn numbered(calls: &[Call]) -> (Vec<i64>, Vec<i64>) {
     (list, ids)
 }
 
-/// The sheet of a study. It knows the study by its fingerprint, and the tally that it began with: see [`store`].
+/// The sheet of a study. It knows the study by its fingerprint, and the tally that it began with: see [`store`]. The calls on it do not
+/// compare: give every one the study that the sheet was made for.
 #[derive(Clone, Debug, PartialEq)]
 pub struct Sheet {
     /// Weights, by channel, triplet, point, b1, b2.

@@ -1,0 +1,2 @@
+-- A law for readers, which no proof uses.
+pub mod ReadLaws
