@@ -65,6 +65,22 @@ def test_changes_in_place_count_and_a_caller_s_array_is_not_held():
     assert carried(y) == carried(study)
 
 
+def test_no_call_reads_memory_that_was_given_back():
+    """With arrays over 1 KiB, which numpy frees at once: foreign/test runs this file under valgrind."""
+    wide, points = np.arange(12 * 11.0).reshape(12, 11) / 8 + 0.125, np.arange(130.0) / 8
+    y = other(f1=wide.copy(), f2=wide.copy(), points=points.copy())
+    sheet = pm.Sheet(y)
+    y.frequencies1, y.frequencies2, y.points = y.frequencies1 * 2, y.frequencies2 * 3, y.points + 1
+    y.table, y.triplets = np.tile(y.table, (2, 1, 1)), y.triplets[::-1]
+    sheet.weights = sheet.weights.copy()
+    copied = pickle.loads(pickle.dumps(sheet))
+    wanted = pm.Sheet(other(table=np.tile(table, (2, 1, 1)), f1=wide * 2, f2=wide * 3, points=points + 1, triplets=study.triplets[::-1]))
+    for s in sheet, copied, wanted:
+        s.run_piece(0, 1, 0)
+        s.run_piece(2, 0, 10)
+        assert held(s) == held(sheet)
+
+
 def test_a_failed_assignment_changes_nothing():
     y = own()
     for name, given, error in (
