@@ -203,6 +203,21 @@ def test_take_refuses_what_is_not_sound():
     raises(ValueError, "damaged", lambda: sheet.take(own), sheet, own)
 
 
+def test_take_refuses_what_cannot_be_written():
+    for name in ("weights", "flags", "marks"):
+        sheet, own = pm.Sheet(study, tally=7), worker()
+        getattr(sheet, name).flags.writeable = False
+        raises(ValueError, "read-only", lambda: sheet.take(own), sheet, own)
+
+
+def test_a_changed_study_stores_nothing():
+    y, folder = other(), tempfile.mkdtemp(dir=FOLDER.name)
+    sheet = worker(y)
+    y.points[0] = 1
+    raises(ValueError, "the study was changed", lambda: sheet.save(os.path.join(folder, "sheet")), sheet)
+    assert os.listdir(folder) == []
+
+
 def test_take_keeps_the_tally_below_2_63():
     own = worker()
     for tally in (2**63 - 4, 2**63 - 1, 2**63, 2**64 - 1):

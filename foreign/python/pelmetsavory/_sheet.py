@@ -170,6 +170,8 @@ class Sheet:
         for sheet in (self, other):
             sheet._check_shapes()
             _check_marks(sheet.marks)
+        if not all(a.flags.writeable for a in (self.weights, self.flags, self.marks)):
+            raise ValueError("this sheet has an array that is read-only")
         if (other.marks[self.marks != AVERAGED] == AVERAGED).any():
             raise ValueError("a triplet is averaged in the other sheet and not in this one")
         if other.tally < other.began:
@@ -195,10 +197,10 @@ class Sheet:
 
     def save(self, path: str | os.PathLike) -> None:
         """Stores the sheet so that a reader finds the old one or the new one whole."""
-        path = os.fsdecode(path)
+        data, path = self.to_bytes(), os.fsdecode(path)
         draft = f"{path}.{os.getpid()}"
         with open(draft, "wb") as f:
-            f.write(self.to_bytes())
+            f.write(data)
         os.replace(draft, path)
 
     @classmethod
