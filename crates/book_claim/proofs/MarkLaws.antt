@@ -1,16 +1,16 @@
 -- From a mark to what its piece holds: "Each mark tells which holds". Assumes nothing.
 use mathlib.Core.Path.{_≡_, refl, sym, ap, subst, _∙_}
-use mathlib.Core.Bool.{Bool, true, false, not}
+use mathlib.Core.Bool.{not}
 use mathlib.Core.List.{List}
-use Prim.Native.Nat.{ℕ, _/_, _<_}
+use Prim.Native.Nat.{ℕ, _<_}
 use lib.ListN.{length, getD, replicate}
 use borrow.Author.Tests.{not-true, not-false}
 use Rattle.triplet_study.specs.Given.{Given}
-use Rattle.sheet_step.specs.Steps.{Sheet, Call, countsOf}
-use Rattle.book_claim.specs.Book.{wordAt, Word, fresh, computed, averagedBy, Book, isOpen, markOf, weightBy, flagBy, opened, booked}
+use Rattle.sheet_step.specs.Steps.{Sheet, Call}
+use Rattle.book_claim.specs.Book.{wordAt, Word, fresh, computed, averagedBy, isOpen, markOf, weightBy, flagBy, opened, booked}
 use Rattle.book_claim.specs.Lists.{played}
-use Rattle.book_claim.specs.Counts.{hasRun, isAveraged}
-use Rattle.book_claim.specs.Marked.{Entries, Old, Computed, Averaged, Tells}
+use Rattle.book_claim.specs.Counts.{hasRun}
+use Rattle.book_claim.specs.Marked.{Entries, Tells}
 use Rattle.book_claim.proofs.Words.{word-ran, word-averaged, averaged-once}
 use Rattle.book_claim.proofs.Corollaries.{weight-is, flag-is, mark-is}
 
