@@ -11,10 +11,9 @@ use Rattle.sheet_marks.specs.declared.Tally.{Tally}
 use Rattle.sheet_step.specs.declared.SheetAnswer.{SheetAnswer}
 use Rattle.sheet_step.specs.declared.SheetAnswer.the-variants.{Done, Refused}
 use Rattle.sheet_step.specs.Steps.{Sheet, sheet, Call, verdict, step, sheetAnswer, stepAnswer, runsAfter, Did}
-use Rattle.book.specs.Replay.{replayAnswer, replayed, replayRuns, bookSheet, bookReplay, DidReplay}
-use Rattle.book.specs.declared.ReplayAnswer.{ReplayAnswer}
-use Rattle.book.specs.declared.ReplayAnswer.the-variants as replay
-use Rattle.pelmetsavory.specs.Sheets.{Called, CalledReplay}
+use Rattle.book_claim.specs.Lists.{played}
+use Rattle.sheet_list.specs.Play.{outcome, outcomeOf, DidPlay}
+use Rattle.pelmetsavory.specs.Sheets.{Called, CalledPlay}
 
 done-in : (v t : ℕ) (x : Tally) → Done x ≡ sheetAnswer v t → (0 ≡ v) × (x .runs ≡ t)
 done-in zero t x h = (refl, ap (λ (z : Tally). z .runs) (let e : x ≡ record { runs = t } = cc in e))
@@ -23,14 +22,6 @@ done-in (suc v) t x h = absurd (let z : _≡_ {A = ℕ} 0 1 = cc in omega arith)
 refused-in : (v t k : ℕ) → Refused k ≡ sheetAnswer v t → (k ≡ v) × (v ≡ 0 → ⊥)
 refused-in zero t k h = absurd (let z : _≡_ {A = ℕ} 0 1 = cc in omega arith)
 refused-in (suc v) t k h = (cc, λ e. omega arith)
-
-done-number : (v t : ℕ) (x : Tally) → replay.Done x ≡ replayAnswer v t → 0 ≡ v
-done-number zero t x h = refl
-done-number (suc v) t x h = absurd (let z : _≡_ {A = ℕ} 0 1 = cc in omega arith)
-
-refused-number : (v t k : ℕ) → replay.Refused k ≡ replayAnswer v t → k ≡ v
-refused-number zero t k h = absurd (let z : _≡_ {A = ℕ} 0 1 = cc in omega arith)
-refused-number (suc v) t k h = cc
 
 -- `seen` is the call as the code below sees it, `call` as its caller names it
 module _ (g : Given) (s : Sheet) (seen call : Call) (same : seen ≡ call) (a : SheetAnswer) (w : List Float) (f : List ℤ) (m : List ℕ)
@@ -54,13 +45,13 @@ module _ (g : Given) (s : Sheet) (seen call : Call) (same : seen ≡ call) (a : 
 
 -- ---- a list of calls
 
-module _ (g : Given) (start : Sheet) (calls : List Call) (no : ℕ) (answers tallies : List ℕ) (a : ReplayAnswer) (w : List Float) (f : List ℤ) (m numbers after : List ℕ)
-    (h : DidReplay g start calls no answers tallies a (replayed (sheet w f m (replayRuns a (start .tally))) numbers after)) where
-  replay-left : (b : ReplayAnswer) → a ≡ b → replayed (sheet w f m (replayRuns b (start .tally))) numbers after ≡ afterCall no (bookReplay g start calls) (replayed start answers tallies)
-  replay-left b e = ap (λ (x : ReplayAnswer). replayed (sheet w f m (replayRuns x (start .tally))) numbers after) (sym e) ∙ h .leaves
+module _ (g : Given) (s : Sheet) (calls : List Call) (number : ℕ) (answers tallies : List ℕ) (a : SheetAnswer) (w : List Float) (f : List ℤ) (m numbers after : List ℕ)
+    (h : DidPlay g s calls number answers tallies a (outcome (sheet w f m (runsAfter a (s .tally))) numbers after)) where
+  play-left : (b : SheetAnswer) → a ≡ b → outcome (sheet w f m (runsAfter b (s .tally))) numbers after ≡ afterCall number (outcomeOf g s calls) (outcome s answers tallies)
+  play-left b e = ap (λ (x : SheetAnswer). outcome (sheet w f m (runsAfter x (s .tally))) numbers after) (sym e) ∙ h .leaves
 
-  pub replay-done : (x : Tally) → a ≡ replay.Done x → CalledReplay g start calls no answers tallies 0 (replayed (sheet w f m (x .runs)) numbers after)
-  replay-done x e = record { status-is = done-number no (bookSheet g start calls .tally) x (sym e ∙ h .answers-with); leaves = replay-left (replay.Done x) e }
+  pub play-done : (x : Tally) → a ≡ Done x → CalledPlay g s calls number answers tallies 0 (outcome (sheet w f m (x .runs)) numbers after)
+  play-done x e = record { status-is = done-in number (played g s calls .tally) x (sym e ∙ h .answers-with) .0; leaves = play-left (Done x) e }
 
-  pub replay-refused : (k : ℕ) → a ≡ replay.Refused k → CalledReplay g start calls no answers tallies k (replayed (sheet w f m (start .tally)) numbers after)
-  replay-refused k e = record { status-is = refused-number no (bookSheet g start calls .tally) k (sym e ∙ h .answers-with); leaves = replay-left (replay.Refused k) e }
+  pub play-refused : (k : ℕ) → a ≡ Refused k → CalledPlay g s calls number answers tallies k (outcome (sheet w f m (s .tally)) numbers after)
+  play-refused k e = record { status-is = refused-in number (played g s calls .tally) k (sym e ∙ h .answers-with) .0; leaves = play-left (Refused k) e }

@@ -8,7 +8,7 @@
 //   5  open count: triplets, points, both band counts, length of the flags, the flags, named triplet, then refusal and count
 //
 // A call is its kind (1 run of a piece: triplet, b1, b2; 2 carry on; 3 averaging: triplet, both lists of ids; 5 a whole list through
-// `replay`: list of its numbers, list of ids, how many answers, the answers and the tallies after each), then what it is to give: refusal,
+// `play`: list of its numbers, list of ids, how many answers, the answers and the tallies after each), then what it is to give: refusal,
 // tally, and 1 with the content of weights, flags and marks, or 0 where that is the content before the call.
 //
 // Refusal 0 is an accepted call. Tally and count are hexadecimal. Each block has its own grids, tables and studies. A list's sheet goes
@@ -17,7 +17,6 @@
 ghost use mathlib.Core.Path.{_≡_};
 ghost use Prim.Native.Nat.{_≤_};
 ghost use lib.ListN.{length, take};
-use book::ReplayAnswer;
 use replay_input::kernel as input;
 use replay_input::kernel::Cursor;
 use replay_input::kernel::compare;
@@ -403,25 +402,16 @@ fn checked(number: u64, agrees: bool) -> u64 {
     if agrees { number } else { 21 }
 }
 
-fn made_by_replay(answer: ReplayAnswer, before: u64, agrees: bool, next: Cursor) -> Made {
-    match answer {
-        ReplayAnswer::Done(after) => {
-            let tally = after.runs;
-            Made {
-                number: checked(0, agrees),
-                tally,
-                next,
-            }
-        }
-        ReplayAnswer::Refused(number) => Made {
-            number: checked(refusal_of(number), agrees),
-            tally: before,
-            next,
-        },
+fn made_by_list(made: Made, agrees: bool, next: Cursor) -> Made {
+    let tally = made.tally;
+    Made {
+        number: checked(made.number, agrees),
+        tally,
+        next,
     }
 }
 
-fn replayed(
+fn played(
     text: &[u8],
     c: Cursor,
     shape: Shape,
@@ -441,7 +431,7 @@ fn replayed(
     answers: &mut [u64],
     tallies: &mut [u64],
 ) -> Made {
-    let answer = book::replay(
+    let answer = sheet_list::play(
         shape,
         addresses,
         map,
@@ -462,10 +452,10 @@ fn replayed(
     let a = same_answers(text, c, answers);
     let t = same_answers(text, a.next, tallies);
     let next = t.next;
-    made_by_replay(answer, tally, a.agrees & t.agrees, next)
+    made_by_list(made_of(answer, tally, next), a.agrees & t.agrees, next)
 }
 
-fn replay_made(
+fn list_made(
     text: &[u8],
     c: Cursor,
     shape: Shape,
@@ -493,7 +483,7 @@ fn replay_made(
     let mut tallies = answers_buffer();
     let k = answers_of(size.value, &answers);
     let j = answers_of(size.value, &tallies);
-    replayed(
+    played(
         text,
         next,
         shape,
@@ -551,7 +541,7 @@ fn call_made(
         );
     }
     if kind == 5 {
-        return replay_made(
+        return list_made(
             text,
             c,
             shape,
@@ -888,7 +878,7 @@ fn print_kind(kind: u64) {
             io::write_all(1, b"average of a triplet");
         }
         5 => {
-            io::write_all(1, b"replay of a list");
+            io::write_all(1, b"list of calls");
         }
         _ => {
             io::write_all(1, b"open count");
