@@ -1,16 +1,10 @@
 /* Calls every entry. Writes what it got, as text, to the file that PELMETSAVORY_OUT names: Rust and Python write the same. */
 #define _POSIX_C_SOURCE 200809L
 #include <pthread.h>
-#include "small.h"
+#include "want.h"
 
 static pelmetsavory_study y;
 static FILE *out;
-
-#define WANT(want, call) do { uint64_t got_ = (call); if (got_ != (want)) { printf("line %d: status %llu, not %llu\n", __LINE__, (unsigned long long)got_, (unsigned long long)(want)); exit(1); } } while (0)
-#define YES(x) do { if (!(x)) { printf("line %d: not so: %s\n", __LINE__, #x); exit(1); } } while (0)
-/* a call that leaves the sheet as it was, and whose number has words where it is a refusal */
-#define KEPT(want, sheet, call) do { unsigned char a_[SHEET_BYTES], b_[SHEET_BYTES]; to_bytes(sheet, a_); WANT(want, call); to_bytes(sheet, b_); \
-    YES(!memcmp(a_, b_, SHEET_BYTES) && (pelmetsavory_question(want) != NULL) == ((want) != 0)); } while (0)
 
 static void name(const char *s) { if (out) fputs(s, out); }
 static void floats(const double *x, int n) { for (int k = 0; k < n; k++) { uint64_t b; memcpy(&b, x + k, 8); if (out) fprintf(out, "\t%016llx", (unsigned long long)b); } }
@@ -53,9 +47,9 @@ static int listed(const pelmetsavory_sheet *s)
 
 static void calls(void)
 {
-    pelmetsavory_sheet s = new_sheet(-7.25, 5, 40), t = new_sheet(-7.25, 5, 0);
-    pelmetsavory_study b;
     y = small_study();
+    pelmetsavory_sheet s = new_sheet(&y, -7.25, 5, 40), t = new_sheet(&y, -7.25, 5, 0);
+    pelmetsavory_study b;
 
     /* refusals, each of which leaves the sheet as it was; a count one too small is a slice one shorter */
     b = y; b.shape.bz_grid_type = INT64_MIN; KEPT(3, &s, pelmetsavory_sheet_carry_on(&b, &s));
@@ -189,7 +183,7 @@ static void calls(void)
 
     /* empty arrays, without a pointer: no triplets is a sheet, no grid points is an answer */
     b = y; b.triplets = NULL; b.triplets_len = 0;
-    pelmetsavory_sheet empty = {NULL, 0, NULL, 0, NULL, 0, 3};
+    pelmetsavory_sheet empty = {NULL, 0, NULL, 0, NULL, 0, 3, 3, {0}};
     WANT(0, pelmetsavory_sheet_carry_on(&b, &empty));
     WANT(14, pelmetsavory_sheet_run_piece(&b, &empty, piece_at(0)));
     WANT(14, pelmetsavory_sheet_average_triplet(&b, &empty, 0, ids1, 3, ids2, 3));
@@ -234,7 +228,7 @@ static uint64_t call(pelmetsavory_sheet *s, const int64_t *c)
 /* a list of calls in one call: in every bit what the same calls make one by one */
 static void replays(void)
 {
-    pelmetsavory_sheet s = new_sheet(-7.25, 5, 40), t = new_sheet(-7.25, 5, 40);
+    pelmetsavory_sheet s = new_sheet(&y, -7.25, 5, 40), t = new_sheet(&y, -7.25, 5, 40);
     uint64_t answers[CALLS], tallies[CALLS], untouched[CALLS];
     memset(answers, 0x55, sizeof answers); memset(tallies, 0x55, sizeof tallies); memset(untouched, 0x55, sizeof untouched);
 #define REPLAY(numbers, n, m) pelmetsavory_replay(PELMETSAVORY_STUDY(&y), triplets, 9, PELMETSAVORY_SHEET(&s), *list, numbers, ids, 6, answers, n, tallies, m)
@@ -346,7 +340,7 @@ static size_t stack_used(void *(*calls)(void *), void *given)
 
 static void stack_need(void)
 {
-    pelmetsavory_sheet s = new_sheet(0, 0, 0), t = new_sheet(0, 0, 0);
+    pelmetsavory_sheet s = new_sheet(&y, 0, 0, 0), t = new_sheet(&y, 0, 0, 0);
     size_t length = stored("study.txt", text, sizeof text);
     size_t plain = stack_used(deep, &s), replay = stack_used(deep_replay, &t), whole = stack_used(deep_answer, &length);
     printf("c: threads used %zu bytes of stack, %zu for a replay, %zu for an answer to a text\n", plain, replay, whole);
@@ -356,10 +350,11 @@ static void stack_need(void)
 
 int main(int argc, char **argv)
 {
-    YES(pelmetsavory_float_mode_ok() && sizeof(pelmetsavory_shape) == 56);
+    const char *why = "";
+    YES(pelmetsavory_ready(&why) && !why && pelmetsavory_ready(NULL) && pelmetsavory_float_mode_ok() && sizeof(pelmetsavory_shape) == 56);
     if (argc < 2) { /* valgrind keeps no float mode: any argument leaves this out */
         const unsigned modes[] = {0x8000, 0x0040, 0x2000, 0x4000, 0x6000}; /* flush to zero, denormals are zero, down, up, towards zero */
-        for (int k = 0; k < 5; k++) { _mm_setcsr(_mm_getcsr() | modes[k]); YES(!pelmetsavory_float_mode_ok()); _mm_setcsr(_mm_getcsr() & ~modes[k]); }
+        for (int k = 0; k < 5; k++) { _mm_setcsr(_mm_getcsr() | modes[k]); YES(!pelmetsavory_float_mode_ok() && !pelmetsavory_ready(&why) && strstr(why, "float mode")); _mm_setcsr(_mm_getcsr() & ~modes[k]); }
     }
     (void)argv;
     if (getenv("PELMETSAVORY_OUT")) out = fopen(getenv("PELMETSAVORY_OUT"), "w");

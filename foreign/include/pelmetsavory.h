@@ -7,8 +7,9 @@
  * Any values in arrays and structs are taken: what is wrong is told by the status, 0 or the number of the first question that is
  * answered no (pelmetsavory_question gives its words). After a refusal every buffer and the tally are as they were. pelmetsavory_answer
  * has no status but the length of its answer, and writes a refusal as a line of text.
- * A function letter is 'I'; any other byte is J.
- * Floats: the thread must round to nearest, without flush-to-zero (FTZ) and denormals-are-zero (DAZ): pelmetsavory_float_mode_ok.
+ * A function letter 'I' names the weight of the density; any other byte names J, that of the number of states.
+ * Call pelmetsavory_ready before anything else, in each thread. Floats: the thread must round to nearest, without flush-to-zero (FTZ) and
+ * denormals-are-zero (DAZ). The library must be of the header's interface version.
  * A call needs less than 48 KiB of stack, pelmetsavory_answer less than 1.25 MiB; it allocates nothing, and keeps nothing: threads may call
  * on different sheets at once. */
 #ifndef PELMETSAVORY_H
@@ -25,6 +26,24 @@ extern "C" {
 
 /* 1 where the thread's float mode is the one that the proofs speak of. Loading a library built with -ffast-math can change it. */
 static inline int pelmetsavory_float_mode_ok(void) { return (_mm_getcsr() & 0xe040u) == 0; }
+
+#define PELMETSAVORY_TEXT_(x) #x
+#define PELMETSAVORY_TEXT(x) PELMETSAVORY_TEXT_(x)
+
+/* 1 where calls may be made: the library has this header's interface version, and the thread's float mode is right. Otherwise 0, and
+ * `*why`, where `why` is not NULL, says in words what is wrong: make no call. */
+static inline int pelmetsavory_ready(const char **why)
+{
+    const char *no = NULL;
+    if (pelmetsavory_interface_version() != PELMETSAVORY_INTERFACE_VERSION)
+        no = "libpelmetsavory has another interface version than pelmetsavory.h, which was made for "
+            PELMETSAVORY_TEXT(PELMETSAVORY_INTERFACE_VERSION) ": take both from one source";
+    else if (!pelmetsavory_float_mode_ok())
+        no = "this thread's float mode is not IEEE 754's: rounding is not to nearest, or subnormals are flushed (was a library built with "
+            "-ffast-math loaded?)";
+    if (why) *why = no;
+    return no == NULL;
+}
 
 /* A study and a sheet as structs, and the calls on them: the entries' arguments in order, nothing else. */
 typedef struct {
@@ -43,6 +62,8 @@ typedef struct {
     int8_t *flags; size_t flags_len;      /* by triplet, point, b1, b2 */
     uint8_t *marks; size_t marks_len;     /* by triplet, b1, b2: 0 open, 1 computed, 2 averaged */
     uint64_t tally;
+    uint64_t began;                       /* the tally that the sheet began with, and the fingerprint of its study: for storing and */
+    uint8_t study[32];                    /* taking over (pelmetsavory_store.h); no call below reads them */
 } pelmetsavory_sheet;
 
 #define PELMETSAVORY_STUDY(y) \
@@ -73,7 +94,8 @@ static inline uint64_t pelmetsavory_sheet_average_triplet(const pelmetsavory_stu
  * the start and end in `ids` of the first id list and of the second (average, and any other kind). What is left of the six is not read. */
 enum { PELMETSAVORY_RUN = 0, PELMETSAVORY_CARRY_ON = 1, PELMETSAVORY_AVERAGE = 2 };
 
-/* Replays `calls` calls on a sheet with every piece open: the status of each, and the tally after it. */
+/* Replays `calls` calls on a sheet with every piece open: the status of each, and the tally after it. The status of the replay is 0 or 13, a
+ * mark that is not 0 (12, which is its own too, asks for the lengths that this call gives); what a call asks goes to its place alone. */
 static inline uint64_t pelmetsavory_sheet_replay(const pelmetsavory_study *y, pelmetsavory_sheet *s, size_t calls, const int64_t (*list)[6],
     const int64_t *ids, size_t ids_len, uint64_t *answers, uint64_t *tallies)
 {

@@ -4,41 +4,51 @@
 #include <stddef.h>
 #include <stdint.h>
 
+/* The interface version that this header was made for: that of the library must be the same (pelmetsavory_ready). */
+#define PELMETSAVORY_INTERFACE_VERSION 1
+
+/* A piece as a caller names it: any numbers. */
 typedef struct {
-    int64_t triplet;
-    int64_t b1;
-    int64_t b2;
+    int64_t triplet; /* triplet, from 0 */
+    int64_t b1; /* first band, from 0 */
+    int64_t b2; /* second band, from 0 */
 } pelmetsavory_piece;
 
+/* Three whole numbers: a triplet, an address, a mesh or a vector. */
 typedef struct {
-    int64_t numbers[3];
+    int64_t numbers[3]; /* the three */
 } pelmetsavory_triple;
 
+/* The kind and the mesh of a grid. */
 typedef struct {
-    int64_t bz_grid_type;
-    int64_t d_diag[3];
+    int64_t bz_grid_type; /* kind of the grid, 1 or 2 */
+    int64_t d_diag[3]; /* mesh numbers */
 } pelmetsavory_grid;
 
+/* The counts of a sheet, any numbers. */
 typedef struct {
-    int64_t num_triplets;
-    int64_t num_band0;
-    int64_t num_band1;
-    int64_t num_band2;
+    int64_t num_triplets; /* number of triplets */
+    int64_t num_band0; /* number of frequency points */
+    int64_t num_band1; /* first number of bands */
+    int64_t num_band2; /* second number of bands */
 } pelmetsavory_counts;
 
+/* The numbers of a study: any values, tested by the questions. */
 typedef struct {
-    int64_t bz_grid_type;
-    int64_t d_diag[3];
-    int64_t tp_type;
-    int64_t num_band1;
-    int64_t num_band2;
+    int64_t bz_grid_type; /* kind of the grid, 1 or 2 */
+    int64_t d_diag[3]; /* mesh numbers */
+    int64_t tp_type; /* type of the triplets, 2, 3 or 4 */
+    int64_t num_band1; /* first number of bands */
+    int64_t num_band2; /* second number of bands */
 } pelmetsavory_shape;
 
+/* Writes the answer to a text at the start of `out`, and tells how many bytes it has: the listing of its study, or its refusal. Questions 1, 3, 4, 5, 6, 8, 9, 10, 11. */
 size_t pelmetsavory_answer(
     const uint8_t *text,
     size_t text_len,
     uint8_t out[118617]);
 
+/* The neighbours of one grid point. Questions 3 to 7, 10, 12. */
 uint64_t pelmetsavory_fill_neighboring_grid_points(
     int64_t *out,
     size_t out_len,
@@ -51,6 +61,7 @@ uint64_t pelmetsavory_fill_neighboring_grid_points(
     const int64_t *gp_map,
     size_t gp_map_len);
 
+/* The neighbours of many grid points, those of each in turn. Questions 3 to 7, 9, 10, 12. */
 uint64_t pelmetsavory_neighboring_grid_points_many(
     int64_t *out,
     size_t out_len,
@@ -64,16 +75,19 @@ uint64_t pelmetsavory_neighboring_grid_points_many(
     const int64_t *gp_map,
     size_t gp_map_len);
 
+/* The grid index of an address, behind `index`. Question 4, with mesh numbers from 1 to 256. */
 uint64_t pelmetsavory_grid_index_from_address(
     pelmetsavory_triple address,
     pelmetsavory_triple d_diag,
     int64_t *index);
 
+/* A lattice times a whole vector, behind `product`. Questions 2, 7. */
 uint64_t pelmetsavory_matvec_di(
     const double a[9],
     pelmetsavory_triple b,
     double product[3]);
 
+/* Replays a list of calls, six numbers a call, on a sheet with every piece open, and counts the runs behind `tally`. Each call's status goes to its place in `answers`, the tally after it to its place in `tallies`. The status is 0 or one of two questions of its own: 12, has the list six numbers for each of `answers` and of `tallies`; 13, is every mark 0? What a call asks is told in its place alone. */
 uint64_t pelmetsavory_replay(
     pelmetsavory_shape shape,
     const int64_t *addresses,
@@ -106,6 +120,7 @@ uint64_t pelmetsavory_replay(
     uint64_t *tallies,
     size_t tallies_len);
 
+/* Runs one piece, and counts it behind `tally`. Questions 3 to 15, 20. */
 uint64_t pelmetsavory_run_piece(
     pelmetsavory_shape shape,
     const int64_t *addresses,
@@ -131,6 +146,7 @@ uint64_t pelmetsavory_run_piece(
     uint64_t *tally,
     pelmetsavory_piece piece);
 
+/* Runs all pieces marked 0, in ascending order, and counts them behind `tally`. Questions 3 to 13, 20. */
 uint64_t pelmetsavory_carry_on(
     pelmetsavory_shape shape,
     const int64_t *addresses,
@@ -155,6 +171,7 @@ uint64_t pelmetsavory_carry_on(
     size_t marks_len,
     uint64_t *tally);
 
+/* Averages a triplet over the degenerate sets of two id lists; the tally stays. Questions 3 to 19. */
 uint64_t pelmetsavory_average_triplet(
     pelmetsavory_shape shape,
     const int64_t *addresses,
@@ -184,6 +201,7 @@ uint64_t pelmetsavory_average_triplet(
     const int64_t *degenerate_ids2,
     size_t degenerate_ids2_len);
 
+/* The open count of a triplet, behind `count`. Questions 9, 12, 14. */
 uint64_t pelmetsavory_open_count(
     pelmetsavory_counts counts,
     const int8_t *flags,
@@ -191,10 +209,12 @@ uint64_t pelmetsavory_open_count(
     int64_t triplet,
     uint64_t *count);
 
+/* Adds runs behind `tally`. Question 20. */
 uint64_t pelmetsavory_tally_add(
     uint64_t *tally,
     uint64_t runs);
 
+/* The weights of each band at each frequency point, for each grid point; `letter` 'I' (73) asks for the density's weight, any other byte for that of the number of states, J. Questions 3 to 7, 9 to 12. */
 uint64_t pelmetsavory_integration_weights_at_grid_points(
     double *iw,
     size_t iw_len,
@@ -217,14 +237,17 @@ uint64_t pelmetsavory_integration_weights_at_grid_points(
     size_t gp2irgp_map_len,
     uint8_t letter);
 
+/* The table whose main diagonal is shortest, the first on a tie, and its number behind `index`. The columns of `rec_lattice` are the edges of one cell of the mesh: column j is reciprocal basis vector j divided by mesh number j, as phono3py has it. A diagonal is `rec_lattice` times 1,1,1 or -1,1,1 or 1,-1,1 or 1,1,-1: the three columns added, none or one of them negated. Question 2. */
 uint64_t pelmetsavory_relative_grid_address(
     const double rec_lattice[9],
     int64_t table[288],
     size_t *index);
 
+/* All four tables, one after the other. */
 void pelmetsavory_all_relative_grid_address(
     int64_t all[1152]);
 
+/* One weight over directly given vertices, behind `weight`; `letter` 'I' (73) asks for the density's weight, any other byte for that of the number of states, J. Questions 7, 11. */
 uint64_t pelmetsavory_tetrahedra_integration_weight(
     double omega,
     const double *tetrahedra_omegas,
@@ -232,6 +255,7 @@ uint64_t pelmetsavory_tetrahedra_integration_weight(
     uint8_t letter,
     double *weight);
 
+/* The weights and flags of all triplets. Questions 3 to 12. */
 uint64_t pelmetsavory_integration_weight(
     pelmetsavory_shape shape,
     const int64_t *addresses,
@@ -253,6 +277,7 @@ uint64_t pelmetsavory_integration_weight(
     int8_t *flags,
     size_t flags_len);
 
+/* The weights and flags of one triplet. Questions 3 to 12. */
 uint64_t pelmetsavory_integration_weight_per_triplet(
     pelmetsavory_shape shape,
     const int64_t *addresses,
@@ -273,6 +298,7 @@ uint64_t pelmetsavory_integration_weight_per_triplet(
     int8_t *flags,
     size_t flags_len);
 
+/* Averages the weights and the flags of one triplet in place. Questions 8, 9, 12, 17, 19. */
 uint64_t pelmetsavory_average_weights_over_degenerate_sets(
     double *iw,
     size_t iw_len,
@@ -286,12 +312,14 @@ uint64_t pelmetsavory_average_weights_over_degenerate_sets(
     int64_t num_band,
     int64_t tp_type);
 
+/* Whether the three addresses of a triplet add to zero: 1 or 0, behind `normal`. Questions 5 (without the count) and 10. */
 uint64_t pelmetsavory_is_n(
     pelmetsavory_triple triplet,
     const int64_t *bz_grid_addresses,
     size_t bz_grid_addresses_len,
     uint8_t *normal);
 
+/* Both copies of the neighbour table, one after the other. Questions 7, 8, 12. */
 uint64_t pelmetsavory_set_relative_grid_address(
     int64_t *out,
     size_t out_len,
@@ -299,9 +327,14 @@ uint64_t pelmetsavory_set_relative_grid_address(
     size_t relative_grid_address_len,
     int64_t tp_type);
 
+/* How many weights a triplet of a type has at a point of a band pair, behind `channels`. Question 8. */
 uint64_t pelmetsavory_num_channels(
     int64_t tp_type,
     size_t *channels);
+
+/* The version of the binary interface. A caller made for another one makes no other call. */
+uint64_t pelmetsavory_interface_version(
+    void);
 
 /* The question that a status carries, in words; NULL for any other number. */
 static inline const char *pelmetsavory_question(uint64_t status)

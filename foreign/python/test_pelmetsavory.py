@@ -5,14 +5,15 @@ import threading
 import numpy as np
 
 import pelmetsavory as pm
-from queue_example import addresses, grid, n, study, table
+from pelmetsavory._arrays import inputs, output
+from pelmetsavory._library import LIBRARY, checked
+from small import addresses, grid, held, other, refused, study, table
 
-DATA = os.path.join(os.path.dirname(os.path.abspath(__file__)), "../data/")
+DATA = os.path.join(os.environ.get("PELMETSAVORY_DATA") or os.path.join(os.path.dirname(os.path.abspath(__file__)), "../data"), "")
 lines = []
 hexed = lambda a: ["%016x" % x for x in np.asarray(a, np.float64).ravel().view(np.uint64)]
 say = lambda name, *values: lines.append("\t".join([name] + [str(int(v)) if not isinstance(v, str) else v for v in values]))
 sheet_values = lambda s: [*hexed(s.weights), *s.flags.ravel(), *s.marks.ravel(), s.tally]
-held = pm.Sheet.to_bytes
 
 
 def listing(s):
@@ -20,30 +21,6 @@ def listing(s):
     for at in np.ndindex(s.flags.shape):
         rows.append("\t".join([*map(str, at), str(s.flags[at])] + hexed(s.weights[(slice(None), *at)])))
     return "\n".join(rows) + "\n"
-
-
-def refused(number, call, *sheets):
-    before = [held(s) for s in sheets]
-    try:
-        call()
-    except pm.Refused as e:
-        assert e.number == number and str(e).endswith("?"), (e, number)
-    else:
-        raise AssertionError(f"not refused with {number}")
-    assert before == [held(s) for s in sheets]
-
-
-def raises(error, call):
-    try:
-        call()
-    except error as e:
-        assert not isinstance(e, pm.Refused)
-        return
-    raise AssertionError("taken")
-
-
-def other(grid=grid, table=table, tp_type=3, f1=(n % 17 + 1) / 8, f2=(n % 13 - 1) / 8, points=(0, 0.5, 1.25, 3, 9), triplets=study.triplets):
-    return pm.Study(grid, table, tp_type, f1, f2, points, triplets)
 
 
 # the study is the stored one
@@ -69,7 +46,9 @@ bad(9, points=[])
 bad(10, triplets=[(0, 1, 12)])
 bad(11, points=[float("nan")])
 bad(11, points=[2.0**31 + 1])
-refused(12, lambda: pm._checked(pm._lib.pelmetsavory_carry_on(*study._args, *pm._slices(study.triplets), sheet.weights.ctypes.data, sheet.weights.size - 1, *sheet._args[-5:])), sheet)
+short = sheet._arguments()
+short[16] -= 1  # the count of weights
+refused(12, lambda: checked(LIBRARY.pelmetsavory_carry_on(*short)), sheet)
 sheet.marks[2, 0, 1] = 3
 refused(13, sheet.carry_on, sheet)
 sheet.marks[2, 0, 1] = 0
@@ -147,11 +126,12 @@ named = lambda kind, a, b, c, d, e: {0: ("run_piece", a, b, c), 1: ("carry_on",)
 calls = [named(*row) for row in rows]
 by_rows, by_calls, one_by_one, marked = fresh(), fresh(), fresh(), fresh()
 marked.marks[2, 2, 2] = 1
+replay = lambda s, numbers, answers, tallies: checked(LIBRARY.pelmetsavory_replay(*s._arguments(), *inputs(numbers, np.array(ids)), *output(answers, 8), *output(tallies, 8)))
 short, kept = np.array(rows[1:]), [np.full(14, 7, np.uint64), np.full(14, 7, np.uint64)]
 for numbers, answers, tallies in (short, *kept), (short.ravel()[1:], kept[0][1:], kept[1][1:]), (short, kept[0][1:], kept[1]):
     for s in by_rows, marked:
-        refused(12, lambda: pm._checked(pm._lib.pelmetsavory_replay(*s._args, *pm._slices(numbers, np.array(ids), answers, tallies))), s)
-refused(13, lambda: pm._checked(pm._lib.pelmetsavory_replay(*marked._args, *pm._slices(np.array(rows), np.array(ids), *kept))), marked)
+        refused(12, lambda: replay(s, numbers, answers, tallies), s)
+refused(13, lambda: replay(marked, np.array(rows), *kept), marked)
 refused(13, lambda: marked.replay([]), marked)
 assert all((a == 7).all() for a in kept)
 assert [a.size for a in by_rows.replay([])] == [0, 0]
@@ -185,30 +165,11 @@ assert pm.integration_weights_at_grid_points(grid, table, [0.5], [], study.frequ
 refused(7, lambda: pm.fill_neighboring_grid_points(grid, 0, []))
 refused(5, lambda: pm.fill_neighboring_grid_points(pm.Grid(2, [1, 1, 1], [], []), 0, [(0, 0, 0)]))
 
-# what numpy must not do unseen, and shapes that numpy itself refuses
-odd = np.frombuffer(b"x" + study.frequencies1.tobytes(), np.float64, offset=1)
-for a in (odd, study.frequencies1.astype(">f8"), np.repeat(study.frequencies1, 2, 0)[::2], study.frequencies1.ravel()):
+# what numpy converts without loss
+odd = np.frombuffer(b"x" + study.frequencies1.tobytes(), np.float64, offset=1).reshape(12, 3)
+for a in (odd, study.frequencies1.astype(">f8"), np.repeat(study.frequencies1, 2, 0)[::2], np.asfortranarray(study.frequencies1), study.frequencies1.tolist()):
     b = other(f1=a).frequencies1
-    assert b.tobytes() == study.frequencies1.tobytes() and b.flags.aligned and b.ctypes.data % 8 == 0
-raises(TypeError, lambda: pm.Grid(2, [2, 2, 2], np.array(addresses) * 1.0, grid.gp_map))
-raises(TypeError, lambda: other(points=[1, 2**53 + 1]))
-raises(TypeError, lambda: other(points=[1 + 0j]))
-raises(OverflowError, lambda: sheet.run_piece(2**63, 0, 0))
-raises(OverflowError, lambda: fresh().replay([("run_piece", 2**63, 0, 0)]))
-raises(TypeError, lambda: fresh().replay([("run_piece", 0, 0)]))
-raises(KeyError, lambda: fresh().replay([("run",)]))
-raises(ValueError, lambda: fresh().replay_list([1, 0, 0, 0, 0], []))
-raises(TypeError, lambda: pm.answer("text"))
-raises(ValueError, lambda: pm.Grid(2, [2, 2, 2], [0, 0, 0, 1], grid.gp_map))
-raises(ValueError, lambda: pm.Grid(2, [2, 2], addresses, grid.gp_map))
-raises(ValueError, lambda: other(f1=study.frequencies1[:11]))
-raises(ValueError, lambda: other(triplets=[(0, 1)]))
-raises(TypeError, lambda: pm.Sheet(study, weights=sheet.weights.astype(np.float32)))
-raises(TypeError, lambda: pm.Sheet(study, flags=np.zeros((2 * sheet.flags.size), np.int8)[::2]))
-raises(ValueError, lambda: pm.Sheet(study, weights=np.zeros(404)))
-shared = np.zeros(405)
-raises(ValueError, lambda: pm.Sheet(study, weights=shared, marks=shared.view(np.uint8)[:27]))
-raises(ValueError, lambda: pm.Sheet(other(points=shared[:5]), weights=shared))
+    assert b.tobytes() == study.frequencies1.tobytes() and b.flags.carray and b.dtype == np.float64
 
 # threads on sheets of their own
 sheets = [pm.Sheet(study) for _ in range(4)]

@@ -1,3 +1,4 @@
 -- The definitions that the contracts cite.
 pub mod Calls
 pub mod Sheets
+pub mod Version

@@ -7,6 +7,7 @@ pub mod playing;
 pub mod sheets;
 pub mod tetrahedra;
 pub mod triplets;
+pub mod version;
 
 // A piece as a caller names it: any numbers.
 #[repr(C)]

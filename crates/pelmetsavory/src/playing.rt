@@ -9,7 +9,8 @@ use sheet_list::SheetAnswer;
 use sheet_list::Tally;
 
 // Plays a list of calls, six numbers a call, on a sheet with any marks, and counts the runs behind `tally`. Each call's status goes to its
-// place in `answers`, the tally after it to its place in `tallies`. Question 12 of the list, `answers` and `tallies`.
+// place in `answers`, the tally after it to its place in `tallies`. The status is 0, or 12: has the list six numbers for each of `answers`
+// and of `tallies`? What a call asks is told in its place alone.
 #[no_mangle]
 pub extern "C" fn pelmetsavory_play(
     shape: Shape,

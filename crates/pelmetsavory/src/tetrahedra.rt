@@ -18,7 +18,8 @@ use crate::choice;
 use grid_point_weights::GridPointAnswer;
 use tetrahedron_method::WeightAnswer;
 
-// The weights of each band at each frequency point, for each grid point; `letter` is I (73) or J. Questions 3 to 7, 9 to 12.
+// The weights of each band at each frequency point, for each grid point; `letter` 'I' (73) asks for the density's weight, any other byte for
+// that of the number of states, J. Questions 3 to 7, 9 to 12.
 #[no_mangle]
 pub extern "C" fn pelmetsavory_integration_weights_at_grid_points(
     iw: &mut [f64],
@@ -62,7 +63,9 @@ pub extern "C" fn pelmetsavory_integration_weights_at_grid_points(
     }
 }
 
-// The table whose main diagonal is shortest, and its number behind `index`. Question 2.
+// The table whose main diagonal is shortest, the first on a tie, and its number behind `index`. The columns of `rec_lattice` are the edges of
+// one cell of the mesh: column j is reciprocal basis vector j divided by mesh number j, as phono3py has it. A diagonal is `rec_lattice`
+// times 1,1,1 or -1,1,1 or 1,-1,1 or 1,1,-1: the three columns added, none or one of them negated. Question 2.
 #[no_mangle]
 pub extern "C" fn pelmetsavory_relative_grid_address(
     rec_lattice: &[[f64; 3]; 3],
@@ -94,7 +97,8 @@ pub extern "C" fn pelmetsavory_all_relative_grid_address(all: &mut [i64; 1152])
     *all = relative_grid_address::all_relative_grid_address();
 }
 
-// One weight over directly given vertices, behind `weight`; `letter` is I (73) or J. Questions 7, 11.
+// One weight over directly given vertices, behind `weight`; `letter` 'I' (73) asks for the density's weight, any other byte for that of the
+// number of states, J. Questions 7, 11.
 #[no_mangle]
 pub extern "C" fn pelmetsavory_tetrahedra_integration_weight(
     omega: f64,

@@ -1,15 +1,11 @@
 //! The pieces of one sheet on worker processes, some of them killed: in every bit the sheet of one process that carries on.
 #[path = "../tests/small/mod.rs"]
 mod small;
-use pelmetsavory::{float_mode_ok, Piece, Sheet};
-use small::Small;
+use pelmetsavory::{ready, store::Error, Sheet};
+use small::{piece_at, Small};
 use std::collections::hash_map::RandomState;
 use std::hash::{BuildHasher, Hasher};
-use std::{env, fs, path::Path, process::Command, thread::sleep, time::Duration};
-
-fn piece_at(p: usize) -> Piece {
-    Piece { triplet: (p / 9) as i64, b1: (p / 3 % 3) as i64, b2: (p % 3) as i64 }
-}
+use std::{env, fs, io::ErrorKind, path::Path, process::Command, thread::sleep, time::Duration};
 
 /// A worker has a sheet of its own, and stores it after each call.
 fn work(path: &Path, pieces: &[String]) {
@@ -29,9 +25,12 @@ fn shuffle(pieces: &mut [usize]) {
 }
 
 fn main() {
-    assert!(float_mode_ok());
+    if let Err(why) = ready() {
+        eprintln!("{why}");
+        std::process::exit(1);
+    }
     let args: Vec<String> = env::args().collect();
-    if args.get(1).is_some_and(|a| a == "work") {
+    if args.get(1).map(String::as_str) == Some("work") {
         return work(Path::new(&args[2]), &args[3..]);
     }
     let (small, mut killed) = (Small::new(), 0);
@@ -56,10 +55,13 @@ fn main() {
             let _ = job.kill();
         }
         for (k, job) in jobs.iter_mut().enumerate() {
-            killed += job.wait().unwrap().code().is_none() as u32;
-            // of a killed worker: what its last whole call left, or nothing
-            if let Ok(part) = Sheet::load(&y, &folder.join(k.to_string())) {
-                sheet.take(&y, &part).unwrap();
+            let code = job.wait().unwrap().code();
+            assert!(code.is_none() || code == Some(0));
+            killed += code.is_none() as u32;
+            match Sheet::load(&y, &folder.join(k.to_string())) {
+                Ok(mut part) => sheet.take(&mut part).unwrap(),
+                Err(Error::File(e)) if e.kind() == ErrorKind::NotFound => {} // killed before its first call was stored
+                Err(why) => panic!("{why}"),
             }
         }
         fs::remove_dir_all(&folder).unwrap();
@@ -68,7 +70,7 @@ fn main() {
     for s in [&mut sheet, &mut one] {
         (0..3).for_each(|t| s.average_triplet(&y, t, &[0, 0, 2], &[0, 1, 1]).unwrap());
     }
-    assert!(killed > 0 && sheet.tally == 27 && sheet.to_bytes() == one.to_bytes());
+    assert!(killed > 0 && sheet.tally == 27 && sheet.to_bytes().unwrap() == one.to_bytes().unwrap());
     if let Some(path) = args.get(1) {
         sheet.save(Path::new(path)).unwrap();
     }

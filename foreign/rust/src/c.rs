@@ -1,42 +1,65 @@
 // made by foreign/bindings.py from the Rattle source and foreign/questions.txt: do not edit
 
+/// The interface version that this crate was made for: that of the library must be the same.
+pub const INTERFACE_VERSION: u64 = 1;
+
+/// A piece as a caller names it: any numbers.
 #[repr(C)]
 #[derive(Clone, Copy, Debug, PartialEq, Eq)]
 pub struct Piece {
+    /// triplet, from 0
     pub triplet: i64,
+    /// first band, from 0
     pub b1: i64,
+    /// second band, from 0
     pub b2: i64,
 }
 
+/// Three whole numbers: a triplet, an address, a mesh or a vector.
 #[repr(C)]
 #[derive(Clone, Copy, Debug, PartialEq, Eq)]
 pub struct Triple {
+    /// the three
     pub numbers: [i64; 3],
 }
 
+/// The kind and the mesh of a grid.
 #[repr(C)]
 #[derive(Clone, Copy, Debug, PartialEq, Eq)]
 pub struct Grid {
+    /// kind of the grid, 1 or 2
     pub bz_grid_type: i64,
+    /// mesh numbers
     pub d_diag: [i64; 3],
 }
 
+/// The counts of a sheet, any numbers.
 #[repr(C)]
 #[derive(Clone, Copy, Debug, PartialEq, Eq)]
 pub struct Counts {
+    /// number of triplets
     pub num_triplets: i64,
+    /// number of frequency points
     pub num_band0: i64,
+    /// first number of bands
     pub num_band1: i64,
+    /// second number of bands
     pub num_band2: i64,
 }
 
+/// The numbers of a study: any values, tested by the questions.
 #[repr(C)]
 #[derive(Clone, Copy, Debug, PartialEq, Eq)]
 pub struct Shape {
+    /// kind of the grid, 1 or 2
     pub bz_grid_type: i64,
+    /// mesh numbers
     pub d_diag: [i64; 3],
+    /// type of the triplets, 2, 3 or 4
     pub tp_type: i64,
+    /// first number of bands
     pub num_band1: i64,
+    /// second number of bands
     pub num_band2: i64,
 }
 
@@ -64,7 +87,40 @@ pub const QUESTIONS: &[(u64, &str)] = &[
     (20, "Does the tally stay below 2^63 after all runs of this call?"),
 ];
 
-extern "C" {
+/// The interface version of the linked library.
+pub fn linked_version() -> u64 {
+    extern "C" {
+        fn pelmetsavory_interface_version() -> u64;
+    }
+    // SAFETY: takes nothing, in every version.
+    unsafe { pelmetsavory_interface_version() }
+}
+
+/// What is wrong with a library of another interface version.
+pub fn another_version(linked: u64) -> String {
+    format!("libpelmetsavory.a has interface version {linked}, and this program was made for {INTERFACE_VERSION}: take both from one source")
+}
+
+/// Declares the entries; each asks for the version before it calls the library.
+macro_rules! entries {
+    ($(pub fn $name:ident($($p:ident: $t:ty,)*) $(-> $r:ty)?;)*) => {
+        mod library {
+            use super::*;
+            extern "C" {
+                $(pub fn $name($($p: $t),*) $(-> $r)?;)*
+            }
+        }
+        $(
+            pub unsafe fn $name($($p: $t),*) $(-> $r)? {
+                let linked = linked_version();
+                assert!(linked == INTERFACE_VERSION, "{}", another_version(linked));
+                library::$name($($p),*)
+            }
+        )*
+    };
+}
+
+entries! {
     pub fn pelmetsavory_answer(
         text: *const u8,
         text_len: usize,

@@ -1,12 +1,16 @@
 //! A safe face of the proved library. A slice crosses as a pointer and a count; the borrow checker gives what a call takes for granted:
 //! valid memory, and no overlap with what is written. An `Err` carries the first question that is answered no; nothing was written then.
-//! The thread's float mode must be IEEE 754's: see [`float_mode_ok`].
+//! The thread's float mode must be IEEE 754's, and the library of this crate's interface version: see [`ready`].
+
+#![deny(missing_docs)]
 
 #[rustfmt::skip]
 mod c;
-pub use c::{Counts, Grid, Piece, Shape};
+mod sha256;
+pub mod store;
+pub use c::{Counts, Grid, Piece, Shape, INTERFACE_VERSION};
 use c::Triple;
-use std::{fmt, fs, io, path::Path};
+use std::fmt;
 
 /// The number of the first question that is answered no.
 #[derive(Clone, Copy, Debug, PartialEq, Eq)]
@@ -37,10 +41,42 @@ pub fn float_mode_ok() -> bool {
     mode & 0xe040 == 0
 }
 
-/// Which weight: I times the density, or J times the number of states.
+/// Why no call may be made.
+#[derive(Clone, Copy, Debug, PartialEq, Eq)]
+pub enum NotReady {
+    /// The linked library has this interface version, and not [`INTERFACE_VERSION`].
+    InterfaceVersion(u64),
+    /// This thread's float mode is not IEEE 754's.
+    FloatMode,
+}
+
+impl fmt::Display for NotReady {
+    fn fmt(&self, f: &mut fmt::Formatter) -> fmt::Result {
+        match self {
+            NotReady::InterfaceVersion(linked) => f.write_str(&c::another_version(*linked)),
+            NotReady::FloatMode => f.write_str("this thread's float mode is not IEEE 754's: rounding is not to nearest, or subnormals are flushed"),
+        }
+    }
+}
+
+impl std::error::Error for NotReady {}
+
+/// Whether calls may be made: the library has this crate's interface version, and the thread's float mode is right. Ask it first, in each
+/// thread. A call on a library of another version panics, whether or not this was asked.
+pub fn ready() -> Result<(), NotReady> {
+    match c::linked_version() {
+        INTERFACE_VERSION if float_mode_ok() => Ok(()),
+        INTERFACE_VERSION => Err(NotReady::FloatMode),
+        linked => Err(NotReady::InterfaceVersion(linked)),
+    }
+}
+
+/// Which weight.
 #[derive(Clone, Copy, Debug, PartialEq, Eq)]
 pub enum Function {
+    /// The weight of the density of states, I times the density: the letter 'I'.
     I,
+    /// The weight of the number of states, J times that number: any other letter.
     J,
 }
 
@@ -56,13 +92,21 @@ impl Function {
 /// What a sheet is made of; `shape` may hold any numbers.
 #[derive(Clone, Copy)]
 pub struct Study<'a> {
+    /// Its numbers.
     pub shape: Shape,
+    /// Grid addresses, three numbers each (phono3py: `bz_grid.addresses`).
     pub addresses: &'a [i64],
+    /// The grid-point map (phono3py: `bz_grid.gp_map`).
     pub gp_map: &'a [i64],
+    /// The table of relative grid addresses, as [`relative_grid_address`] gives it.
     pub relative_grid_address: &'a [i64],
+    /// Frequencies of the second point of a triplet, by address and band.
     pub frequencies1: &'a [f64],
+    /// Frequencies of the third point of a triplet, by address and band.
     pub frequencies2: &'a [f64],
+    /// Frequency points.
     pub frequency_points: &'a [f64],
+    /// Triplets of grid points, three numbers each.
     pub triplets: &'a [i64],
 }
 
@@ -103,9 +147,19 @@ macro_rules! on_sheet {
 /// One call of a list.
 #[derive(Clone, Copy, Debug)]
 pub enum Call<'a> {
+    /// [`Sheet::run_piece`]
     Run(Piece),
+    /// [`Sheet::carry_on`]
     CarryOn,
-    Average { triplet: i64, ids1: &'a [i64], ids2: &'a [i64] },
+    /// [`Sheet::average_triplet`]
+    Average {
+        /// the triplet, from 0
+        triplet: i64,
+        /// ids of the first bands
+        ids1: &'a [i64],
+        /// ids of the second bands
+        ids2: &'a [i64],
+    },
 }
 
 /// Of a call in a replay: its answer, and the tally after it.
@@ -129,38 +183,57 @@ fn numbered(calls: &[Call]) -> (Vec<i64>, Vec<i64>) {
     (list, ids)
 }
 
-/// Weights by channel, triplet, point, b1, b2; flags without the channel; marks by triplet, b1, b2; the tally of accepted runs.
-#[derive(Clone, Debug, Default, PartialEq)]
+/// The sheet of a study. It knows the study by its fingerprint, and the tally that it began with: see [`store`].
+#[derive(Clone, Debug, PartialEq)]
 pub struct Sheet {
+    /// Weights, by channel, triplet, point, b1, b2.
     pub weights: Vec<f64>,
+    /// Flags, by triplet, point, b1, b2.
     pub flags: Vec<i8>,
+    /// Marks, by triplet, b1, b2: 0 open, 1 computed, 2 averaged.
     pub marks: Vec<u8>,
+    /// How many runs were accepted, on the tally that the sheet began with.
     pub tally: u64,
+    began: u64,
+    study: [u8; 32],
+    shape: store::Dimensions,
 }
 
 impl Sheet {
     /// A sheet of the study's size with every piece open. Numbers out of range give an empty one, which every call refuses.
     pub fn new(y: &Study) -> Sheet {
-        let bands = |n: i64| if (1..=64).contains(&n) { n as usize } else { 0 };
-        let pairs = bands(y.shape.num_band1) * bands(y.shape.num_band2);
-        let (channels, triplets) = (num_channels(y.shape.tp_type).unwrap_or(0), y.triplets.len() / 3);
-        let cells = triplets * y.frequency_points.len() * pairs;
-        Sheet { weights: vec![0.0; channels * cells], flags: vec![0; cells], marks: vec![0; triplets * pairs], tally: 0 }
+        Sheet::with_tally(y, 0)
     }
 
+    /// The same, beginning with a tally.
+    pub fn with_tally(y: &Study, tally: u64) -> Sheet {
+        let shape = store::Dimensions::of(y);
+        let [weights, flags, marks] = shape.lengths();
+        Sheet { weights: vec![0.0; weights], flags: vec![0; flags], marks: vec![0; marks], tally, began: tally, study: store::fingerprint(y), shape }
+    }
+
+    /// The tally that the sheet began with, or had when it was last taken over.
+    pub fn began(&self) -> u64 {
+        self.began
+    }
+
+    /// Runs one piece: writes its weights and flags at every point and its mark, and counts it.
     pub fn run_piece(&mut self, y: &Study, piece: Piece) -> Result<(), Refused> {
         on_sheet!(pelmetsavory_run_piece, self, y, piece)
     }
 
+    /// Runs every piece that is open.
     pub fn carry_on(&mut self, y: &Study) -> Result<(), Refused> {
         on_sheet!(pelmetsavory_carry_on, self, y)
     }
 
+    /// Averages a triplet whose pieces are all computed over its degenerate sets: each id is its own place or the id before it.
     pub fn average_triplet(&mut self, y: &Study, triplet: i64, ids1: &[i64], ids2: &[i64]) -> Result<(), Refused> {
         on_sheet!(pelmetsavory_average_triplet, self, y, triplet, ids1.as_ptr(), ids1.len(), ids2.as_ptr(), ids2.len())
     }
 
-    /// Replays a list of calls on a sheet with every piece open: of each its answer, and the tally after it.
+    /// Replays a list of calls on a sheet with every piece open: of each its answer, and the tally after it. An `Err` of the replay itself is
+    /// 13, a mark that is not 0 (12 cannot be); what a call asks is in its own answer, and the next call is made.
     pub fn replay(&mut self, y: &Study, calls: &[Call]) -> Result<Vec<Replayed>, Refused> {
         let (list, ids) = numbered(calls);
         let (mut answers, mut tallies) = (vec![0; calls.len()], vec![0; calls.len()]);
@@ -169,64 +242,13 @@ impl Sheet {
     }
 
     /// The same by numbers, six a call: 0, triplet, b1, b2 runs a piece; 1 carries on; any other kind averages a triplet, with the start
-    /// and the end in `ids` of either id list.
+    /// and the end in `ids` of either id list. An `Err` is one of two questions of its own: 12, has the list six numbers for each of
+    /// `answers` and of `tallies`; 13, is every mark 0?
     pub fn replay_list(&mut self, y: &Study, list: &[i64], ids: &[i64], answers: &mut [u64], tallies: &mut [u64]) -> Result<(), Refused> {
         on_sheet!(
             pelmetsavory_replay, self, y, list.as_ptr(), list.len(), ids.as_ptr(), ids.len(),
             answers.as_mut_ptr(), answers.len(), tallies.as_mut_ptr(), tallies.len()
         )
-    }
-
-    /// Takes over the pieces that another sheet of the same study has computed and this one has open, and counts them.
-    /// Both sheets must have the study's size.
-    pub fn take(&mut self, y: &Study, other: &Sheet) -> Result<(), Refused> {
-        let pairs = (y.shape.num_band1 * y.shape.num_band2) as usize;
-        let new: Vec<usize> = (0..self.marks.len()).filter(|&p| other.marks[p] == 1 && self.marks[p] == 0).collect();
-        tally_add(&mut self.tally, new.len() as u64)?;
-        let (points, cells) = (y.frequency_points.len(), self.flags.len());
-        for p in new {
-            for point in 0..points {
-                let at = (p / pairs * points + point) * pairs + p % pairs;
-                self.flags[at] = other.flags[at];
-                for place in (at..self.weights.len()).step_by(cells) {
-                    self.weights[place] = other.weights[place];
-                }
-            }
-            self.marks[p] = 1;
-        }
-        Ok(())
-    }
-
-    /// Weights, flags, marks and tally as bytes.
-    pub fn to_bytes(&self) -> Vec<u8> {
-        let mut out: Vec<u8> = self.weights.iter().flat_map(|w| w.to_bits().to_le_bytes()).collect();
-        out.extend(self.flags.iter().map(|f| *f as u8));
-        out.extend(&self.marks);
-        out.extend(self.tally.to_le_bytes());
-        out
-    }
-
-    /// Stores the sheet so that a reader finds the old one or the new one whole.
-    pub fn save(&self, path: &Path) -> io::Result<()> {
-        let draft = path.with_file_name(format!("{}.{}", path.file_name().unwrap_or_default().to_string_lossy(), std::process::id()));
-        fs::write(&draft, self.to_bytes())?;
-        fs::rename(&draft, path)
-    }
-
-    /// Reads a stored sheet of the study.
-    pub fn load(y: &Study, path: &Path) -> io::Result<Sheet> {
-        let (mut s, data) = (Sheet::new(y), fs::read(path)?);
-        let (w, f) = (s.weights.len() * 8, s.flags.len());
-        if data.len() != w + f + s.marks.len() + 8 {
-            return Err(io::Error::new(io::ErrorKind::InvalidData, "the file is not a sheet of this study"));
-        }
-        for (x, bytes) in s.weights.iter_mut().zip(data.chunks_exact(8)) {
-            *x = f64::from_bits(u64::from_le_bytes(bytes.try_into().unwrap()));
-        }
-        s.flags.iter_mut().zip(&data[w..]).for_each(|(x, b)| *x = *b as i8);
-        s.marks.copy_from_slice(&data[w + f..data.len() - 8]);
-        s.tally = u64::from_le_bytes(data[data.len() - 8..].try_into().unwrap());
-        Ok(s)
     }
 }
 
@@ -260,17 +282,24 @@ pub fn average_weights_over_degenerate_sets(iw: &mut [f64], iw_zero: &mut [i8], 
 /// A tested grid is one that a call takes: kind and mesh, addresses, map.
 #[derive(Clone, Copy)]
 pub struct BzGrid<'a> {
+    /// Kind and mesh.
     pub grid: Grid,
+    /// Grid addresses, three numbers each.
     pub addresses: &'a [i64],
+    /// The grid-point map.
     pub gp_map: &'a [i64],
 }
 
 /// Frequencies of the irreducible points, row by row, and for each address its irreducible point.
 #[derive(Clone, Copy)]
 pub struct Irreducible<'a> {
+    /// Frequencies, by irreducible point and band.
     pub frequencies: &'a [f64],
+    /// Number of bands.
     pub num_band: i64,
+    /// Number of irreducible points.
     pub num_ir: i64,
+    /// Of each address its irreducible point.
     pub gp2irgp_map: &'a [i64],
 }
 
@@ -325,7 +354,9 @@ pub fn grid_index_from_address(address: [i64; 3], d_diag: [i64; 3]) -> Result<i6
     Ok(index)
 }
 
-/// The table of the shortest main diagonal of a lattice (row by row), and its number.
+/// The table whose main diagonal is shortest, the first on a tie, and its number. The columns of `rec_lattice` (which is given row by row) are
+/// the edges of one cell of the mesh: column j is reciprocal basis vector j divided by mesh number j, as phono3py has it. A diagonal is
+/// `rec_lattice` times 1,1,1 or -1,1,1 or 1,-1,1 or 1,1,-1: the three columns added, none or one of them negated.
 pub fn relative_grid_address(rec_lattice: &[f64; 9]) -> Result<([i64; 288], usize), Refused> {
     let (mut table, mut index) = ([0; 288], 0);
     told(unsafe { c::pelmetsavory_relative_grid_address(rec_lattice, &mut table, &mut index) })?;

@@ -1,7 +1,7 @@
 //! Calls every entry. Writes what it got, as text, to the file that PELMETSAVORY_OUT names: C and Python write the same.
 mod small;
 use pelmetsavory::*;
-use small::{Small, ADDRESSES, GP_MAP};
+use small::{all_of, filled, Small, ADDRESSES, GP_MAP};
 use std::fmt::Display;
 
 const IDS1: [i64; 3] = [0, 0, 2];
@@ -35,21 +35,21 @@ fn piece(triplet: i64, b1: i64, b2: i64) -> Piece {
 
 /// A refusal that leaves the sheet as it was.
 fn kept(number: u64, s: &mut Sheet, call: impl FnOnce(&mut Sheet) -> Result<(), Refused>) {
-    let before = s.to_bytes();
+    let before = all_of(s);
     let told = call(s);
     assert_eq!(told, Err(Refused(number)));
     assert!(told.unwrap_err().to_string().ends_with('?'));
-    assert!(before == s.to_bytes());
+    assert!(before == all_of(s));
 }
 
 #[test]
 fn every_entry_and_every_refusal() {
-    assert!(float_mode_ok());
+    assert_eq!(ready(), Ok(()));
     let small = Small::new();
     let y = small.study();
     let mut out = String::new();
     let stored = std::fs::read_to_string(concat!(env!("CARGO_MANIFEST_DIR"), "/../data/listing.txt")).unwrap();
-    let mut s = Sheet { weights: vec![-7.25; 405], flags: vec![5; 135], marks: vec![0; 27], tally: 40 };
+    let mut s = filled(&y, -7.25, 5, 40);
 
     // refusals, each of which leaves the sheet as it was
     let mut bad = |number, change: &dyn Fn(&mut Study)| {
@@ -213,7 +213,7 @@ fn named(c: &[i64; 6]) -> Call<'static> {
 /// A list of calls in one call: in every bit what the same calls make one by one.
 fn replays(y: &Study, out: &mut String) {
     let (mut answers, mut tallies) = ([7; 14], [7; 14]);
-    let mut s = Sheet { weights: vec![-7.25; 405], flags: vec![5; 135], marks: vec![0; 27], tally: 40 };
+    let mut s = filled(y, -7.25, 5, 40);
     let (mut other, mut one_by_one, list) = (s.clone(), s.clone(), LIST.concat());
     kept(12, &mut s, |s| s.replay_list(y, &list[1..], &IDS, &mut answers, &mut tallies));
     kept(12, &mut s, |s| s.replay_list(y, &list[6..], &IDS, &mut answers, &mut tallies));
@@ -226,7 +226,7 @@ fn replays(y: &Study, out: &mut String) {
     s.marks[26] = 0;
     assert!(answers == [7; 14] && tallies == [7; 14]);
     assert_eq!(s.replay(y, &[]), Ok(vec![]));
-    assert!(s.to_bytes() == other.to_bytes());
+    assert!(all_of(&s) == all_of(&other));
 
     assert_eq!(s.replay_list(y, &list, &IDS, &mut answers, &mut tallies), Ok(()));
     for (k, c) in LIST.iter().enumerate() {
@@ -238,10 +238,10 @@ fn replays(y: &Study, out: &mut String) {
         assert_eq!(told.map_or_else(|no| no.0, |()| 0), STATUSES[k]);
         assert_eq!((answers[k], tallies[k]), (STATUSES[k], one_by_one.tally));
     }
-    assert!(s.to_bytes() == one_by_one.to_bytes() && s.tally == 68);
+    assert!(all_of(&s) == all_of(&one_by_one) && s.tally == 68);
     let calls: Vec<Call> = LIST.iter().map(named).collect();
     let told: Vec<u64> = other.replay(y, &calls).unwrap().iter().map(|(answer, _)| answer.map_or_else(|no| no.0, |()| 0)).collect();
-    assert!(told == STATUSES && other.to_bytes() == s.to_bytes());
+    assert!(told == STATUSES && all_of(&other) == all_of(&s));
     say(out, "replay", vec![text(&answers), text(&tallies), hex(&s.weights), text(&s.flags), text(&s.marks), text(&[s.tally])]);
 }
 
@@ -257,19 +257,5 @@ fn answers(listing: &str, out: &mut String) {
     let all = [answer(&study), answer(&study[..n - 1]), answer(&[]), answer(&study.repeat(10)), changed(5, b'7'), changed(n - 4, b'2')];
     let want = [listing, "refused\t1\n", "refused\t1\n", "refused\t1\n", "refused\t3\n", "refused\t10\n"];
     assert!(all.iter().zip(want).all(|(got, want)| got == want.as_bytes()));
-    say(out, "answer", vec![text(&all.each_ref().map(Vec::len))]);
-}
-
-#[test]
-fn a_stored_sheet_comes_back() {
-    let small = Small::new();
-    let y = small.study();
-    let path = std::env::temp_dir().join(format!("pelmetsavory.test.{}", std::process::id()));
-    let mut s = Sheet::new(&y);
-    s.run_piece(&y, piece(2, 1, 0)).unwrap();
-    s.save(&path).unwrap();
-    assert!(Sheet::load(&y, &path).unwrap().to_bytes() == s.to_bytes());
-    std::fs::write(&path, &s.to_bytes()[1..]).unwrap();
-    assert!(Sheet::load(&y, &path).is_err());
-    std::fs::remove_file(path).unwrap();
+    say(out, "answer", vec![text(&all.iter().map(Vec::len).collect::<Vec<_>>())]);
 }

@@ -12,17 +12,18 @@ text-buffer-requires c κs = search needs
 answer-buffer-requires : tie.Need-answer-buffer-requires
 answer-buffer-requires c κs = search needs
 
-slice-aggregate-read-full : tie.Need-slice-aggregate-read-full
-slice-aggregate-read-full c = search needs
+slice-aggregate-read-text : tie.Need-slice-aggregate-read-text
+slice-aggregate-read-text c = search needs
 
-read-full-requires : tie.Need-read-full-requires
-read-full-requires c κs = search needs
+read-text-requires : tie.Need-read-text-requires
+read-text-requires c κs = search needs
 
 array-share-prefix-text : tie.Need-array-share-prefix-text
 array-share-prefix-text c = search needs
 
 slice-aggregate-answer : tie.Need-slice-aggregate-answer
-slice-aggregate-answer c = search needs
+slice-aggregate-answer c =
+    sym (length-take-le (c .before .before .read-text .result) _ (c .before .before .read-text .ensures .0))
 
 answer-requires : tie.Need-answer-requires
 answer-requires c κs = search needs
@@ -47,8 +48,8 @@ main-spec =
     (tie.spec
     text-buffer-requires
     answer-buffer-requires
-    slice-aggregate-read-full
-    read-full-requires
+    slice-aggregate-read-text
+    read-text-requires
     array-share-prefix-text
     slice-aggregate-answer
     answer-requires

@@ -1,5 +1,6 @@
 //! The small study of the tests and the example: data/study.txt.
-use pelmetsavory::{relative_grid_address, Shape, Study};
+#![allow(dead_code)] // each test and the example uses a part of it
+use pelmetsavory::{relative_grid_address, Piece, Shape, Sheet, Study};
 
 pub const ADDRESSES: [i64; 36] = [0, 0, 0, 1, 0, 0, -1, 0, 0, 0, 1, 0, 0, -1, 0, 1, 1, 0, 0, 0, 1, 0, 0, -1, 1, 0, 1, 0, 1, 1, 1, 1, 1, -1, -1, -1];
 pub const GP_MAP: [i64; 9] = [0, 1, 3, 5, 6, 8, 9, 10, 12];
@@ -31,4 +32,21 @@ impl Small {
             triplets: &[0, 1, 2, 3, 5, 6, 4, 11, 7],
         }
     }
+}
+
+/// A sheet with every entry as told, all pieces open.
+pub fn filled(y: &Study, weight: f64, flag: i8, tally: u64) -> Sheet {
+    let mut s = Sheet::with_tally(y, tally);
+    s.weights.fill(weight);
+    s.flags.fill(flag);
+    s
+}
+
+/// All that a sheet holds, with the floats as bits.
+pub fn all_of(s: &Sheet) -> (Vec<u64>, Vec<i8>, Vec<u8>, u64, u64) {
+    (s.weights.iter().map(|w| w.to_bits()).collect(), s.flags.clone(), s.marks.clone(), s.tally, s.began())
+}
+
+pub fn piece_at(p: usize) -> Piece {
+    Piece { triplet: (p / 9) as i64, b1: (p / 3 % 3) as i64, b2: (p % 3) as i64 }
 }

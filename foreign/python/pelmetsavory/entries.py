@@ -1,6 +1,9 @@
 """made by foreign/bindings.py from the Rattle source and foreign/questions.txt: do not edit"""
 import ctypes
 
+# the interface version that this module was made for
+INTERFACE_VERSION = 1
+
 
 class Piece(ctypes.Structure):
     _fields_ = [
@@ -335,5 +338,7 @@ ENTRIES = {
     "pelmetsavory_num_channels": (ctypes.c_uint64, [
         ("tp_type", "value", ctypes.c_int64, None),
         ("channels", "mut", ctypes.c_size_t, None),
+    ]),
+    "pelmetsavory_interface_version": (ctypes.c_uint64, [
     ]),
 }

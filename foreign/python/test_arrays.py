@@ -1,0 +1,267 @@
+"""Arrays as numpy's users know them: assigned, changed in place, copied, pickled, sent to other processes; shapes and types that are refused."""
+import copy
+import ctypes
+import multiprocessing
+import pickle
+
+import numpy as np
+
+import pelmetsavory as pm
+from small import addresses, grid, held, n, other, raises, refused, run, study, table
+
+F1, F2 = (n % 17 + 1) / 8, (n % 13 - 1) / 8
+TWO = np.array([(0, 1, 2), (3, 5, 6)])
+
+
+def carried(y):
+    """What a new sheet of the study holds after a carry-on."""
+    sheet = pm.Sheet(y)
+    sheet.carry_on()
+    return held(sheet)
+
+
+def own():
+    """The small study over a grid of its own."""
+    return other(grid=pm.Grid(2, [2, 2, 2], addresses, grid.gp_map))
+
+
+def test_assigned_attributes_count_at_the_next_call():
+    y = own()
+    sheet = pm.Sheet(y)
+    y.frequencies1 = y.frequencies1 * 2
+    assert held(sheet)[0] == bytes(8 * sheet.weights.size)
+    sheet.carry_on()
+    assert held(sheet) == carried(other(f1=F1 * 2)) and pm.integration_weight(y)[0].tobytes() == held(sheet)[0]
+    for name, given, changed in (
+        ("frequencies2", F2 * 3, other(f2=F2 * 3)),
+        ("points", [4, 0.25], other(points=[4, 0.25])),
+        ("triplets", TWO, other(triplets=TWO)),
+        ("table", table[::-1], other(table=table[::-1])),
+        ("tp_type", 4, other(tp_type=4)),
+        ("grid", pm.Grid(2, [2, 2, 2], -np.array(addresses), grid.gp_map), other(grid=pm.Grid(2, [2, 2, 2], -np.array(addresses), grid.gp_map))),
+    ):
+        y = own()
+        setattr(y, name, given)
+        assert carried(y) == carried(changed) != carried(study), name
+    y = own()
+    y.grid.mesh, y.grid.kind = [2, 4, 1], 2
+    assert carried(y) == carried(other(grid=pm.Grid(2, [2, 4, 1], addresses, grid.gp_map))) != carried(study)
+    y.grid.kind = 3
+    refused(3, pm.Sheet(y).carry_on)
+
+
+def test_changes_in_place_count_and_a_caller_s_array_is_not_held():
+    y = own()
+    y.frequencies1 *= 2
+    y.points[1] = 0.75
+    y.grid.addresses[5] = 7, 7, 7
+    moved = [*addresses[:5], (7, 7, 7), *addresses[6:]]
+    assert carried(y) == carried(other(grid=pm.Grid(2, [2, 2, 2], moved, grid.gp_map), f1=F1 * 2, points=[0, 0.75, 1.25, 3, 9])) != carried(study)
+    given = F1.copy()
+    y = other(f1=given)
+    given[...] = 100
+    assert carried(y) == carried(study)
+
+
+def test_a_failed_assignment_changes_nothing():
+    y = own()
+    for name, given, error in (
+        ("triplets", TWO.T, ValueError),
+        ("triplets", TWO * 1.0, TypeError),
+        ("frequencies1", F1[:11], ValueError),
+        ("frequencies2", F2.T, ValueError),
+        ("points", 3.0, ValueError),
+        ("points", ["a"], TypeError),
+        ("table", table.reshape(-1, 3), ValueError),
+        ("tp_type", 2.5, TypeError),
+        ("grid", None, TypeError),
+    ):
+        raises(error, "", lambda: setattr(y, name, given))
+        assert carried(y) == carried(study)
+    for name, given, error in (("mesh", [2, 2], ValueError), ("addresses", np.array(addresses).T, ValueError), ("gp_map", [[0]], ValueError), ("kind", "2", TypeError)):
+        raises(error, "", lambda: setattr(y.grid, name, given))
+        assert carried(y) == carried(study)
+
+
+def test_a_sheet_is_of_one_study():
+    y = own()
+    sheet = pm.Sheet(y)
+    sheet.run_piece(0, 0, 0)
+    y.frequencies1 *= 2
+    ids = [0, 0, 2], [0, 1, 1]
+    for call in (sheet.carry_on, lambda: sheet.run_piece(1, 0, 0), lambda: sheet.average_triplet(0, *ids), lambda: sheet.replay([]), sheet.to_bytes):
+        raises(ValueError, "the study was changed after", call, sheet)
+    y.frequencies1 /= 2
+    sheet.carry_on()
+    assert held(sheet) == carried(study)
+    y.points = [1, 2]
+    raises(ValueError, "the study was changed after", sheet.carry_on, sheet)
+    fresh = pm.Sheet(y)
+    y.points = [1, 2, 3]
+    refused(12, fresh.carry_on, fresh)
+    raises(ValueError, ["weights", "(3, 3, 2, 3, 3)", "(3, 3, 3, 3, 3)"], fresh.to_bytes, fresh)
+
+
+def test_copies_of_a_sheet_have_arrays_and_a_tally_of_their_own():
+    sheet = pm.Sheet(own(), tally=5)
+    sheet.run_piece(0, 0, 0)
+    for copied in (copy.deepcopy(sheet), copy.copy(sheet), pickle.loads(pickle.dumps(sheet))):
+        before = held(sheet)
+        assert held(copied) == before
+        copied.carry_on()
+        assert held(sheet) == before and copied.tally == 32 and held(copied)[:3] == carried(study)[:3]
+        assert not any(np.shares_memory(getattr(sheet, a), getattr(copied, a)) for a in ("weights", "flags", "marks"))
+    assert copy.copy(sheet).study is sheet.study and copy.deepcopy(sheet).study is not sheet.study
+    again = copy.copy(sheet)
+    sheet.carry_on()
+    assert again.tally == 6 and again.marks.sum() == 1
+
+
+def test_copies_of_a_study_have_arrays_of_their_own():
+    for make in (copy.copy, copy.deepcopy, lambda y: pickle.loads(pickle.dumps(y))):
+        y = own()
+        copied = make(y)
+        copied.frequencies1 *= 2
+        copied.grid.addresses[5] = 7, 7, 7
+        assert carried(y) == carried(study) != carried(copied)
+        grids = make(y.grid)
+        grids.mesh[0] = 1
+        assert carried(y) == carried(study)
+
+
+def in_another_process(y):
+    """A study that was sent, assigned to there; its sheet, and a refusal, are sent back."""
+    y.frequencies1 = y.frequencies1 * 2
+    sheet = pm.Sheet(y)
+    sheet.run_piece(2, 1, 0)
+    try:
+        sheet.run_piece(3, 0, 0)
+    except pm.Refused as refusal:
+        return sheet, refusal
+
+
+def test_other_processes():
+    for how in ("spawn", "fork"):
+        with multiprocessing.get_context(how).Pool(2) as pool:
+            for sheet, refusal in pool.map_async(in_another_process, [own(), own()]).get(timeout=120):
+                assert sheet.tally == 1 and sheet.marks.sum() == 1 and refusal.number == 14 and "on the sheet?" in str(refusal)
+                sheet.carry_on()
+                assert held(sheet) == carried(other(f1=F1 * 2))
+
+
+def test_shapes_are_checked_and_never_changed():
+    g, t, f = grid, table, F1
+    w, z = pm.integration_weight_per_triplet(study, (3, 5, 6))
+    rows = [[0, 4, 4, 4]] * 24
+    flat = np.array(rows).ravel()
+    for name, given, wanted, call in (
+        ("triplets", TWO.T, "(n, 3)", lambda x: other(triplets=x)),
+        ("triplets", TWO.ravel(), "(n, 3)", lambda x: other(triplets=x)),
+        ("triplets", TWO[None], "(n, 3)", lambda x: other(triplets=x)),
+        ("addresses", np.array(addresses).T, "(P, 3)", lambda x: pm.Grid(2, [2, 2, 2], x, g.gp_map)),
+        ("addresses", np.array(addresses).ravel(), "(P, 3)", lambda x: pm.Grid(2, [2, 2, 2], x, g.gp_map)),
+        ("mesh", np.array([[2, 2, 2]]), "(3,)", lambda x: pm.Grid(2, x, addresses, g.gp_map)),
+        ("gp_map", g.gp_map[:, None], "(any,)", lambda x: pm.Grid(2, [2, 2, 2], addresses, x)),
+        ("table", t.reshape(24, 12), "(rows, 4, 3)", lambda x: other(table=x)),
+        ("table", t.transpose(0, 2, 1), "(rows, 4, 3)", lambda x: other(table=x)),
+        ("frequencies1", f.T, "(12, bands)", lambda x: other(f1=x)),
+        ("frequencies1", f.ravel(), "(12, bands)", lambda x: other(f1=x)),
+        ("frequencies2", f[:4], "(12, bands)", lambda x: other(f2=x)),
+        ("points", np.zeros((5, 1)), "(n,)", lambda x: other(points=x)),
+        ("triplet", TWO, "(3,)", lambda x: pm.integration_weight_per_triplet(study, x)),
+        ("triplet", TWO[:, :1], "(3,)", lambda x: pm.is_n(x, addresses)),
+        ("addresses", np.array(addresses).T, "(P, 3)", lambda x: pm.is_n((0, 1, 2), x)),
+        ("vertices", np.array(rows).T, "(rows, 4)", lambda x: pm.tetrahedra_integration_weight(2, x)),
+        ("vertices", flat, "(rows, 4)", lambda x: pm.tetrahedra_integration_weight(2, x)),
+        ("vertices", flat * 1.0, "(rows, 4)", lambda x: pm.tetrahedra_integration_weight(2, x)),
+        ("rec_lattice", np.ones(9), "(3, 3)", pm.relative_grid_address),
+        ("a", np.ones((3, 4)), "(3, 3)", lambda x: pm.matvec_di(x, (1, 2, 3))),
+        ("b", np.ones((1, 3), int), "(3,)", lambda x: pm.matvec_di(np.eye(3), x)),
+        ("address", np.ones((1, 3), int), "(3,)", lambda x: pm.grid_index_from_address(x, (2, 2, 2))),
+        ("mesh", np.ones(4, int), "(3,)", lambda x: pm.grid_index_from_address((0, 0, 0), x)),
+        ("steps", np.ones(3, int), "(n, 3)", lambda x: pm.fill_neighboring_grid_points(g, 0, x)),
+        ("steps", np.ones((3, 2), int), "(n, 3)", lambda x: pm.neighboring_grid_points_many(g, [0], x)),
+        ("grid_points", np.ones((2, 2), int), "(any,)", lambda x: pm.neighboring_grid_points_many(g, x, [(0, 0, 0)])),
+        ("table", t[0], "(rows, 4, 3)", lambda x: pm.set_relative_grid_address(x, 2)),
+        ("frequencies", f.ravel(), "(irreducible points, bands)", lambda x: pm.integration_weights_at_grid_points(g, t, [1], [0], x, [0] * 12)),
+        ("gp2irgp_map", np.zeros((12, 1), int), "(P,)", lambda x: pm.integration_weights_at_grid_points(g, t, [1], [0], f, x)),
+        ("ids1", np.zeros((3, 1), int), "(bands,)", lambda x: pm.Sheet(study).average_triplet(0, x, [0, 1, 2])),
+        ("ids2", np.zeros((1, 3), int), "(bands,)", lambda x: pm.Sheet(study).replay([("average_triplet", 0, [0, 1, 2], x)])),
+        ("rows", np.zeros(12, int), "(n, 6)", lambda x: pm.Sheet(study).replay_list(x, [])),
+        ("flags", np.zeros(27, np.int8), "(triplets, points, b1, b2)", lambda x: pm.open_count(x, 0)),
+        ("flags", z[:, :, :2], "(5, 3, 3)", lambda x: pm.average_weights_over_degenerate_sets(w, x, [0, 0, 2], [0, 1, 1], 3)),
+        ("weights", w.transpose(1, 0, 2, 3), "(channels, 5, 3, 3)", lambda x: pm.average_weights_over_degenerate_sets(x, z, [0, 0, 2], [0, 1, 1], 3)),
+        ("weights", np.zeros(405), "(3, 3, 5, 3, 3)", lambda x: pm.Sheet(study, weights=x)),
+        ("flags", np.zeros((3, 5, 9), np.int8), "(3, 5, 3, 3)", lambda x: pm.Sheet(study, flags=x)),
+        ("marks", np.zeros((9, 3), np.uint8), "(3, 3, 3)", lambda x: pm.Sheet(study, marks=x)),
+    ):
+        raises(ValueError, [name + " has", str(given.shape), wanted], lambda: call(given))
+
+
+def test_nothing_wraps_and_nothing_is_rounded():
+    g, sheet = grid, pm.Sheet(study)
+    big = 2**63
+    for error, words, call in (
+        (OverflowError, "tally", lambda: pm.Sheet(study, tally=-1)),
+        (OverflowError, "tally", lambda: pm.Sheet(study, tally=2**64)),
+        (TypeError, "", lambda: pm.Sheet(study, tally=1.0)),
+        (TypeError, "addresses", lambda: pm.Grid(2, [2, 2, 2], np.array(addresses) * 1.0, g.gp_map)),
+        (TypeError, "gp_map", lambda: pm.Grid(2, [2, 2, 2], addresses, g.gp_map * 1.0)),
+        (TypeError, "gp_map", lambda: pm.Grid(2, [2, 2, 2], addresses, g.gp_map.astype(np.uint64))),
+        (TypeError, "mesh", lambda: pm.Grid(2, [2.0, 2, 2], addresses, g.gp_map)),
+        (TypeError, "triplets", lambda: other(triplets=TWO.astype(np.float32))),
+        (TypeError, "triplets", lambda: other(triplets=[[big, 0, 0]])),
+        (TypeError, "table", lambda: other(table=table / 1)),
+        (ValueError, "triplets is no array", lambda: other(triplets=[[0, 1, 2], [3, 5]])),
+        (TypeError, "frequencies1 is a masked array", lambda: other(f1=np.ma.masked_less(F1, 1))),
+        (TypeError, "points", lambda: other(points=[1, 2**53 + 1])),
+        (TypeError, "points", lambda: other(points=[1 + 0j])),
+        (TypeError, "frequencies1", lambda: other(f1=F1.astype(np.longdouble))),
+        (TypeError, "ids1", lambda: sheet.average_triplet(0, [0.0, 0, 2], [0, 1, 1])),
+        (TypeError, "triplet", lambda: pm.is_n((0.5, 1, 2), addresses)),
+        (TypeError, "omega", lambda: pm.tetrahedra_integration_weight(2**53 + 1, [[0, 4, 4, 4]] * 24)),
+        (TypeError, "omega", lambda: pm.tetrahedra_integration_weight("2", [[0, 4, 4, 4]] * 24)),
+        (ValueError, "'I' or 'J'", lambda: pm.tetrahedra_integration_weight(2, [[0, 4, 4, 4]] * 24, "i")),
+        (OverflowError, "triplet", lambda: sheet.run_piece(big, 0, 0)),
+        (OverflowError, "b2", lambda: sheet.run_piece(0, 0, -big - 1)),
+        (OverflowError, "triplet", lambda: sheet.replay([("run_piece", big, 0, 0)])),
+        (TypeError, "", lambda: sheet.run_piece(0.0, 0, 0)),
+        (TypeError, "b2", lambda: sheet.replay([("run_piece", 0, 0)])),
+        (KeyError, "run", lambda: sheet.replay([("run",)])),
+        (TypeError, "", lambda: pm.answer("text")),
+    ):
+        raises(error, words, call, sheet)
+
+
+def test_a_sheet_s_arrays_must_be_fit_to_be_written():
+    sheet = pm.Sheet(study)
+    raises(TypeError, "weights", lambda: pm.Sheet(study, weights=sheet.weights.astype(np.float32)))
+    raises(TypeError, "flags", lambda: pm.Sheet(study, flags=np.zeros((3, 5, 3, 6), np.int8)[..., ::2]))
+    raises(TypeError, "marks", lambda: pm.Sheet(study, marks=sheet.marks.tolist()))
+    shared = np.zeros(sheet.weights.shape)
+    raises(ValueError, "overlaps weights", lambda: pm.Sheet(study, weights=shared, marks=shared.view(np.uint8).ravel()[:27].reshape(3, 3, 3)))
+    raises(ValueError, ["weights has", "(3, 5, 3, 3)"], lambda: setattr(sheet, "weights", np.zeros((3, 5, 3, 3))), sheet)
+    mine = np.full(sheet.weights.shape, 7.0)
+    sheet.weights = mine
+    sheet.run_piece(0, 0, 0)
+    assert sheet.weights is mine and (mine[:, 0, :, 0, 0] != 7).all() and (mine[:, 1:] == 7).all()
+    sheet.weights.flags.writeable = False
+    raises(TypeError, "writable", sheet.carry_on, sheet)
+    sheet.weights.flags.writeable = True
+    sheet.carry_on()
+    assert held(sheet) == carried(study)
+
+
+def test_bytes_begin_at_a_multiple_of_8():
+    kept = [bytes(size) for size in [*range(2000), 2**16, 2**17 + 8, 2**20, 2**25]]
+    assert all(ctypes.cast(b, ctypes.c_void_p).value % 8 == 0 for b in kept)
+
+
+def test_no_rows():
+    assert pm.Sheet(other(triplets=[])).weights.shape == (3, 0, 5, 3, 3) and other(triplets=np.zeros((0, 3), int)).triplets.shape == (0, 3)
+    raises(ValueError, ["triplets has", "(3, 0)", "(n, 3)"], lambda: other(triplets=np.zeros((3, 0), int)))
+
+
+if __name__ == "__main__":
+    run(globals())
+    print("python: arrays ok")
