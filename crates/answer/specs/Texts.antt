@@ -1,6 +1,7 @@
 -- The answer to a text: what the program `weights` prints.
 use mathlib.Core.List.{List, [], _∷_, _++_}
 use Prim.Native.Nat.{ℕ}
+use denote.Ref.{now}
 use lib.Ieee.{Float, binary64, ofBits}
 use lib.IntN.{ℤ}
 use lib.ListN.{length, getD, drop}
@@ -9,6 +10,7 @@ use Rattle.list_laws.specs.Lists.{tabulate}
 use Rattle.tetrahedron_tables.specs.Tables.{tableOf, flat}
 use Rattle.triplet_study.specs.declared.Shape.{Shape}
 use Rattle.triplet_study.specs.Given.{Given, given}
+use Rattle.triplet_study.specs.Lent.{Lent}
 use Rattle.listing.specs.Listings.{refusalOf}
 use Rattle.study.specs.declared.Head.{Head}
 use Rattle.study.specs.Studies.{Study, Holds, holds, holdsNone, studyIn}
@@ -30,6 +32,11 @@ tableFor h = flat (tableOf (mag (h .diag)))
 -- a study by its head and its lists
 abbrev pub asked : Head → List ℤ → List ℤ → List Float → List Float → List Float → List ℤ → Given
 asked h addresses gp-map frequencies1 frequencies2 points triplets = given (shapeOf h) addresses gp-map (tableFor h) frequencies1 frequencies2 points triplets
+
+-- that of lists that are lent
+abbrev pub askedIn : Head → Lent ℤ → Lent ℤ → Lent Float → Lent Float → Lent Float → Lent ℤ → Given
+askedIn h addresses gp-map frequencies1 frequencies2 points triplets =
+    asked h (now (addresses .entry)) (now (gp-map .entry)) (now (frequencies1 .entry)) (now (frequencies2 .entry)) (now (points .entry)) (now (triplets .entry))
 
 -- a study of a text with its floats as numbers
 abbrev pub askedOf : Study → Given

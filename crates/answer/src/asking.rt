@@ -6,11 +6,10 @@ ghost use lib.ListN.{length};
 ghost use Rattle.list_laws.specs.Signed.{isBetween};
 ghost use Rattle.question_grids.specs.Ask.{firstNo};
 ghost use Rattle.study.specs.Counts.{fewWeights};
-ghost use Rattle.triplet_study.specs.Given.{given};
-ghost use Rattle.writing.specs.Written.{written};
+ghost use Rattle.triplet_study.specs.Lent.{studyIn};
 ghost use Rattle.answer_weights.specs.Asked.{questionsOf};
-ghost use Rattle.answer_weights.specs.Answers.{answerTo};
-ghost use Rattle.answer.specs.Texts.{asked, shapeOf, tableFor};
+ghost use Rattle.answer_weights.specs.Answers.{answerTo, Wrote};
+ghost use Rattle.answer.specs.Texts.{askedIn, shapeOf, tableFor};
 use study::Head;
 use triplet_study::Shape;
 
@@ -35,7 +34,7 @@ fn first_no(
     points: &[f64],
     triplets: &[i64],
 ) -> u64
-    ensures { λ r. ⌜ r ≡ firstNo (questionsOf (given shape (now (addresses .entry)) (now («gp_map» .entry)) (now (steps .entry)) (now (frequencies1 .entry)) (now (frequencies2 .entry)) (now (points .entry)) (now (triplets .entry)))) ⌝ }
+    ensures { λ r. ⌜ r ≡ firstNo (questionsOf (studyIn shape addresses «gp_map» steps frequencies1 frequencies2 points triplets)) ⌝ }
 {
     let count = (triplets.len() + 2) / 3;
     if !few_weights(shape, points.len(), count) {
@@ -90,8 +89,7 @@ pub fn put_answer(
     triplets: &[i64],
 ) -> usize
     requires { ⌜ (isBetween 0 3 (head .diag) ≡ true) × ((length (now points) ≤ 712) × (length (now triplets) / 3 ≤ 1170)) ⌝ }
-    ensures { λ r. ⌜ r ≡ length (answerTo (asked head (now (addresses .entry)) (now («gp_map» .entry)) (now (frequencies1 .entry)) (now (frequencies2 .entry)) (now (points .entry)) (now (triplets .entry)))) ⌝ }
-    ensures { λ r. ⌜ now (out .exit) ≡ written 0 (answerTo (asked head (now (addresses .entry)) (now («gp_map» .entry)) (now (frequencies1 .entry)) (now (frequencies2 .entry)) (now (points .entry)) (now (triplets .entry)))) (now (out .entry)) ⌝ }
+    ensures { λ r. ⌜ Wrote (answerTo (askedIn head addresses «gp_map» frequencies1 frequencies2 points triplets)) out r ⌝ }
 {
     let shape = shape_of(head);
     let table = table_of(head);

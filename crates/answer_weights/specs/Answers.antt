@@ -1,11 +1,17 @@
 -- The bytes that answer a study.
+use mathlib.Core.Path.{_≡_}
 use mathlib.Core.List.{List}
-use Prim.Native.Nat.{ℕ, zero, suc}
+use Prim.Native.Nat.{ℕ, zero, suc, _≤_}
+use denote.Ref.{now}
+use lib.ListN.{length}
 use Rattle.question_grids.specs.Ask.{firstNo}
-use Rattle.triplet_piece.specs.Study.{Study, sizesOf}
-use Rattle.triplet_study.specs.Given.{Given, studyOf}
+use Rattle.triplet_piece.specs.declared.Sizes.{Sizes}
+use Rattle.triplet_piece.specs.Study.{Study, sizesOf, Ready}
+use Rattle.triplet_study.specs.Given.{Given, givenQuestions, studyOf}
+use Rattle.triplet_study.specs.Lent.{Lent}
 use Rattle.triplet_iw.specs.Whole.{allWeights, allFlags}
 use Rattle.listing.specs.Listings.{listingOf, refusalOf}
+use Rattle.writing.specs.Written.{written}
 use Rattle.answer_weights.specs.Asked.{questionsOf}
 
 -- the listing of all weights of a study
@@ -20,3 +26,11 @@ answerBy (suc n) listing = refusalOf (suc n)
 -- the answer to a well formed text
 unfoldable pub answerTo : Given → List ℕ
 answerTo g = answerBy (firstNo (questionsOf g)) (listingFor (studyOf g))
+
+-- a study that passed 3 to 11, with counts and buffers that fit it, and whose listing fits the output
+abbrev pub Listable : Given → Sizes → ℕ → ℕ → Type 0
+Listable g z weights flags = ((firstNo (givenQuestions g) ≡ 0) × Ready (studyOf g) z weights flags) × (length (listingFor (studyOf g)) ≤ 118617)
+
+-- bytes written at the start of a buffer, and their count given
+abbrev pub Wrote : List ℕ → Lent ℕ → ℕ → Type 0
+Wrote bytes out count = (count ≡ length bytes) × (now (out .exit) ≡ written 0 bytes (now (out .entry)))

@@ -3,11 +3,10 @@ ghost use mathlib.Core.Path.{_≡_};
 ghost use Prim.Native.Nat.{_/_, _≤_};
 ghost use lib.ListN.{length};
 ghost use Rattle.question_grids.specs.Ask.{firstNo};
-ghost use Rattle.triplet_piece.specs.Study.{Ready};
-ghost use Rattle.triplet_study.specs.Given.{given, givenQuestions, studyOf};
-ghost use Rattle.writing.specs.Written.{written};
+ghost use Rattle.triplet_study.specs.Given.{studyOf};
+ghost use Rattle.triplet_study.specs.Lent.{studyNow, studyIn};
 ghost use Rattle.answer_weights.specs.Asked.{questionsOf};
-ghost use Rattle.answer_weights.specs.Answers.{listingFor};
+ghost use Rattle.answer_weights.specs.Answers.{listingFor, Listable, Wrote};
 use triplet_piece::Sizes;
 use triplet_study::Shape;
 
@@ -26,10 +25,8 @@ fn put_weights(
     points: &[f64],
     triplets: &[i64],
 ) -> usize
-    requires { ⌜ (firstNo (givenQuestions (given shape (now addresses) (now «gp_map») (now steps) (now frequencies1) (now frequencies2) (now points) (now triplets))) ≡ 0) × Ready (studyOf (given shape (now addresses) (now «gp_map») (now steps) (now frequencies1) (now frequencies2) (now points) (now triplets))) z (length (now weights)) (length (now flags)) ⌝ }
-    requires { ⌜ length (listingFor (studyOf (given shape (now addresses) (now «gp_map») (now steps) (now frequencies1) (now frequencies2) (now points) (now triplets)))) ≤ 118617 ⌝ }
-    ensures { λ r. ⌜ r ≡ length (listingFor (studyOf (given shape (now (addresses .entry)) (now («gp_map» .entry)) (now (steps .entry)) (now (frequencies1 .entry)) (now (frequencies2 .entry)) (now (points .entry)) (now (triplets .entry))))) ⌝ }
-    ensures { λ r. ⌜ now (out .exit) ≡ written 0 (listingFor (studyOf (given shape (now (addresses .entry)) (now («gp_map» .entry)) (now (steps .entry)) (now (frequencies1 .entry)) (now (frequencies2 .entry)) (now (points .entry)) (now (triplets .entry))))) (now (out .entry)) ⌝ }
+    requires { ⌜ Listable (studyNow shape addresses «gp_map» steps frequencies1 frequencies2 points triplets) z (length (now weights)) (length (now flags)) ⌝ }
+    ensures { λ r. ⌜ Wrote (listingFor (studyOf (studyIn shape addresses «gp_map» steps frequencies1 frequencies2 points triplets))) out r ⌝ }
 {
     triplet_iw::kernel::fill_given(
         shape,
@@ -81,10 +78,9 @@ pub fn put_study(
     points: &[f64],
     triplets: &[i64],
 ) -> usize
-    requires { ⌜ firstNo (questionsOf (given shape (now addresses) (now «gp_map») (now steps) (now frequencies1) (now frequencies2) (now points) (now triplets))) ≡ 0 ⌝ }
+    requires { ⌜ firstNo (questionsOf (studyNow shape addresses «gp_map» steps frequencies1 frequencies2 points triplets)) ≡ 0 ⌝ }
     requires { ⌜ (length (now points) ≤ 712) × (length (now triplets) / 3 ≤ 1170) ⌝ }
-    ensures { λ r. ⌜ r ≡ length (listingFor (studyOf (given shape (now (addresses .entry)) (now («gp_map» .entry)) (now (steps .entry)) (now (frequencies1 .entry)) (now (frequencies2 .entry)) (now (points .entry)) (now (triplets .entry))))) ⌝ }
-    ensures { λ r. ⌜ now (out .exit) ≡ written 0 (listingFor (studyOf (given shape (now (addresses .entry)) (now («gp_map» .entry)) (now (steps .entry)) (now (frequencies1 .entry)) (now (frequencies2 .entry)) (now (points .entry)) (now (triplets .entry))))) (now (out .entry)) ⌝ }
+    ensures { λ r. ⌜ Wrote (listingFor (studyOf (studyIn shape addresses «gp_map» steps frequencies1 frequencies2 points triplets))) out r ⌝ }
 {
     let z = triplet_study::kernel::sizes_of(shape, points.len(), triplets.len() / 3);
     let mut weights = weight_buffer();

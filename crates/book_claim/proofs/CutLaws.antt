@@ -9,9 +9,10 @@ use lib.ListN.{length, getD}
 use borrow.Author.Tests.{eqb-false}
 use Rattle.list_laws.proofs.MapLaws.{getD-map-lt}
 use Rattle.triplet_study.specs.Given.{Given}
-use Rattle.sheet_step.specs.declared.SheetAnswer.{SheetAnswer}
+use Rattle.sheet_marks.specs.declared.SheetAnswer.{SheetAnswer}
+use Rattle.sheet_marks.specs.Tallies.{sheetAnswer}
 use Rattle.sheet_step.specs.Marks.{closed, carriedMarks}
-use Rattle.sheet_step.specs.Steps.{Sheet, Call, carry, verdict, effect, step, stepAnswer, sheetAnswer}
+use Rattle.sheet_step.specs.Steps.{Sheet, Call, carry, verdict, effect, step, stepAnswer}
 use Rattle.sheet_step.proofs.StepLaws.{refused-sheet, done-sheet}
 use Rattle.book_claim.specs.Book.{Book, turn, bookNo, booked, bookAnswers}
 use Rattle.book_claim.specs.Lists.{played, answers}
@@ -46,8 +47,8 @@ module _ (g : Given) where
     where
       go : (n : ℕ) → verdict g s c ≡ n → AreRefused (sheetAnswer n (step g s c .tally) ∷ answers g (step g s c) calls)
           → (AreRefused (answers g (step g s c) calls) → played g (step g s c) calls ≡ step g s c) → played g (step g s c) calls ≡ s
-      go zero e r later = absurd r
-      go (suc n) e r later = later r ∙ sym (refused-sheet g s c (suc n) e (λ z. omega arith))
+      go zero e r later = absurd (r .0)
+      go (suc n) e r later = later (r .1) ∙ sym (refused-sheet g s c (suc n) e (λ z. omega arith))
 
   -- ---- "after an accepted one no 0 is left"
 

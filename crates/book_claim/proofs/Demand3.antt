@@ -7,8 +7,9 @@ use Rattle.list_laws.proofs.MapLaws.{map-replicate, getD-replicate}
 use Rattle.question_grids.specs.Ask.{afterCall}
 use Rattle.triplet_piece.specs.Layout.{pieceAt}
 use Rattle.triplet_study.specs.Given.{Given}
-use Rattle.sheet_step.specs.declared.SheetAnswer.{SheetAnswer}
-use Rattle.sheet_step.specs.Steps.{Sheet, Call, run, carry, average, countsOf, verdict, effect, step, stepAnswer, sheetAnswer}
+use Rattle.sheet_marks.specs.declared.SheetAnswer.{SheetAnswer}
+use Rattle.sheet_marks.specs.Tallies.{sheetAnswer}
+use Rattle.sheet_step.specs.Steps.{Sheet, Call, run, carry, average, countsOf, verdict, effect, step, stepAnswer}
 use Rattle.book_claim.specs.Book.{fresh, Book, markOf, weightBy, flagBy, wordOfWeight, wordOfFlag, render, writes, bookNo, turn, opened, booked, bookAnswers}
 use Rattle.book_claim.specs.Lists.{played, answers}
 use Rattle.book_claim.proofs.EntryLaws.{each-none}

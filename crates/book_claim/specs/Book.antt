@@ -14,8 +14,9 @@ use Rattle.question_grids.specs.Ask.{afterCall}
 use Rattle.triplet_piece.specs.Layout.{pieceAt}
 use Rattle.triplet_piece.specs.Study.{weightAt, flagAt}
 use Rattle.triplet_study.specs.Given.{Given, studyOf}
-use Rattle.sheet_step.specs.declared.SheetAnswer.{SheetAnswer}
-use Rattle.sheet_step.specs.Steps.{Sheet, sheet, Call, run, carry, average, countsOf, verdict, pieceOf, averagedAt, averagedFlagAt, sheetAnswer}
+use Rattle.sheet_marks.specs.declared.SheetAnswer.{SheetAnswer}
+use Rattle.sheet_marks.specs.Tallies.{sheetAnswer}
+use Rattle.sheet_step.specs.Steps.{Sheet, sheet, Call, run, carry, average, countsOf, verdict, pieceOf, averagedAt, averagedFlagAt}
 
 -- ---- what the book holds
 

@@ -9,8 +9,9 @@ use lib.Signed.{mag}
 use Rattle.list_laws.specs.Lists.{oneIf}
 use Rattle.question_grids.specs.Ask.{afterCall}
 use Rattle.triplet_study.specs.Given.{Given}
-use Rattle.sheet_step.specs.declared.SheetAnswer.{SheetAnswer}
-use Rattle.sheet_step.specs.declared.SheetAnswer.the-variants.{Done, Refused}
+use Rattle.sheet_marks.specs.declared.Answer.{Answer}
+use Rattle.sheet_marks.specs.declared.Answer.the-variants.{Done, Refused}
+use Rattle.sheet_marks.specs.declared.SheetAnswer.{SheetAnswer}
 use Rattle.sheet_step.specs.Steps.{Sheet, Call, run, carry, average, countsOf, pieceOf}
 use Rattle.book_claim.specs.Book.{wordAt, Word, fresh, computed, averagedBy, Book, isOpen, openWords, bookNo, turn, booked}
 
@@ -70,8 +71,12 @@ isAveraged (averagedBy ids1 ids2) = true
 
 -- ---- "a sheet on which every call is refused"
 
--- every answer is a refusal
+-- an answer is a refusal
+abbrev pub IsRefused : Answer → Type 0
+IsRefused Done = ⊥
+IsRefused (Refused n) = Unit
+
+-- every answer is
 abbrev pub AreRefused : List SheetAnswer → Type 0
 AreRefused [] = Unit
-AreRefused (Done tally ∷ rest) = ⊥
-AreRefused (Refused n ∷ rest) = AreRefused rest
+AreRefused (a ∷ rest) = IsRefused (a .answer) × AreRefused rest

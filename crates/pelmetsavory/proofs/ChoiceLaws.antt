@@ -2,9 +2,8 @@
 use mathlib.Core.Path.{_≡_, refl, sym, ap, _∙_}
 use mathlib.Core.Bool.{Bool, true, false, cond}
 use mathlib.Core.List.{List, [], _∷_}
-use Prim.Native.Nat.{ℕ, _+_, _^_}
+use Prim.Native.Nat.{ℕ}
 use native.Mathlib.Omega.{arith}
-use lib.Dec.{ltb}
 use lib.Ieee.{Float}
 use lib.IntN.{ℤ, pos}
 use lib.ListN.{replicate}
@@ -25,10 +24,6 @@ use Rattle.relative_grid_address.specs.declared.TableAnswer.{TableAnswer}
 use Rattle.triplet_channels.specs.Types.{tpTypeOf, tpTypeAnswer}
 use Rattle.triplet_channels.specs.declared.TpType.{TpType}
 use Rattle.triplet_channels.specs.declared.TpTypeAnswer.the-variants as type
-use Rattle.sheet_marks.specs.Tallies.{addedTo}
-use Rattle.sheet_marks.specs.declared.Tally.{Tally}
-use Rattle.sheet_marks.specs.declared.Added.the-variants as added
-use Rattle.sheet_step.specs.Steps.{isRoom, tallyQuestions}
 use Rattle.pelmetsavory.specs.Calls.{indexQuestions, latticeQuestions, matvecQuestions, typeQuestions}
 
 -- ---- the grid index
@@ -72,27 +67,6 @@ module _ (z : ℤ) (f : TpType → ℕ) (old : ℕ) where
   pub type-refused : (k : ℕ) → type.Refused k ≡ tpTypeAnswer z → (k ≡ firstNo (typeQuestions z)) × (old ≡ afterCall (firstNo (typeQuestions z)) (f (tpTypeOf z)) old)
   unfolding tpTypeAnswer
   type-refused k h = type-no (isTpType z) (tpTypeOf z) k f old h
-
--- ---- the tally
-
-add-in : (b : Bool) (n old : ℕ) (x : Tally) → added.To x ≡ cond b (added.To (record { runs = n })) (added.Refused 20) → (0 ≡ firstNo (asks 20 b ∷ [])) × (x .runs ≡ afterCall (firstNo (asks 20 b ∷ [])) n old)
-unfolding firstNo
-add-in true n old x h = (refl, ap (λ (y : Tally). y .runs) (let e : x ≡ record { runs = n } = cc in e))
-add-in false n old x h = absurd (let z : _≡_ {A = ℕ} 0 1 = cc in omega arith)
-
-add-no : (b : Bool) (n old k : ℕ) → added.Refused k ≡ cond b (added.To (record { runs = n })) (added.Refused 20) → (k ≡ firstNo (asks 20 b ∷ [])) × (old ≡ afterCall (firstNo (asks 20 b ∷ [])) n old)
-unfolding firstNo
-add-no true n old k h = absurd (let z : _≡_ {A = ℕ} 0 1 = cc in omega arith)
-add-no false n old k h = (cc, refl)
-
-module _ (t runs : ℕ) where
-  pub add-done : (x : Tally) → added.To x ≡ addedTo t runs → (0 ≡ firstNo (tallyQuestions t runs)) × (x .runs ≡ afterCall (firstNo (tallyQuestions t runs)) (t + runs) t)
-  unfolding isRoom
-  add-done x h = add-in (ltb (t + runs) (2 ^ 63)) (t + runs) t x h
-
-  pub add-refused : (k : ℕ) → added.Refused k ≡ addedTo t runs → (k ≡ firstNo (tallyQuestions t runs)) × (t ≡ afterCall (firstNo (tallyQuestions t runs)) (t + runs) t)
-  unfolding isRoom
-  add-refused k h = add-no (ltb (t + runs) (2 ^ 63)) (t + runs) t k h
 
 -- ---- the choice of a table
 

@@ -26,7 +26,6 @@ use Rattle.tetrahedron_method.specs.Answer.{answered}
 use Rattle.tetrahedron_method.specs.declared.WeightAnswer.the-variants as weight
 use Rattle.sheet_marks.specs.OpenCount.{openAnswer}
 use Rattle.sheet_marks.specs.declared.OpenAnswer.the-variants as count
-use Rattle.sheet_marks.specs.declared.Tally.{Tally}
 
 -- ---- answers that hold nothing but the number of a refusal
 

@@ -1,7 +1,9 @@
 -- The questions of calls that ask one or two, in the form of a status, and what two numbers of a foreign caller name.
+use mathlib.Core.Path.{_≡_}
 use mathlib.Core.Bool.{Bool, cond}
 use mathlib.Core.List.{List, [], _∷_}
 use Prim.Native.Nat.{ℕ}
+use denote.Ref.{now}
 use lib.Dec.{eqb}
 use lib.Ieee.{Float}
 use lib.IntN.{ℤ}
@@ -11,6 +13,9 @@ use Rattle.question_grids.specs.Grids.{isMesh}
 use Rattle.question_values.specs.TpTypes.{isTpType}
 use Rattle.tetrahedron_method.specs.declared.WeightFunction.{WeightFunction}
 use Rattle.tetrahedron_method.specs.declared.WeightFunction.the-variants.{I, J}
+use Rattle.triplet_study.specs.Given.{Given}
+use Rattle.triplet_study.specs.Lent.{Lent}
+use Rattle.triplet_iw.specs.Calls.{weightsNo, AreFilled}
 
 -- the letter I (73) names I; any other byte names J, as the source has it: "non-'I' branch: piecewise J"
 unfoldable pub functionOf : ℕ → WeightFunction
@@ -35,3 +40,7 @@ matvecQuestions a b = asks 2 (isLattice a) ∷ asks 7 (isVector b) ∷ []
 -- "Is the type 2, 3 or 4? No: 8"
 abbrev pub typeQuestions : ℤ → List Question
 typeQuestions tp = asks 8 (isTpType tp) ∷ []
+
+-- what a call for weights and flags did: the status, and what it left
+abbrev pub CalledFill : Given → Lent Float → Lent ℤ → ℕ → Type 0
+CalledFill g weights flags status = (status ≡ weightsNo g (now (weights .entry)) (now (flags .entry))) × AreFilled g weights flags

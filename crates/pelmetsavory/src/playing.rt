@@ -1,12 +1,13 @@
 // A whole list of calls on a sheet, in one call.
 ghost use lib.ListN.{length};
-ghost use Rattle.sheet_step.specs.Lent.{studyIn, sheetIn, sheetOut};
+ghost use Rattle.triplet_study.specs.Lent.{studyIn};
+ghost use Rattle.sheet_step.specs.Lent.{sheetIn, sheetOut};
 ghost use Rattle.sheet_list.specs.Calls.{callsOf};
 ghost use Rattle.sheet_list.specs.Play.{listNo, outcome};
 ghost use Rattle.pelmetsavory.specs.Sheets.{CalledPlay};
 use sheet_list::Shape;
-use sheet_list::SheetAnswer;
 use sheet_list::Tally;
+use sheet_marks::kernel::number_of;
 
 // Plays a list of calls, six numbers a call, on a sheet with any marks, and counts the runs behind `tally`. Each call's status goes to its
 // place in `answers`, the tally after it to its place in `tallies`. The status is 0, or 12: has the list six numbers for each of `answers`
@@ -36,7 +37,7 @@ pub extern "C" fn pelmetsavory_play(
 {
     let runs = *tally;
     let before = Tally { runs };
-    match sheet_list::play(
+    let done = sheet_list::play(
         shape,
         addresses,
         gp_map,
@@ -53,11 +54,9 @@ pub extern "C" fn pelmetsavory_play(
         ids,
         answers,
         tallies,
-    ) {
-        SheetAnswer::Done(after) => {
-            *tally = after.runs;
-            0
-        }
-        SheetAnswer::Refused(number) => number,
-    }
+    );
+    let after = done.tally;
+    *tally = after.runs;
+    let answer = done.answer;
+    number_of(answer)
 }

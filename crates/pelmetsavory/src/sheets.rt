@@ -4,17 +4,18 @@ ghost use Prim.Native.Nat.{_*_, _+_};
 ghost use lib.ListN.{length};
 ghost use lib.Signed.{mag};
 ghost use Rattle.question_grids.specs.Ask.{firstNo, afterCall};
-ghost use Rattle.sheet_step.specs.Lent.{studyIn, sheetIn, sheetOut};
-ghost use Rattle.sheet_step.specs.Steps.{run, carry, average, tallyQuestions};
+ghost use Rattle.triplet_study.specs.Lent.{studyIn};
+ghost use Rattle.sheet_step.specs.Lent.{sheetIn, sheetOut};
+ghost use Rattle.sheet_step.specs.Steps.{run, carry, average};
+ghost use Rattle.sheet_marks.specs.Tallies.{tallyQuestions};
 ghost use Rattle.sheet_marks.specs.OpenCount.{openQuestions, zerosFrom, cellsPerTriplet};
 ghost use Rattle.pelmetsavory.specs.Sheets.{Called};
 use crate::Piece;
-use sheet::Added;
 use sheet::Counts;
 use sheet::OpenAnswer;
 use sheet::Shape;
-use sheet::SheetAnswer;
 use sheet::Tally;
+use sheet_marks::kernel::number_of;
 
 // Runs one piece, and counts it behind `tally`. Questions 3 to 15, 20.
 #[no_mangle]
@@ -41,7 +42,7 @@ pub extern "C" fn pelmetsavory_run_piece(
     let triplet = piece.triplet;
     let b1 = piece.b1;
     let b2 = piece.b2;
-    match sheet::run_piece(
+    let done = sheet::run_piece(
         shape,
         addresses,
         gp_map,
@@ -57,13 +58,11 @@ pub extern "C" fn pelmetsavory_run_piece(
         triplet,
         b1,
         b2,
-    ) {
-        SheetAnswer::Done(after) => {
-            *tally = after.runs;
-            0
-        }
-        SheetAnswer::Refused(number) => number,
-    }
+    );
+    let after = done.tally;
+    *tally = after.runs;
+    let answer = done.answer;
+    number_of(answer)
 }
 
 // Runs all pieces marked 0, in ascending order, and counts them behind `tally`. Questions 3 to 13, 20.
@@ -87,7 +86,7 @@ pub extern "C" fn pelmetsavory_carry_on(
 {
     let runs = *tally;
     let before = Tally { runs };
-    match sheet::carry_on(
+    let done = sheet::carry_on(
         shape,
         addresses,
         gp_map,
@@ -100,13 +99,11 @@ pub extern "C" fn pelmetsavory_carry_on(
         flags,
         marks,
         before,
-    ) {
-        SheetAnswer::Done(after_all) => {
-            *tally = after_all.runs;
-            0
-        }
-        SheetAnswer::Refused(number) => number,
-    }
+    );
+    let after_all = done.tally;
+    *tally = after_all.runs;
+    let answer = done.answer;
+    number_of(answer)
 }
 
 // Averages a triplet over the degenerate sets of two id lists; the tally stays. Questions 3 to 19.
@@ -133,7 +130,7 @@ pub extern "C" fn pelmetsavory_average_triplet(
 {
     let runs = *tally;
     let before = Tally { runs };
-    match sheet::average_triplet(
+    let done = sheet::average_triplet(
         shape,
         addresses,
         gp_map,
@@ -149,13 +146,11 @@ pub extern "C" fn pelmetsavory_average_triplet(
         triplet,
         degenerate_ids1,
         degenerate_ids2,
-    ) {
-        SheetAnswer::Done(same) => {
-            *tally = same.runs;
-            0
-        }
-        SheetAnswer::Refused(number) => number,
-    }
+    );
+    let same = done.tally;
+    *tally = same.runs;
+    let answer = done.answer;
+    number_of(answer)
 }
 
 // The open count of a triplet, behind `count`. Questions 9, 12, 14.
@@ -187,11 +182,9 @@ pub extern "C" fn pelmetsavory_tally_add(tally: &mut u64, runs: u64) -> u64
 {
     let before = *tally;
     let counted = Tally { runs: before };
-    match counted.add(runs) {
-        Added::To(sum) => {
-            *tally = sum.runs;
-            0
-        }
-        Added::Refused(number) => number,
-    }
+    let added = counted.add(runs);
+    let sum = added.tally;
+    *tally = sum.runs;
+    let answer = added.answer;
+    number_of(answer)
 }

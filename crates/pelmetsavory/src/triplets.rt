@@ -3,13 +3,11 @@ ghost use mathlib.Core.Path.{_≡_};
 ghost use lib.ListN.{length};
 ghost use Rattle.triplet_channels.specs.Types.{tpTypeOf, channelCount};
 ghost use Rattle.question_grids.specs.Ask.{firstNo, afterCall};
-ghost use Rattle.triplet_study.specs.Given.{given, studyOf};
-ghost use Rattle.triplet_iw.specs.Whole.{allWeights, allFlags};
-ghost use Rattle.triplet_iw.specs.Calls.{weightsQuestions};
+ghost use Rattle.triplet_study.specs.Lent.{studyIn, studyOfOne};
 ghost use Rattle.averaging.specs.Answers.{averagingNo, weightsAfter, flagsAfter};
 ghost use Rattle.triplet_addresses.specs.Normal.{isNQuestions, isNormal};
 ghost use Rattle.triplet_addresses.specs.Copies.{copyQuestions, bothCopies};
-ghost use Rattle.pelmetsavory.specs.Calls.{oneOf, typeQuestions};
+ghost use Rattle.pelmetsavory.specs.Calls.{CalledFill, oneOf, typeQuestions};
 use crate::Triple;
 use crate::choice;
 use averaging::AveragingAnswer;
@@ -34,11 +32,8 @@ pub extern "C" fn pelmetsavory_integration_weight(
     weights: &mut [f64],
     flags: &mut [i8],
 ) -> u64
-    ensures { λ r. ⌜ r ≡ firstNo (weightsQuestions (given shape (now (addresses .entry)) (now («gp_map» .entry)) (now («relative_grid_address» .entry)) (now (frequencies1 .entry)) (now (frequencies2 .entry)) (now («frequency_points» .entry)) (now (triplets .entry))) (length (now (weights .entry))) (length (now (flags .entry)))) ⌝ }
-    ensures { λ r. ⌜ now (weights .exit) ≡ afterCall (firstNo (weightsQuestions (given shape (now (addresses .entry)) (now («gp_map» .entry)) (now («relative_grid_address» .entry)) (now (frequencies1 .entry)) (now (frequencies2 .entry)) (now («frequency_points» .entry)) (now (triplets .entry))) (length (now (weights .entry))) (length (now (flags .entry)))))
-        (allWeights (studyOf (given shape (now (addresses .entry)) (now («gp_map» .entry)) (now («relative_grid_address» .entry)) (now (frequencies1 .entry)) (now (frequencies2 .entry)) (now («frequency_points» .entry)) (now (triplets .entry))))) (now (weights .entry)) ⌝ }
-    ensures { λ r. ⌜ now (flags .exit) ≡ afterCall (firstNo (weightsQuestions (given shape (now (addresses .entry)) (now («gp_map» .entry)) (now («relative_grid_address» .entry)) (now (frequencies1 .entry)) (now (frequencies2 .entry)) (now («frequency_points» .entry)) (now (triplets .entry))) (length (now (weights .entry))) (length (now (flags .entry)))))
-        (allFlags (studyOf (given shape (now (addresses .entry)) (now («gp_map» .entry)) (now («relative_grid_address» .entry)) (now (frequencies1 .entry)) (now (frequencies2 .entry)) (now («frequency_points» .entry)) (now (triplets .entry))))) (now (flags .entry)) ⌝ }
+    ensures { λ r. ⌜ CalledFill (studyIn shape addresses «gp_map» «relative_grid_address» frequencies1 frequencies2 «frequency_points» triplets)
+        weights flags r ⌝ }
 {
     match triplet::integration_weight(
         shape,
@@ -71,11 +66,8 @@ pub extern "C" fn pelmetsavory_integration_weight_per_triplet(
     weights: &mut [f64],
     flags: &mut [i8],
 ) -> u64
-    ensures { λ r. ⌜ r ≡ firstNo (weightsQuestions (given shape (now (addresses .entry)) (now («gp_map» .entry)) (now («relative_grid_address» .entry)) (now (frequencies1 .entry)) (now (frequencies2 .entry)) (now («frequency_points» .entry)) (triplet .numbers)) (length (now (weights .entry))) (length (now (flags .entry)))) ⌝ }
-    ensures { λ r. ⌜ now (weights .exit) ≡ afterCall (firstNo (weightsQuestions (given shape (now (addresses .entry)) (now («gp_map» .entry)) (now («relative_grid_address» .entry)) (now (frequencies1 .entry)) (now (frequencies2 .entry)) (now («frequency_points» .entry)) (triplet .numbers)) (length (now (weights .entry))) (length (now (flags .entry)))))
-        (allWeights (studyOf (given shape (now (addresses .entry)) (now («gp_map» .entry)) (now («relative_grid_address» .entry)) (now (frequencies1 .entry)) (now (frequencies2 .entry)) (now («frequency_points» .entry)) (triplet .numbers)))) (now (weights .entry)) ⌝ }
-    ensures { λ r. ⌜ now (flags .exit) ≡ afterCall (firstNo (weightsQuestions (given shape (now (addresses .entry)) (now («gp_map» .entry)) (now («relative_grid_address» .entry)) (now (frequencies1 .entry)) (now (frequencies2 .entry)) (now («frequency_points» .entry)) (triplet .numbers)) (length (now (weights .entry))) (length (now (flags .entry)))))
-        (allFlags (studyOf (given shape (now (addresses .entry)) (now («gp_map» .entry)) (now («relative_grid_address» .entry)) (now (frequencies1 .entry)) (now (frequencies2 .entry)) (now («frequency_points» .entry)) (triplet .numbers)))) (now (flags .entry)) ⌝ }
+    ensures { λ r. ⌜ CalledFill (studyOfOne shape addresses «gp_map» «relative_grid_address» frequencies1 frequencies2 «frequency_points» (triplet .numbers))
+        weights flags r ⌝ }
 {
     let triplet = triplet.numbers;
     match triplet_iw::integration_weight_per_triplet(

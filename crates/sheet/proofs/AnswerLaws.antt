@@ -1,7 +1,7 @@
 -- The answer of a call by its number and the tally that it left; the second copy of the steps in its array. Assumes nothing.
-use mathlib.Core.Path.{_≡_, refl, sym, ap, _∙_, subst}
+use mathlib.Core.Path.{_≡_, sym, ap, _∙_}
 use mathlib.Core.List.{List}
-use Prim.Native.Nat.{ℕ, zero, suc, _≤_}
+use Prim.Native.Nat.{ℕ, _≤_}
 use native.Mathlib.Omega.{arith}
 use lib.Ieee.{Float}
 use lib.IntN.{ℤ, pos}
@@ -11,32 +11,21 @@ use Rattle.list_laws.proofs.FillLaws.{length-area}
 use Rattle.triplet_channels.specs.declared.TpType.{TpType}
 use Rattle.triplet_corners.specs.Corners.{stepOf, secondArea}
 use Rattle.triplet_study.specs.Given.{Given}
-use Rattle.sheet_step.specs.declared.SheetAnswer.{SheetAnswer}
-use Rattle.sheet_step.specs.declared.SheetAnswer.the-variants.{Done, Refused}
-use Rattle.sheet_step.specs.Steps.{Sheet, sheet, Call, Did, runsAfter, step, sheetAnswer}
-use Rattle.sheet_step.proofs.StepLaws.{refused-sheet}
+use Rattle.sheet_marks.specs.declared.SheetAnswer.{SheetAnswer}
+use Rattle.sheet_marks.specs.Tallies.{sheetAnswer}
+use Rattle.sheet_step.specs.Steps.{Sheet, sheet, Call, Did}
 use Rattle.sheet_turn.specs.Turns.{Turned}
 
-pub answer-refused : (number runs : ℕ) → (number ≡ 0 → ⊥) → Refused number ≡ sheetAnswer number runs
-answer-refused zero runs h = absurd (h refl)
-answer-refused (suc n) runs h = refl
+pub answer-done : (number runs : ℕ) → number ≡ 0 → sheetAnswer 0 runs ≡ sheetAnswer number runs
+answer-done number runs e = ap (λ (n : ℕ). sheetAnswer n runs) (sym e)
 
-pub answer-done : (number runs : ℕ) → number ≡ 0 → Done (record { runs = runs }) ≡ sheetAnswer number runs
-answer-done zero runs e = refl
-answer-done (suc n) runs e = absurd (let z : ⊥ = omega arith in z)
-
-module _ (g : Given) (s : Sheet) (c : Call) (w : List Float) (f : List ℤ) (m : List ℕ) where
-  left : (number runs : ℕ) → Turned g s c number (sheet w f m runs) → sheet w f m (runsAfter (sheetAnswer number runs) (s .tally)) ≡ step g s c
-  left zero runs t = t .leaves
-  left (suc n) runs t =
-      let e : s .tally ≡ runs = ap (λ (x : Sheet). x .tally) (refused-sheet g s c (suc n) (sym (t .says)) (λ z. omega arith)) ∙ sym (ap (λ (x : Sheet). x .tally) (t .leaves)) in
-      (λ i. sheet w f m (e i)) ∙ t .leaves
-
-  -- what a call did, once its questions 3 to 13 said yes
-  pub did : (number runs : ℕ) (a : SheetAnswer) → Turned g s c number (sheet w f m runs) → a ≡ sheetAnswer number runs → Did g s c a (sheet w f m (runsAfter a (s .tally)))
-  did number runs a t e =
-      subst (λ (x : SheetAnswer). Did g s c x (sheet w f m (runsAfter x (s .tally)))) (sym e)
-      (record { answers = λ i. sheetAnswer (t .says i) (t .leaves i .tally); leaves = left number runs t })
+-- what a call did, once its questions 3 to 13 said yes
+pub did : (g : Given) (s : Sheet) (c : Call) (w : List Float) (f : List ℤ) (m : List ℕ) (number runs : ℕ) (a : SheetAnswer) → Turned g s c number (sheet w f m runs) → a ≡ sheetAnswer number runs
+    → Did g s c a (sheet w f m (a .tally .runs))
+did g s c w f m number runs a t e = record {
+  answers = e ∙ (λ i. sheetAnswer (t .says i) (t .leaves i .tally));
+  leaves = ap (λ (x : SheetAnswer). sheet w f m (x .tally .runs)) e ∙ t .leaves;
+}
 
 pub copy-fits : (tp : TpType) (steps a : List ℤ) → a ≡ secondArea tp steps → length steps ≤ 1152 → length steps ≤ length a
 unfolding secondArea

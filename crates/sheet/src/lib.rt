@@ -1,24 +1,31 @@
 // The run sheet: run a named piece, carry on, average a triplet. Weights lie by channel, triplet, point, b1, b2; flags without
 // the channel; marks by triplet, b1, b2.
 ghost use mathlib.Core.Path.{_≡_};
-ghost use Rattle.sheet_step.specs.Lent.{studyIn, sheetIn, sheetOut};
-ghost use Rattle.sheet_step.specs.Steps.{run, carry, average, Did, runsAfter, sheetAnswer};
-pub use sheet_marks::Added;
+ghost use Rattle.triplet_study.specs.Lent.{studyIn};
+ghost use Rattle.sheet_step.specs.Lent.{sheetIn, sheetOut};
+ghost use Rattle.sheet_marks.specs.Tallies.{sheetAnswer};
+ghost use Rattle.sheet_step.specs.Steps.{run, carry, average, Did};
+pub use sheet_marks::Answer;
 pub use sheet_marks::Counts;
 pub use sheet_marks::OpenAnswer;
+pub use sheet_marks::SheetAnswer;
 pub use sheet_marks::Tally;
+use sheet_marks::kernel::refused;
 pub use sheet_marks::open_count;
-pub use sheet_step::SheetAnswer;
 pub use triplet_study::Shape;
 
 // The answer of a call by its number and the tally after it.
 fn answer_of(no: u64, runs: u64) -> SheetAnswer
     ensures { λ r. ⌜ r ≡ sheetAnswer no runs ⌝ }
 {
+    let tally = Tally { runs };
     if no != 0 {
-        return SheetAnswer::Refused(no);
+        return refused(no, tally);
     }
-    SheetAnswer::Done(Tally { runs })
+    SheetAnswer {
+        answer: Answer::Done,
+        tally,
+    }
 }
 
 // Runs the piece of a triplet and two bands: its entries at every point, in every channel, and its mark. Questions 3 to 15, 20.
@@ -40,7 +47,7 @@ pub fn run_piece(
     b2: i64,
 ) -> SheetAnswer
     ensures { λ r. ⌜ Did (studyIn shape addresses «gp_map» «relative_grid_address» frequencies1 frequencies2 «frequency_points» triplets)
-        (sheetIn weights flags marks (tally .runs)) (run triplet b1 b2) r (sheetOut weights flags marks (runsAfter r (tally .runs))) ⌝ }
+        (sheetIn weights flags marks (tally .runs)) (run triplet b1 b2) r (sheetOut weights flags marks (r .tally .runs)) ⌝ }
 {
     let no = sheet_step::kernel::asks::common_no(
         shape,
@@ -56,7 +63,7 @@ pub fn run_piece(
         marks,
     );
     if no != 0 {
-        return SheetAnswer::Refused(no);
+        return refused(no, tally);
     }
     let z = triplet_study::kernel::sizes_of(shape, frequency_points.len(), triplets.len() / 3);
     let tp_type = shape.tp_type;
@@ -133,7 +140,7 @@ pub fn carry_on(
     tally: Tally,
 ) -> SheetAnswer
     ensures { λ r. ⌜ Did (studyIn shape addresses «gp_map» «relative_grid_address» frequencies1 frequencies2 «frequency_points» triplets)
-        (sheetIn weights flags marks (tally .runs)) carry r (sheetOut weights flags marks (runsAfter r (tally .runs))) ⌝ }
+        (sheetIn weights flags marks (tally .runs)) carry r (sheetOut weights flags marks (r .tally .runs)) ⌝ }
 {
     let no = sheet_step::kernel::asks::common_no(
         shape,
@@ -149,7 +156,7 @@ pub fn carry_on(
         marks,
     );
     if no != 0 {
-        return SheetAnswer::Refused(no);
+        return refused(no, tally);
     }
     let z = triplet_study::kernel::sizes_of(shape, frequency_points.len(), triplets.len() / 3);
     let tp_type = shape.tp_type;
@@ -226,7 +233,7 @@ pub fn average_triplet(
     degenerate_ids2: &[i64],
 ) -> SheetAnswer
     ensures { λ r. ⌜ Did (studyIn shape addresses «gp_map» «relative_grid_address» frequencies1 frequencies2 «frequency_points» triplets)
-        (sheetIn weights flags marks (tally .runs)) (average triplet (now («degenerate_ids1» .entry)) (now («degenerate_ids2» .entry))) r (sheetOut weights flags marks (runsAfter r (tally .runs))) ⌝ }
+        (sheetIn weights flags marks (tally .runs)) (average triplet (now («degenerate_ids1» .entry)) (now («degenerate_ids2» .entry))) r (sheetOut weights flags marks (r .tally .runs)) ⌝ }
 {
     let no = sheet_step::kernel::asks::common_no(
         shape,
@@ -242,7 +249,7 @@ pub fn average_triplet(
         marks,
     );
     if no != 0 {
-        return SheetAnswer::Refused(no);
+        return refused(no, tally);
     }
     let z = triplet_study::kernel::sizes_of(shape, frequency_points.len(), triplets.len() / 3);
     let runs = tally.runs;

@@ -7,7 +7,7 @@ use Rattle.triplet_study.specs.Given.{Given}
 use Rattle.sheet_step.specs.Steps.{Sheet, Call, step}
 use Rattle.book_claim.specs.Book.{Book, opened, render, turn}
 use Rattle.book_claim.proofs.Demand3.{demand-3, same-step, opened-is}
-use Rattle.sheet_list.specs.Play.{numberOf, tallies, outcome, outcomeOf}
+use Rattle.sheet_list.specs.Play.{numberIn, tallies, outcome, outcomeOf}
 use Rattle.sheet_list.specs.Booked.{bookTallies, bookOutcome}
 
 module _ (g : Given) (start : Sheet) where
@@ -25,4 +25,4 @@ module _ (g : Given) (start : Sheet) where
   pub played-booked : (calls : List Call) → start .marks ≡ replicate (length (start .marks)) 0 → outcomeOf g start calls ≡ bookOutcome g start calls
   unfolding outcomeOf bookOutcome
   played-booked calls o =
-      λ i. outcome (demand-3 g start o calls .0 i) (map numberOf (demand-3 g start o calls .1 i)) (all-tallies calls (opened start) start (opened-is g start o) i)
+      λ i. outcome (demand-3 g start o calls .0 i) (map numberIn (demand-3 g start o calls .1 i)) (all-tallies calls (opened start) start (opened-is g start o) i)

@@ -15,25 +15,22 @@ use lib.Dec.{eqb}
 use Rattle.list_laws.proofs.BoolLaws.{and-left, and-right}
 use Rattle.question_grids.specs.Ask.{asks, firstNo, afterCall}
 use Rattle.question_grids.proofs.AskLaws.{all-yes, after-done, after-refused}
-use Rattle.sheet_step.specs.declared.SheetAnswer.the-variants.{Done, Refused}
+use Rattle.sheet_marks.specs.Tallies.{refusedWith, sheetAnswer}
+use Rattle.sheet_marks.proofs.TallyLaws.{refused-is, number-is as number-of}
 use Rattle.triplet_study.specs.Given.{Given}
-use Rattle.sheet_step.specs.declared.SheetAnswer.{SheetAnswer}
-use Rattle.sheet_step.specs.Steps.{Sheet, sheet, Call, verdict, step, stepAnswer, sheetAnswer}
+use Rattle.sheet_marks.specs.declared.SheetAnswer.{SheetAnswer}
+use Rattle.sheet_step.specs.Steps.{Sheet, sheet, Call, verdict, step, stepAnswer}
 use Rattle.sheet_step.proofs.StepLaws.{verdict-common, refused-sheet}
 use Rattle.book_claim.specs.Lists.{played, answers}
 use Rattle.book_claim.proofs.CutLaws.{played-cut, answers-cut}
 use Rattle.sheet_list.specs.Calls.{callAt, callsOf}
 use Rattle.sheet_turn.specs.Turns.{commonNo, Turned}
-use Rattle.sheet_list.specs.Play.{areListLengths, listNo, numberOf, numbers, tallies, Outcome, outcome, outcomeOf, DidPlay}
+use Rattle.sheet_list.specs.Play.{areListLengths, listNo, numberIn, numbers, tallies, outcome, outcomeOf, DidPlay}
 use Rattle.sheet_list.proofs.KeptLaws.{common-kept}
 
 -- the number of an answer is the verdict
-number-is : (g : Given) (s : Sheet) (c : Call) → numberOf (stepAnswer g s c) ≡ verdict g s c
-number-is g s c = go (verdict g s c) (step g s c .tally)
-  where
-    go : (n t : ℕ) → numberOf (sheetAnswer n t) ≡ n
-    go zero t = refl
-    go (suc n) t = refl
+number-is : (g : Given) (s : Sheet) (c : Call) → numberIn (stepAnswer g s c) ≡ verdict g s c
+number-is g s c = number-of (verdict g s c)
 
 -- ---- the first calls
 
@@ -82,8 +79,8 @@ module _ (g : Given) (start : Sheet) (call : ℕ → Call) where
   all-numbers (suc n) =
       ap (λ (l : List ℕ). l ++ (numberAfter n ∷ [])) (all-numbers n)
       ∙ ap (λ (k : ℕ). numbers g start (tabulate n call) ++ (k ∷ [])) (sym (number-is g (after n) (call n)))
-      ∙ sym (map-append numberOf (answers g start (tabulate n call)) (stepAnswer g (after n) (call n) ∷ []))
-      ∙ ap (map numberOf) (sym (answers-cut g start (tabulate n call) (call n ∷ [])))
+      ∙ sym (map-append numberIn (answers g start (tabulate n call)) (stepAnswer g (after n) (call n) ∷ []))
+      ∙ ap (map numberIn) (sym (answers-cut g start (tabulate n call) (call n ∷ [])))
 
 pub tallies-cut : (g : Given) (s : Sheet) (first rest : List Call) → tallies g s (first ++ rest) ≡ tallies g s first ++ tallies g (played g s first) rest
 tallies-cut g s [] rest = refl
@@ -112,7 +109,7 @@ module _ (g : Given) (s : Sheet) (n : ℕ) (e : n ≡ commonNo g s) (h : n ≡ 0
   pub numbers-refused : (calls : List Call) → numbers g s calls ≡ replicate (length calls) n
   numbers-refused [] = refl
   numbers-refused (c ∷ calls) =
-      ap (λ (x : Sheet). numberOf (stepAnswer g s c) ∷ numbers g x calls) (stays c)
+      ap (λ (x : Sheet). numberIn (stepAnswer g s c) ∷ numbers g x calls) (stays c)
       ∙ ap (λ (k : ℕ). k ∷ numbers g s calls) (number-is g s c ∙ refused c)
       ∙ ap (λ (l : List ℕ). n ∷ l) (numbers-refused calls)
 
@@ -182,18 +179,19 @@ list-yes list answers tallies e =
 
 -- what playing a list did, refused by its own question or done
 module _ (g : Given) (s : Sheet) (calls : List Call) (number : ℕ) (answers tallies : List ℕ) where
-  pub play-refused : {n : ℕ} → n ≡ number → (n ≡ 0 → ⊥) → DidPlay g s calls number answers tallies (Refused n) (outcome s answers tallies)
-  play-refused {n} e h = record { answers-with = refused number e; leaves = after-refused number (outcomeOf g s calls) (outcome s answers tallies) (λ z. h (e ∙ z)) }
-    where
-      refused : (m : ℕ) → n ≡ m → Refused n ≡ sheetAnswer m (played g s calls .tally)
-      refused zero q = absurd (h q)
-      refused (suc m) q = ap (λ (k : ℕ). Refused k) q
+  pub play-refused : {n : ℕ} (a : SheetAnswer) → n ≡ number → (n ≡ 0 → ⊥) → a ≡ refusedWith n (s .tally)
+      → DidPlay g s calls number answers tallies a (outcome (sheet (s .weights) (s .flags) (s .marks) (a .tally .runs)) answers tallies)
+  play-refused {n} a e h r =
+      let q : a ≡ sheetAnswer number (s .tally) = r ∙ refused-is n (s .tally) h ∙ ap (λ (k : ℕ). sheetAnswer k (s .tally)) e in
+      record {
+        answers-with = q ∙ ap (λ (x : SheetAnswer). sheetAnswer number (x .tally .runs)) (sym q);
+        leaves = ap (λ (x : SheetAnswer). outcome (sheet (s .weights) (s .flags) (s .marks) (x .tally .runs)) answers tallies) q
+            ∙ after-refused number (outcomeOf g s calls) (outcome s answers tallies) (λ z. h (e ∙ z));
+      }
 
   pub play-done : (runs : ℕ) (w : List Float) (f : List ℤ) (m a t : List ℕ) → number ≡ 0 → outcome (sheet w f m runs) a t ≡ outcomeOf g s calls
-      → DidPlay g s calls number answers tallies (Done (record { runs = runs })) (outcome (sheet w f m runs) a t)
-  unfolding outcomeOf
-  play-done runs w f m a t e q = record { answers-with = done number e; leaves = q ∙ after-done number (outcomeOf g s calls) (outcome s answers tallies) e }
-    where
-      done : (n : ℕ) → n ≡ 0 → Done (record { runs = runs }) ≡ sheetAnswer n (played g s calls .tally)
-      done zero z = ap (λ (x : Outcome). Done (record { runs = x .sheet .tally })) q
-      done (suc n) z = absurd (let k : ⊥ = omega arith in k)
+      → DidPlay g s calls number answers tallies (sheetAnswer 0 runs) (outcome (sheet w f m runs) a t)
+  play-done runs w f m a t e q = record {
+    answers-with = ap (λ (n : ℕ). sheetAnswer n runs) (sym e);
+    leaves = q ∙ after-done number (outcomeOf g s calls) (outcome s answers tallies) e;
+  }

@@ -14,7 +14,7 @@ use Rattle.sheet_step.specs.Steps.{Sheet, Call}
 use Rattle.book_claim.specs.Lists.{played, answers}
 use Rattle.book_claim.proofs.CutLaws.{played-cut, answers-cut}
 use Rattle.sheet_list.specs.Calls.{numberAt, callOf, callAt, callsOf}
-use Rattle.sheet_list.specs.Play.{numberOf, numbers, tallies}
+use Rattle.sheet_list.specs.Play.{numberIn, numbers, tallies}
 use Rattle.sheet_list.proofs.ListLaws.{tallies-cut}
 
 tabulate-cut : {A : Type 0} (n k : ℕ) (f : ℕ → A) → tabulate (n + k) f ≡ tabulate n f ++ tabulate k (λ i. f (n + i))
@@ -63,8 +63,8 @@ module _ (first rest ids : List ℤ) (n : ℕ) (h : length first ≡ n * 6) wher
       → numbers g s (callsOf (first ++ rest) ids) ≡ numbers g s (callsOf first ids) ++ numbers g (played g s (callsOf first ids)) (callsOf rest ids)
   numbers-resumed g s =
       ap (numbers g s) calls-cut
-      ∙ ap (map numberOf) (answers-cut g s (callsOf first ids) (callsOf rest ids))
-      ∙ map-append numberOf (answers g s (callsOf first ids)) (answers g (played g s (callsOf first ids)) (callsOf rest ids))
+      ∙ ap (map numberIn) (answers-cut g s (callsOf first ids) (callsOf rest ids))
+      ∙ map-append numberIn (answers g s (callsOf first ids)) (answers g (played g s (callsOf first ids)) (callsOf rest ids))
 
   pub tallies-resumed : (g : Given) (s : Sheet)
       → tallies g s (callsOf (first ++ rest) ids) ≡ tallies g s (callsOf first ids) ++ tallies g (played g s (callsOf first ids)) (callsOf rest ids)

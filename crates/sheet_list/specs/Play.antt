@@ -6,9 +6,9 @@ use Prim.Native.Nat.{ℕ, _*_}
 use lib.Dec.{eqb}
 use Rattle.question_grids.specs.Ask.{Question, asks, firstNo, afterCall}
 use Rattle.triplet_study.specs.Given.{Given}
-use Rattle.sheet_step.specs.declared.SheetAnswer.{SheetAnswer}
-use Rattle.sheet_step.specs.declared.SheetAnswer.the-variants.{Done, Refused}
-use Rattle.sheet_step.specs.Steps.{Sheet, Call, step, sheetAnswer}
+use Rattle.sheet_marks.specs.declared.SheetAnswer.{SheetAnswer}
+use Rattle.sheet_marks.specs.Tallies.{answerNumber, sheetAnswer}
+use Rattle.sheet_step.specs.Steps.{Sheet, Call, step}
 use Rattle.book_claim.specs.Lists.{played, answers}
 
 -- ---- what it asks
@@ -23,14 +23,13 @@ listNo list answers tallies = firstNo (asks 12 (areListLengths list answers tall
 
 -- ---- what it leaves
 
--- the number of an answer: 0 done, otherwise that of the first no
-abbrev pub numberOf : SheetAnswer → ℕ
-numberOf (Done tally) = 0
-numberOf (Refused n) = n
+-- the number of a call's answer: 0 done, otherwise that of the first no
+abbrev pub numberIn : SheetAnswer → ℕ
+numberIn a = answerNumber (a .answer)
 
 -- "for each call accepted or which number"
 abbrev pub numbers : Given → Sheet → List Call → List ℕ
-numbers g s calls = map numberOf (answers g s calls)
+numbers g s calls = map numberIn (answers g s calls)
 
 -- the tally after each of the calls
 abbrev pub tallies : Given → Sheet → List Call → List ℕ
@@ -51,7 +50,7 @@ outcome sheet numbers tallies = record { sheet = sheet; numbers = numbers; talli
 unfoldable pub outcomeOf : Given → Sheet → List Call → Outcome
 outcomeOf g s calls = outcome (played g s calls) (numbers g s calls) (tallies g s calls)
 
--- What playing a list did: its answer by the number of its first no, and what it left.
+-- What playing a list did: its answer by the number of its first no, with the tally that it left, and what it left.
 pub record DidPlay (g : Given) (s : Sheet) (calls : List Call) (number : ℕ) (answers tallies : List ℕ) (answer : SheetAnswer) (left : Outcome) : Type 0 where
-  pub answers-with : answer ≡ sheetAnswer number (played g s calls .tally)
+  pub answers-with : answer ≡ sheetAnswer number (left .sheet .tally)
   pub leaves : left ≡ afterCall number (outcomeOf g s calls) (outcome s answers tallies)

@@ -2,7 +2,8 @@
 ghost use mathlib.Core.Path.{_≡_};
 ghost use Prim.Native.Nat.{_*_};
 ghost use lib.ListN.{length};
-ghost use Rattle.sheet_step.specs.Lent.{studyIn, sheetIn, sheetOut};
+ghost use Rattle.triplet_study.specs.Lent.{studyIn};
+ghost use Rattle.sheet_step.specs.Lent.{sheetIn, sheetOut};
 ghost use Rattle.sheet_turn.specs.Turns.{studyNow, sheetNow, commonNo, Prepared};
 ghost use Rattle.sheet_list.specs.Calls.{callsOf};
 ghost use Rattle.sheet_list.specs.Play.{outcome, outcomeOf};

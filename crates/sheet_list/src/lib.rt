@@ -1,11 +1,12 @@
 // Lists of calls on a run sheet: what all calls ask is asked once.
 ghost use lib.ListN.{length};
-ghost use Rattle.sheet_step.specs.Lent.{studyIn, sheetIn, sheetOut};
-ghost use Rattle.sheet_step.specs.Steps.{runsAfter};
+ghost use Rattle.triplet_study.specs.Lent.{studyIn};
+ghost use Rattle.sheet_step.specs.Lent.{sheetIn, sheetOut};
 ghost use Rattle.sheet_list.specs.Calls.{callsOf};
 ghost use Rattle.sheet_list.specs.Play.{listNo, outcome, DidPlay};
+pub use sheet_marks::Answer;
+pub use sheet_marks::SheetAnswer;
 pub use sheet_marks::Tally;
-pub use sheet_step::SheetAnswer;
 pub use triplet_study::Shape;
 
 mod along;
@@ -36,11 +37,11 @@ pub fn play(
 ) -> SheetAnswer
     ensures { λ r. ⌜ DidPlay (studyIn shape addresses «gp_map» «relative_grid_address» frequencies1 frequencies2 «frequency_points» triplets) (sheetIn weights flags marks (tally .runs)) (callsOf (now (list .entry)) (now (ids .entry)))
         (listNo (length (now (list .entry))) (length (now (answers .entry))) (length (now (tallies .entry))))
-        (now (answers .entry)) (now (tallies .entry)) r (outcome (sheetOut weights flags marks (runsAfter r (tally .runs))) (now (answers .exit)) (now (tallies .exit))) ⌝ }
+        (now (answers .entry)) (now (tallies .entry)) r (outcome (sheetOut weights flags marks (r .tally .runs)) (now (answers .exit)) (now (tallies .exit))) ⌝ }
 {
     let own = asks::list_no(list, answers, tallies);
     if own != 0 {
-        return SheetAnswer::Refused(own);
+        return sheet_marks::kernel::refused(own, tally);
     }
     let before = tally.runs;
     let runs = along::play_all(
@@ -61,5 +62,8 @@ pub fn play(
         answers,
         tallies,
     );
-    SheetAnswer::Done(Tally { runs })
+    SheetAnswer {
+        answer: Answer::Done,
+        tally: Tally { runs },
+    }
 }

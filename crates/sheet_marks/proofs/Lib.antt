@@ -1,2 +1,3 @@
 -- Laws that several proofs cite.
 pub mod CountLaws
+pub mod TallyLaws

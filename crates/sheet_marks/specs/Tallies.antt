@@ -1,10 +1,39 @@
--- The tally of accepted runs.
-use mathlib.Core.Bool.{cond}
-use Prim.Native.Nat.{ℕ, _+_, _^_}
+-- The tally of accepted runs, and the answer that it comes back with.
+use mathlib.Core.Bool.{Bool}
+use mathlib.Core.List.{List, [], _∷_}
+use Prim.Native.Nat.{ℕ, zero, suc, _+_, _^_}
 use lib.Dec.{ltb}
-use Rattle.sheet_marks.specs.declared.Added.{Added}
-use Rattle.sheet_marks.specs.declared.Added.the-variants.{To, Refused}
+use Rattle.question_grids.specs.Ask.{Question, asks, firstNo, afterCall}
+use Rattle.sheet_marks.specs.declared.Answer.{Answer}
+use Rattle.sheet_marks.specs.declared.Answer.the-variants.{Done, Refused}
+use Rattle.sheet_marks.specs.declared.SheetAnswer.{SheetAnswer}
 
--- Question 20: "does the tally stay below 2^63 after all runs of this call?" Otherwise it is refused with 20.
-abbrev pub addedTo : ℕ → ℕ → Added
-addedTo tally runs = cond (ltb (tally + runs) (2 ^ 63)) (To (record { runs = tally + runs })) (Refused 20)
+-- the answer by the number of the first no: 0 is done, any other is the refusal
+abbrev pub answerOf : ℕ → Answer
+answerOf zero = Done
+answerOf (suc n) = Refused (suc n)
+
+-- the number of an answer
+abbrev pub answerNumber : Answer → ℕ
+answerNumber Done = 0
+answerNumber (Refused n) = n
+
+-- "the tally goes in by value and comes back": beside the answer
+abbrev pub sheetAnswer : ℕ → ℕ → SheetAnswer
+sheetAnswer n tally = record { answer = answerOf n; tally = record { runs = tally } }
+
+-- a refusal
+abbrev pub refusedWith : ℕ → ℕ → SheetAnswer
+refusedWith n tally = record { answer = Refused n; tally = record { runs = tally } }
+
+-- Question 20: "does the tally stay below 2^63 after all runs of this call?"
+unfoldable pub isRoom : ℕ → ℕ → Bool
+isRoom tally runs = ltb (tally + runs) (2 ^ 63)
+
+-- 20, for so many runs
+abbrev pub tallyQuestions : ℕ → ℕ → List Question
+tallyQuestions tally runs = asks 20 (isRoom tally runs) ∷ []
+
+-- "adds accepted runs or reports full": the tally with the runs, and the old one where it is full
+abbrev pub addedTo : ℕ → ℕ → SheetAnswer
+addedTo tally runs = sheetAnswer (firstNo (tallyQuestions tally runs)) (afterCall (firstNo (tallyQuestions tally runs)) (tally + runs) tally)

@@ -6,10 +6,34 @@ ghost use lib.ListN.{length};
 ghost use Rattle.list_laws.specs.Lists.{oneIf};
 ghost use Rattle.question_grids.specs.Ask.{firstNo};
 ghost use Rattle.sheet_marks.specs.OpenCount.{areCounts, cellsPerTriplet, openQuestions, isZeroAt, zerosFrom};
+ghost use Rattle.sheet_marks.specs.Tallies.{answerNumber, refusedWith};
+use crate::Answer;
 use crate::Counts;
+use crate::SheetAnswer;
+use crate::Tally;
 
 // 2^63
 pub const FULL: u64 = 0x8000_0000_0000_0000;
+
+// A refusal: the tally stays.
+pub fn refused(number: u64, tally: Tally) -> SheetAnswer
+    ensures { λ r. ⌜ r ≡ refusedWith number (tally .runs) ⌝ }
+{
+    SheetAnswer {
+        answer: Answer::Refused(number),
+        tally,
+    }
+}
+
+// The number of an answer, 0 where the call is done.
+pub fn number_of(answer: Answer) -> u64
+    ensures { λ r. ⌜ r ≡ answerNumber answer ⌝ }
+{
+    match answer {
+        Answer::Done => 0,
+        Answer::Refused(number) => number,
+    }
+}
 
 // Question 9, of all four counts.
 fn counts_ok(counts: Counts) -> bool

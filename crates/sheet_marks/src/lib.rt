@@ -11,27 +11,36 @@ pub struct Tally {
     pub runs: u64,
 }
 
-// The tally with the runs added, or the number of question 20.
-pub enum Added {
-    To(Tally),
+// Done, or the number of the first question that is answered no.
+pub enum Answer {
+    Done,
     Refused(u64),
+}
+
+// What comes back: the answer, and the tally beside it, the old one after a refusal.
+pub struct SheetAnswer {
+    pub answer: Answer,
+    pub tally: Tally,
 }
 
 impl Tally {
     // Adds accepted runs, or reports that the tally is full (question 20).
-    pub fn add(self, runs: u64) -> Added
+    pub fn add(self, runs: u64) -> SheetAnswer
         ensures { λ r. ⌜ r ≡ addedTo (self .runs) runs ⌝ }
     {
         let before = self.runs;
         if before < kernel::FULL {
             if runs < kernel::FULL - before {
-                return Added::To(Tally {
-                    runs: before + runs,
-                });
+                return SheetAnswer {
+                    answer: Answer::Done,
+                    tally: Tally {
+                        runs: before + runs,
+                    },
+                };
             }
-            return Added::Refused(questions::TALLY_FULL);
+            return kernel::refused(questions::TALLY_FULL, self);
         }
-        Added::Refused(questions::TALLY_FULL)
+        kernel::refused(questions::TALLY_FULL, self)
     }
 }
 

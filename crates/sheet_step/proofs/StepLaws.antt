@@ -1,11 +1,11 @@
 -- The verdict of a call by the groups of its questions, and what an accepted and a refused call leave. Assumes nothing.
-use mathlib.Core.Path.{_≡_, refl, sym, ap, _∙_, subst}
-use mathlib.Core.Bool.{Bool, true, false, _&&_, cond}
+use mathlib.Core.Path.{_≡_, refl, sym, ap, _∙_}
+use mathlib.Core.Bool.{true, false, _&&_}
 use mathlib.Core.List.{List, [], _∷_, _++_, append-assoc}
-use Prim.Native.Nat.{ℕ, zero, suc, _+_, _*_, _^_, _<_}
+use Prim.Native.Nat.{ℕ, _*_, _<_}
 use native.Mathlib.Omega.{arith}
 use borrow.Author.Tests.{eqb-true}
-use lib.Dec.{eqb, ltb}
+use lib.Dec.{eqb}
 use lib.Ieee.{Float}
 use lib.IntN.{ℤ}
 use lib.ListN.{length}
@@ -20,12 +20,10 @@ use Rattle.question_grids.proofs.AskLaws.{group-no, group-yes, all-yes, after-d
 use Rattle.triplet_piece.specs.declared.Sizes.{Sizes}
 use Rattle.triplet_study.specs.Given.{Given, givenQuestions, areLengths}
 use Rattle.triplet_study.proofs.GivenLaws.{given-numbered, lengths-say}
-use Rattle.sheet_marks.specs.declared.Tally.{Tally}
-use Rattle.sheet_marks.specs.declared.Added.{Added}
-use Rattle.sheet_marks.specs.declared.Added.the-variants.{To, Refused as Full}
-use Rattle.sheet_marks.specs.Tallies.{addedTo}
-use Rattle.sheet_step.specs.declared.SheetAnswer.the-variants.{Done, Refused}
-use Rattle.sheet_step.specs.Steps.{Sheet, sheet, Call, Did, countsOf, Counted, areSheetLengths, isPiece, areIdLists, isRoom, sheetQuestions, pieceQuestions, averageQuestions, tallyQuestions, ownQuestions, verdict, effect, step, sheetAnswer, stepAnswer}
+use Rattle.sheet_marks.specs.declared.SheetAnswer.{SheetAnswer}
+use Rattle.sheet_marks.specs.Tallies.{sheetAnswer, refusedWith}
+use Rattle.sheet_marks.proofs.TallyLaws.{refused-is}
+use Rattle.sheet_step.specs.Steps.{Sheet, sheet, Call, Did, countsOf, commonQuestions, Counted, areSheetLengths, isPiece, areIdLists, sheetQuestions, pieceQuestions, averageQuestions, ownQuestions, verdict, effect, step}
 use Rattle.sheet_step.proofs.CountLaws.{counted}
 
 -- a yes to all is a yes to each group
@@ -45,7 +43,7 @@ sheet-lengths z w f m e =
 module _ (g : Given) (s : Sheet) (c : Call) where
   -- the questions that every call asks
   abbrev pub commonOf : List Question
-  commonOf = givenQuestions g ++ sheetQuestions (countsOf g) (length (s .weights)) (length (s .flags)) (s .marks)
+  commonOf = commonQuestions g (length (s .weights)) (length (s .flags)) (s .marks)
 
   sheet-numbered : Numbered (sheetQuestions (countsOf g) (length (s .weights)) (length (s .flags)) (s .marks))
   sheet-numbered = (omega arith, (omega arith, tt))
@@ -79,24 +77,22 @@ module _ (g : Given) (s : Sheet) (c : Call) where
 
   -- ---- a refused call
 
-  pub refused-answer : (n : ℕ) → verdict g s c ≡ n → (n ≡ 0 → ⊥) → Refused n ≡ stepAnswer g s c
-  refused-answer n e h = go n (step g s c .tally) h ∙ ap (λ (k : ℕ). sheetAnswer k (step g s c .tally)) (sym e)
-    where
-      go : (n t : ℕ) → (n ≡ 0 → ⊥) → Refused n ≡ sheetAnswer n t
-      go zero t h = absurd (h refl)
-      go (suc n) t h = refl
-
   pub refused-sheet : (n : ℕ) → verdict g s c ≡ n → (n ≡ 0 → ⊥) → s ≡ step g s c
   unfolding step
   refused-sheet n e h = after-refused (verdict g s c) (effect g s c) s (λ z. h (sym e ∙ z))
 
   -- what a refused call did
-  pub refused-call : (n : ℕ) → verdict g s c ≡ n → (n ≡ 0 → ⊥) → Did g s c (Refused n) s
-  refused-call n e h = record { answers = refused-answer n e h; leaves = refused-sheet n e h }
+  pub refused-call : (n : ℕ) (a : SheetAnswer) → verdict g s c ≡ n → (n ≡ 0 → ⊥) → a ≡ sheetAnswer n (s .tally)
+      → Did g s c a (sheet (s .weights) (s .flags) (s .marks) (a .tally .runs))
+  refused-call n a e h q = record {
+    answers = q ∙ (λ i. sheetAnswer (sym e i) (refused-sheet n e h i .tally));
+    leaves = ap (λ (x : SheetAnswer). sheet (s .weights) (s .flags) (s .marks) (x .tally .runs)) q ∙ refused-sheet n e h;
+  }
 
   -- a call that one of 3 to 13 refuses
-  pub common-refused : (n : ℕ) → n ≡ firstNo commonOf → (n ≡ 0 → ⊥) → Did g s c (Refused n) s
-  common-refused n e h = refused-call n (verdict-common (λ z. h (e ∙ z)) ∙ sym e) h
+  pub common-refused : (n : ℕ) (a : SheetAnswer) → n ≡ firstNo commonOf → (n ≡ 0 → ⊥) → a ≡ refusedWith n (s .tally)
+      → Did g s c a (sheet (s .weights) (s .flags) (s .marks) (a .tally .runs))
+  common-refused n a e h q = refused-call n a (verdict-common (λ z. h (e ∙ z)) ∙ sym e) h (q ∙ refused-is n (s .tally) h)
 
   -- ---- an accepted call
 
@@ -104,51 +100,13 @@ module _ (g : Given) (s : Sheet) (c : Call) where
   unfolding step
   done-sheet e = after-done (verdict g s c) (effect g s c) s e
 
-  pub done-answer : (t : Tally) → verdict g s c ≡ 0 → t .runs ≡ effect g s c .tally → Done t ≡ stepAnswer g s c
-  done-answer t e h =
-      ap (λ (k : ℕ). Done (record { runs = k })) (h ∙ ap (λ (x : Sheet). x .tally) (done-sheet e))
-      ∙ ap (λ (k : ℕ). sheetAnswer k (step g s c .tally)) (sym e)
-
   -- what an accepted call did
-  pub done-call : (t : Tally) (w : List Float) (f : List ℤ) (m : List ℕ) → verdict g s c ≡ 0 → t .runs ≡ effect g s c .tally
-      → w ≡ effect g s c .weights → f ≡ effect g s c .flags → m ≡ effect g s c .marks → Did g s c (Done t) (sheet w f m (t .runs))
-  done-call t w f m e h ew ef em = record { answers = done-answer t e h; leaves = (λ i. sheet (ew i) (ef i) (em i) (h i)) ∙ done-sheet e }
-
--- ---- question 20, by the answer of the tally
-
-pub room : (tally runs : ℕ) (next : Tally) → To next ≡ addedTo tally runs → (firstNo (tallyQuestions tally runs) ≡ 0) × (next .runs ≡ tally + runs)
-unfolding firstNo isRoom
-room tally runs next e = go (ltb (tally + runs) (2 ^ 63)) refl e
-  where
-    go : (b : Bool) → ltb (tally + runs) (2 ^ 63) ≡ b → To next ≡ cond b (To (record { runs = tally + runs })) (Full 20) → (firstNo (asks 20 (ltb (tally + runs) (2 ^ 63)) ∷ []) ≡ 0) × (next .runs ≡ tally + runs)
-    go true f q = (rw f, ap runs-of q)
-      where
-        runs-of : Added → ℕ
-        runs-of (To t) = t .runs
-        runs-of (Full n) = 0
-    go false f q = absurd (differ q)
-      where
-        is-to : Added → Type 0
-        is-to (To t) = Unit
-        is-to (Full n) = ⊥
-
-        differ : To next ≡ Full 20 → ⊥
-        differ q = subst is-to q tt
-
-pub no-room : (tally runs n : ℕ) → Full n ≡ addedTo tally runs → firstNo (tallyQuestions tally runs) ≡ 20
-unfolding firstNo isRoom
-no-room tally runs n e = go (ltb (tally + runs) (2 ^ 63)) refl e
-  where
-    go : (b : Bool) → ltb (tally + runs) (2 ^ 63) ≡ b → Full n ≡ cond b (To (record { runs = tally + runs })) (Full 20) → firstNo (asks 20 (ltb (tally + runs) (2 ^ 63)) ∷ []) ≡ 20
-    go false f q = rw f
-    go true f q = absurd (differ q)
-      where
-        is-full : Added → Type 0
-        is-full (To t) = ⊥
-        is-full (Full n) = Unit
-
-        differ : Full n ≡ To (record { runs = tally + runs }) → ⊥
-        differ q = subst is-full q tt
+  pub done-call : (a : SheetAnswer) (w : List Float) (f : List ℤ) (m : List ℕ) → verdict g s c ≡ 0 → a ≡ sheetAnswer 0 (effect g s c .tally)
+      → w ≡ effect g s c .weights → f ≡ effect g s c .flags → m ≡ effect g s c .marks → Did g s c a (sheet w f m (a .tally .runs))
+  done-call a w f m e q ew ef em = record {
+    answers = q ∙ (λ i. sheetAnswer (sym e i) (done-sheet e i .tally));
+    leaves = (λ i. sheet (ew i) (ef i) (em i) (q i .tally .runs)) ∙ done-sheet e;
+  }
 
 -- ---- what 14 says of a named piece, and 14 to 19 of an averaging
 

@@ -2,8 +2,8 @@
 use mathlib.Core.Path.{_≡_}
 use mathlib.Core.Bool.{Bool, _&&_}
 use mathlib.Core.List.{List, [], _∷_, _++_}
-use Prim.Native.Nat.{ℕ, zero, suc, _+_, _*_, _/_, _%_, _^_, _≤_}
-use lib.Dec.{eqb, ltb}
+use Prim.Native.Nat.{ℕ, _+_, _*_, _/_, _%_, _≤_}
+use lib.Dec.{eqb}
 use lib.IntN.{ℤ, pos}
 use lib.Ieee.{Float, nan}
 use lib.ListN.{getD, length, set}
@@ -19,8 +19,8 @@ use Rattle.triplet_piece.specs.Study.{sizesOf, computedWeights, computedFlags}
 use Rattle.triplet_study.specs.Given.{Given, givenQuestions, studyOf, areLengths}
 use Rattle.averaging.specs.Weights.{averaged}
 use Rattle.averaging.specs.Flags.{averagedFlags}
-use Rattle.sheet_step.specs.declared.SheetAnswer.{SheetAnswer}
-use Rattle.sheet_step.specs.declared.SheetAnswer.the-variants.{Done, Refused}
+use Rattle.sheet_marks.specs.declared.SheetAnswer.{SheetAnswer}
+use Rattle.sheet_marks.specs.Tallies.{tallyQuestions, sheetAnswer}
 use Rattle.sheet_step.specs.Marks.{isOpenAt, areMarks, isNotAveraged, areComputed, openPieces, carriedMarks, averagedMarks}
 
 -- "Weights, flags, marks, tally"
@@ -81,14 +81,14 @@ tripletWeights z t c weights = part (c * z .cells + t * (z .points * z .pairs)) 
 unfoldable pub areTripletWeights : Sizes → ℕ → List Float → Bool
 areTripletWeights z t weights = allBelow (z .channels) (λ c. areWeights (tripletWeights z t c weights))
 
--- Question 20: "does the tally stay below 2^63 after all runs of this call?"
-unfoldable pub isRoom : ℕ → ℕ → Bool
-isRoom tally runs = ltb (tally + runs) (2 ^ 63)
-
 -- questions 12 and 13, which every call asks after those on the study
 abbrev pub sheetQuestions : Sizes → ℕ → ℕ → List ℕ → List Question
 sheetQuestions z weights flags marks =
     asks 12 (areSheetLengths z weights flags (length marks)) ∷ asks 13 (areMarks (z .pairs) marks) ∷ []
+
+-- 3 to 13, which every call asks
+abbrev pub commonQuestions : Given → ℕ → ℕ → List ℕ → List Question
+commonQuestions g weights flags marks = givenQuestions g ++ sheetQuestions (countsOf g) weights flags marks
 
 -- 14 and 15, of a named piece
 abbrev pub pieceQuestions : Sizes → List ℕ → ℤ → ℤ → ℤ → List Question
@@ -104,10 +104,6 @@ averageQuestions z weights marks t ids1 ids2 =
     ∷ asks 18 (areComputed (z .pairs) marks (mag t))
     ∷ asks 19 (areTripletWeights z (mag t) weights)
     ∷ []
-
--- 20, for so many runs
-abbrev pub tallyQuestions : ℕ → ℕ → List Question
-tallyQuestions tally runs = asks 20 (isRoom tally runs) ∷ []
 
 -- what the kinds of call ask each: to run 14, 15, 20; to carry on 20; to average 14 to 19
 abbrev pub ownQuestions : Given → Sheet → Call → List Question
@@ -170,19 +166,9 @@ effect g s (average t ids1 ids2) =
 unfoldable pub step : Given → Sheet → Call → Sheet
 step g s c = afterCall (verdict g s c) (effect g s c) s
 
--- done with the tally, or refused with the number of the first no
-abbrev pub sheetAnswer : ℕ → ℕ → SheetAnswer
-sheetAnswer zero tally = Done (record { runs = tally })
-sheetAnswer (suc n) tally = Refused (suc n)
-
--- the answer of a call
+-- the answer of a call: done, or refused with the number of the first no, and the tally beside it
 abbrev pub stepAnswer : Given → Sheet → Call → SheetAnswer
 stepAnswer g s c = sheetAnswer (verdict g s c) (step g s c .tally)
-
--- the tally after an answer: that which it carries, and the old one after a refusal
-abbrev pub runsAfter : SheetAnswer → ℕ → ℕ
-runsAfter (Done tally) old = tally .runs
-runsAfter (Refused n) old = old
 
 -- What a call did: its answer, and the sheet that it left.
 pub record Did (g : Given) (s : Sheet) (c : Call) (answer : SheetAnswer) (left : Sheet) : Type 0 where

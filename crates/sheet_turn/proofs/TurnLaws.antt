@@ -14,22 +14,31 @@ use Rattle.list_laws.proofs.ProductLaws.{digit-lt}
 use Rattle.question_grids.specs.Ask.{Question, firstNo}
 use Rattle.question_grids.specs.Grids.{areTriples}
 use Rattle.question_grids.specs.Tables.{rowsIn}
-use Rattle.question_grids.proofs.AskLaws.{group-no, group-yes}
+use Rattle.question_grids.proofs.AskLaws.{group-no, group-yes, after-done}
 use Rattle.bzgrid.specs.declared.BzGrid.{BzGrid}
 use Rattle.triplet_channels.specs.declared.TpType.{TpType}
 use Rattle.triplet_piece.specs.declared.Sizes.{Sizes}
 use Rattle.triplet_piece.specs.Study.{Study, study, Ready, computedWeights, computedFlags}
 use Rattle.triplet_study.specs.Given.{Given, studyOf}
 use Rattle.triplet_study.proofs.GivenLaws.{given-ready}
-use Rattle.sheet_marks.specs.declared.Tally.{Tally}
-use Rattle.sheet_marks.specs.declared.Added.the-variants.{To, Refused as Full}
-use Rattle.sheet_marks.specs.Tallies.{addedTo}
+use Rattle.sheet_marks.specs.declared.SheetAnswer.{SheetAnswer}
+use Rattle.sheet_marks.specs.Tallies.{addedTo, answerNumber, tallyQuestions}
+use Rattle.sheet_marks.proofs.TallyLaws.{number-is}
 use Rattle.sheet_step.specs.Marks.{isOpenAt, openPieces, carriedMarks, averagedMarks}
-use Rattle.sheet_step.specs.Steps.{Sheet, sheet, Call, run, carry, average, countsOf, Counted, pieceQuestions, tallyQuestions, averageQuestions, pieceOf, tripletAveraged, tripletFlagsAveraged, verdict, effect, step}
+use Rattle.sheet_step.specs.Steps.{Sheet, sheet, Call, run, carry, average, countsOf, Counted, pieceQuestions, averageQuestions, pieceOf, tripletAveraged, tripletFlagsAveraged, verdict, effect, step}
 use Rattle.sheet_step.proofs.CountLaws.{marks-place, pieces-few}
-use Rattle.sheet_step.proofs.StepLaws.{verdict-own, counts-yes, lengths-yes, given-yes, piece-numbered, piece-named, average-named, room, no-room, refused-sheet, done-sheet}
+use Rattle.sheet_step.proofs.StepLaws.{verdict-own, counts-yes, lengths-yes, given-yes, piece-numbered, piece-named, average-named, refused-sheet, done-sheet}
 use Rattle.sheet_turn.specs.Turns.{commonNo, Prepared, Turned}
 use Rattle.sheet_turn.proofs.EntryLaws.{study-made, ready-made}
+
+-- ---- the tally's answer by its number
+
+module _ (tally runs : ℕ) {a : SheetAnswer} (e : a ≡ addedTo tally runs) where
+  pub added-no : {n : ℕ} → n ≡ answerNumber (a .answer) → n ≡ firstNo (tallyQuestions tally runs)
+  added-no h = h ∙ ap (λ (x : SheetAnswer). answerNumber (x .answer)) e ∙ number-is (firstNo (tallyQuestions tally runs))
+
+  pub added-runs : firstNo (tallyQuestions tally runs) ≡ 0 → a .tally .runs ≡ tally + runs
+  added-runs z = ap (λ (x : SheetAnswer). x .tally .runs) e ∙ sym (after-done (firstNo (tallyQuestions tally runs)) (tally + runs) tally z)
 
 -- ---- one call, refused or done
 
@@ -123,8 +132,8 @@ module _ (g : Given) (s : Sheet) {z : Sizes} {tp : TpType} {grid : BzGrid} {seco
           verdict-own g s (run t b1 b2) y
           ∙ group-yes (pieceQuestions (countsOf g) (s .marks) t b1 b2) (tallyQuestions (s .tally) 1) (piece-numbered (countsOf g) (s .marks) t b1 b2) (sym own-is ∙ e)
 
-      pub run-full : {n : ℕ} → Full n ≡ addedTo (s .tally) 1 → Turned g s (run t b1 b2) 20 s
-      run-full {n} f = turned-no g s (run t b1 b2) 20 (room-left ∙ no-room (s .tally) 1 n f) (λ k. omega arith)
+      pub run-full : {n : ℕ} → n ≡ firstNo (tallyQuestions (s .tally) 1) → (n ≡ 0 → ⊥) → Turned g s (run t b1 b2) n s
+      run-full {n} f h = turned-no g s (run t b1 b2) n (room-left ∙ sym f) h
 
       -- the piece by numbers
       module _ (nt n1 n2 : ℕ) (et : nt ≡ mag t) (e1 : n1 ≡ mag b1) (e2 : n2 ≡ mag b2) where
@@ -142,30 +151,28 @@ module _ (g : Given) (s : Sheet) {z : Sizes} {tp : TpType} {grid : BzGrid} {seco
         place-is : nt * z .pairs + (n1 * z .bands2 + n2) ≡ pieceOf (countsOf g) t b1 b2
         place-is = rw (et, e1, e2, p .counts)
 
-        pub run-done : {next : Tally} {w : List Float} {f : List ℤ} {m : List ℕ} → To next ≡ addedTo (s .tally) 1
+        pub run-done : {runs : ℕ} {w : List Float} {f : List ℤ} {m : List ℕ} → firstNo (tallyQuestions (s .tally) 1) ≡ 0 → runs ≡ s .tally + 1
             → w ≡ computedWeights made (λ n. eqb n (nt * z .pairs + (n1 * z .bands2 + n2))) (s .weights)
             → f ≡ computedFlags made (λ n. eqb n (nt * z .pairs + (n1 * z .bands2 + n2))) (s .flags)
             → m ≡ set (s .marks) (nt * z .pairs + (n1 * z .bands2 + n2)) 1
-            → Turned g s (run t b1 b2) 0 (sheet w f m (next .runs))
+            → Turned g s (run t b1 b2) 0 (sheet w f m runs)
         unfolding effect
-        run-done {next} {w} {f} {m} a ew ef em =
-            let r : _ = room (s .tally) 1 next a in
-            turned-yes g s (run t b1 b2) (next .runs) w f m (room-left ∙ r .0) (r .1)
+        run-done {runs} {w} {f} {m} a er ew ef em =
+            turned-yes g s (run t b1 b2) runs w f m (room-left ∙ a) er
             (ew ∙ (λ i. computedWeights (made-is i) (λ k. eqb k (place-is i)) (s .weights)))
             (ef ∙ (λ i. computedFlags (made-is i) (λ k. eqb k (place-is i)) (s .flags)))
             (em ∙ ap (λ (k : ℕ). set (s .marks) k 1) place-is)
 
   -- ---- a carry-on
 
-  pub carry-full : {n : ℕ} → Full n ≡ addedTo (s .tally) (openPieces (s .marks)) → Turned g s carry 20 s
-  carry-full {n} f = turned-no g s carry 20 (verdict-own g s carry y ∙ no-room (s .tally) (openPieces (s .marks)) n f) (λ k. omega arith)
+  pub carry-full : {n : ℕ} → n ≡ firstNo (tallyQuestions (s .tally) (openPieces (s .marks))) → (n ≡ 0 → ⊥) → Turned g s carry n s
+  carry-full {n} f h = turned-no g s carry n (verdict-own g s carry y ∙ sym f) h
 
-  pub carry-done : {next : Tally} {w : List Float} {f : List ℤ} {m : List ℕ} → To next ≡ addedTo (s .tally) (openPieces (s .marks))
+  pub carry-done : {runs : ℕ} {w : List Float} {f : List ℤ} {m : List ℕ} → firstNo (tallyQuestions (s .tally) (openPieces (s .marks))) ≡ 0 → runs ≡ s .tally + openPieces (s .marks)
       → w ≡ computedWeights made (isOpenAt (s .marks)) (s .weights) → f ≡ computedFlags made (isOpenAt (s .marks)) (s .flags) → m ≡ carriedMarks (s .marks)
-      → Turned g s carry 0 (sheet w f m (next .runs))
+      → Turned g s carry 0 (sheet w f m runs)
   unfolding effect
-  carry-done {next} {w} {f} {m} a ew ef em =
-      let r : _ = room (s .tally) (openPieces (s .marks)) next a in
-      turned-yes g s carry (next .runs) w f m (verdict-own g s carry y ∙ r .0) (r .1)
+  carry-done {runs} {w} {f} {m} a er ew ef em =
+      turned-yes g s carry runs w f m (verdict-own g s carry y ∙ a) er
       (ew ∙ (λ i. computedWeights (made-is i) (isOpenAt (s .marks)) (s .weights)))
       (ef ∙ (λ i. computedFlags (made-is i) (isOpenAt (s .marks)) (s .flags))) em

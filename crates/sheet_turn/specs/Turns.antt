@@ -1,6 +1,6 @@
 -- One call on its way: the study and the sheet as it finds them, what is made once for all calls, and what it leaves.
 use mathlib.Core.Path.{_≡_}
-use mathlib.Core.List.{List, _++_}
+use mathlib.Core.List.{List}
 use Prim.Native.Nat.{ℕ}
 use denote.Ref.{RefT, now}
 use lib.Ieee.{Float}
@@ -15,8 +15,8 @@ use Rattle.triplet_channels.specs.Types.{tpTypeOf}
 use Rattle.triplet_corners.specs.Corners.{secondSteps}
 use Rattle.triplet_piece.specs.declared.Sizes.{Sizes}
 use Rattle.triplet_study.specs.declared.Shape.{Shape}
-use Rattle.triplet_study.specs.Given.{Given, given, givenQuestions}
-use Rattle.sheet_step.specs.Steps.{Sheet, sheet, Call, countsOf, sheetQuestions, verdict, step}
+use Rattle.triplet_study.specs.Given.{Given, given}
+use Rattle.sheet_step.specs.Steps.{Sheet, sheet, Call, countsOf, commonQuestions, verdict, step}
 
 -- the study and the sheet of lent lists, at the moment
 abbrev pub studyNow : Shape → RefT (List ℤ) → RefT (List ℤ) → RefT (List ℤ) → RefT (List Float) → RefT (List Float) → RefT (List Float) → RefT (List ℤ) → Given
@@ -28,7 +28,7 @@ sheetNow weights flags marks tally = sheet (now weights) (now flags) (now marks)
 
 -- 3 to 13, which every call asks: the number of the first no, or 0
 abbrev pub commonNo : Given → Sheet → ℕ
-commonNo g s = firstNo (givenQuestions g ++ sheetQuestions (countsOf g) (length (s .weights)) (length (s .flags)) (s .marks))
+commonNo g s = firstNo (commonQuestions g (length (s .weights)) (length (s .flags)) (s .marks))
 
 -- what is made once: the counts, the type, the grid, the second copy of the steps and the count of rows
 pub record Prepared (g : Given) (z : Sizes) (tp : TpType) (grid : BzGrid) (second : List ℤ) (rows : ℕ) : Type 0 where

@@ -2,14 +2,15 @@
 ghost use mathlib.Core.Path.{_≡_};
 ghost use Rattle.triplet_piece.specs.Layout.{Areas};
 ghost use Rattle.triplet_study.specs.Given.{studyOf};
-ghost use Rattle.sheet_step.specs.Lent.{studyIn, sheetIn, sheetOut};
+ghost use Rattle.triplet_study.specs.Lent.{studyIn};
+ghost use Rattle.sheet_step.specs.Lent.{sheetIn, sheetOut};
 ghost use Rattle.sheet_step.specs.Steps.{run, carry, average, countsOf};
 ghost use Rattle.sheet_fill.specs.Kept.{CornersKept};
 ghost use Rattle.sheet_turn.specs.Turns.{studyNow, sheetNow, commonNo, Prepared, Turned};
 use crate::Turn;
 use bzgrid::BzGrid;
-use sheet_marks::Added;
 use sheet_marks::Tally;
+use sheet_marks::kernel::number_of;
 use sheet_step::kernel::asks;
 use sheet_step::kernel::marks as mark;
 use triplet_channels::TpType;
@@ -64,13 +65,16 @@ pub fn run_asked(
         };
     }
     let tally = Tally { runs };
-    let Added::To(next) = tally.add(1) else {
+    let added = tally.add(1);
+    let room = added.answer;
+    let full = number_of(room);
+    if full != 0 {
         return Turn {
-            no: questions::TALLY_FULL,
+            no: full,
             runs,
             held,
         };
-    };
+    }
     let t = common::kernel::magnitude(triplet);
     let n1 = common::kernel::magnitude(b1);
     let n2 = common::kernel::magnitude(b2);
@@ -107,6 +111,7 @@ pub fn run_asked(
     let pairs = z.pairs;
     let bands2 = z.bands2;
     mark::set_mark(marks, t * pairs + (n1 * bands2 + n2), mark::COMPUTED);
+    let next = added.tally;
     let after = next.runs;
     Turn {
         no: 0,
@@ -153,13 +158,16 @@ pub fn carry_asked(
 {
     let count = mark::open_pieces(marks);
     let tally = Tally { runs };
-    let Added::To(next) = tally.add(count) else {
+    let added = tally.add(count);
+    let room = added.answer;
+    let full = number_of(room);
+    if full != 0 {
         return Turn {
-            no: questions::TALLY_FULL,
+            no: full,
             runs,
             held,
         };
-    };
+    }
     let last = sheet_fill::kernel::carry::fill_open(
         f1,
         f2,
@@ -188,6 +196,7 @@ pub fn carry_asked(
         triplets,
         held,
     );
+    let next = added.tally;
     let after = next.runs;
     Turn {
         no: 0,

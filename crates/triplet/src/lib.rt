@@ -1,10 +1,6 @@
 // Triplets: whether their addresses add to zero, both copies of the neighbour table, and the weights of all triplets.
-ghost use mathlib.Core.Path.{_≡_};
-ghost use lib.ListN.{length};
-ghost use Rattle.question_grids.specs.Ask.{firstNo, afterCall};
-ghost use Rattle.triplet_study.specs.Given.{given, studyOf};
-ghost use Rattle.triplet_iw.specs.Whole.{allWeights, allFlags};
-ghost use Rattle.triplet_iw.specs.Calls.{weightsQuestions, weightsAnswer};
+ghost use Rattle.triplet_study.specs.Lent.{studyIn};
+ghost use Rattle.triplet_iw.specs.Calls.{DidFill};
 pub use triplet_addresses::CopyAnswer;
 pub use triplet_addresses::IsNAnswer;
 pub use triplet_addresses::is_n;
@@ -25,13 +21,8 @@ pub fn integration_weight(
     weights: &mut [f64],
     flags: &mut [i8],
 ) -> WeightsAnswer
-    ensures { λ r. ⌜ r ≡ weightsAnswer (firstNo (weightsQuestions (given shape (now (addresses .entry)) (now («gp_map» .entry)) (now («relative_grid_address» .entry)) (now (frequencies1 .entry)) (now (frequencies2 .entry)) (now («frequency_points» .entry)) (now (triplets .entry))) (length (now (weights .entry))) (length (now (flags .entry))))) ⌝ }
-    ensures { λ r. ⌜ now (weights .exit) ≡ afterCall (firstNo (weightsQuestions (given shape (now (addresses .entry)) (now («gp_map» .entry)) (now («relative_grid_address» .entry)) (now (frequencies1 .entry)) (now (frequencies2 .entry)) (now («frequency_points» .entry)) (now (triplets .entry))) (length (now (weights .entry))) (length (now (flags .entry)))))
-        (allWeights (studyOf (given shape (now (addresses .entry)) (now («gp_map» .entry)) (now («relative_grid_address» .entry)) (now (frequencies1 .entry)) (now (frequencies2 .entry)) (now («frequency_points» .entry)) (now (triplets .entry)))))
-        (now (weights .entry)) ⌝ }
-    ensures { λ r. ⌜ now (flags .exit) ≡ afterCall (firstNo (weightsQuestions (given shape (now (addresses .entry)) (now («gp_map» .entry)) (now («relative_grid_address» .entry)) (now (frequencies1 .entry)) (now (frequencies2 .entry)) (now («frequency_points» .entry)) (now (triplets .entry))) (length (now (weights .entry))) (length (now (flags .entry)))))
-        (allFlags (studyOf (given shape (now (addresses .entry)) (now («gp_map» .entry)) (now («relative_grid_address» .entry)) (now (frequencies1 .entry)) (now (frequencies2 .entry)) (now («frequency_points» .entry)) (now (triplets .entry)))))
-        (now (flags .entry)) ⌝ }
+    ensures { λ r. ⌜ DidFill (studyIn shape addresses «gp_map» «relative_grid_address» frequencies1 frequencies2 «frequency_points» triplets)
+        weights flags r ⌝ }
 {
     triplet_iw::kernel::fill_given(
         shape,

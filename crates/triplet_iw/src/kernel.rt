@@ -3,13 +3,12 @@ ghost use mathlib.Core.Path.{_≡_};
 ghost use Prim.Native.Nat.{_*_, _/_, _<_};
 ghost use lib.Dec.{eqb};
 ghost use lib.ListN.{length};
-ghost use Rattle.question_grids.specs.Ask.{firstNo, afterCall};
 ghost use Rattle.question_grids.specs.Tables.{rowsIn};
 ghost use Rattle.triplet_corners.specs.Corners.{secondSteps};
 ghost use Rattle.triplet_piece.specs.Study.{study, Ready, computedWeights, computedFlags};
-ghost use Rattle.triplet_study.specs.Given.{given, studyOf};
+ghost use Rattle.triplet_study.specs.Lent.{studyIn};
 ghost use Rattle.triplet_iw.specs.Whole.{allWeights, allFlags};
-ghost use Rattle.triplet_iw.specs.Calls.{weightsQuestions, weightsAnswer};
+ghost use Rattle.triplet_iw.specs.Calls.{DidFill};
 use crate::WeightsAnswer;
 use bzgrid::BzGrid;
 use triplet_channels::TpType;
@@ -139,13 +138,8 @@ pub fn fill_given(
     weights: &mut [f64],
     flags: &mut [i8],
 ) -> WeightsAnswer
-    ensures { λ r. ⌜ r ≡ weightsAnswer (firstNo (weightsQuestions (given shape (now (addresses .entry)) (now («gp_map» .entry)) (now («relative_grid_address» .entry)) (now (frequencies1 .entry)) (now (frequencies2 .entry)) (now («frequency_points» .entry)) (now (triplets .entry))) (length (now (weights .entry))) (length (now (flags .entry))))) ⌝ }
-    ensures { λ r. ⌜ now (weights .exit) ≡ afterCall (firstNo (weightsQuestions (given shape (now (addresses .entry)) (now («gp_map» .entry)) (now («relative_grid_address» .entry)) (now (frequencies1 .entry)) (now (frequencies2 .entry)) (now («frequency_points» .entry)) (now (triplets .entry))) (length (now (weights .entry))) (length (now (flags .entry)))))
-        (allWeights (studyOf (given shape (now (addresses .entry)) (now («gp_map» .entry)) (now («relative_grid_address» .entry)) (now (frequencies1 .entry)) (now (frequencies2 .entry)) (now («frequency_points» .entry)) (now (triplets .entry)))))
-        (now (weights .entry)) ⌝ }
-    ensures { λ r. ⌜ now (flags .exit) ≡ afterCall (firstNo (weightsQuestions (given shape (now (addresses .entry)) (now («gp_map» .entry)) (now («relative_grid_address» .entry)) (now (frequencies1 .entry)) (now (frequencies2 .entry)) (now («frequency_points» .entry)) (now (triplets .entry))) (length (now (weights .entry))) (length (now (flags .entry)))))
-        (allFlags (studyOf (given shape (now (addresses .entry)) (now («gp_map» .entry)) (now («relative_grid_address» .entry)) (now (frequencies1 .entry)) (now (frequencies2 .entry)) (now («frequency_points» .entry)) (now (triplets .entry)))))
-        (now (flags .entry)) ⌝ }
+    ensures { λ r. ⌜ DidFill (studyIn shape addresses «gp_map» «relative_grid_address» frequencies1 frequencies2 «frequency_points» triplets)
+        weights flags r ⌝ }
 {
     let no = triplet_study::kernel::given_no(
         shape,

@@ -1,10 +1,6 @@
 // Integration weights of triplets.
-ghost use mathlib.Core.Path.{_≡_};
-ghost use lib.ListN.{length};
-ghost use Rattle.question_grids.specs.Ask.{firstNo, afterCall};
-ghost use Rattle.triplet_study.specs.Given.{given, studyOf};
-ghost use Rattle.triplet_iw.specs.Whole.{allWeights, allFlags};
-ghost use Rattle.triplet_iw.specs.Calls.{weightsQuestions, weightsAnswer};
+ghost use Rattle.triplet_study.specs.Lent.{studyOfOne};
+ghost use Rattle.triplet_iw.specs.Calls.{DidFill};
 pub use averaging::AveragingAnswer;
 pub use averaging::average_weights_over_degenerate_sets;
 pub use triplet_channels::TpType;
@@ -33,13 +29,7 @@ pub fn integration_weight_per_triplet(
     weights: &mut [f64],
     flags: &mut [i8],
 ) -> WeightsAnswer
-    ensures { λ r. ⌜ r ≡ weightsAnswer (firstNo (weightsQuestions (given shape (now (addresses .entry)) (now («gp_map» .entry)) (now («relative_grid_address» .entry)) (now (frequencies1 .entry)) (now (frequencies2 .entry)) (now («frequency_points» .entry)) triplet) (length (now (weights .entry))) (length (now (flags .entry))))) ⌝ }
-    ensures { λ r. ⌜ now (weights .exit) ≡ afterCall (firstNo (weightsQuestions (given shape (now (addresses .entry)) (now («gp_map» .entry)) (now («relative_grid_address» .entry)) (now (frequencies1 .entry)) (now (frequencies2 .entry)) (now («frequency_points» .entry)) triplet) (length (now (weights .entry))) (length (now (flags .entry)))))
-        (allWeights (studyOf (given shape (now (addresses .entry)) (now («gp_map» .entry)) (now («relative_grid_address» .entry)) (now (frequencies1 .entry)) (now (frequencies2 .entry)) (now («frequency_points» .entry)) triplet)))
-        (now (weights .entry)) ⌝ }
-    ensures { λ r. ⌜ now (flags .exit) ≡ afterCall (firstNo (weightsQuestions (given shape (now (addresses .entry)) (now («gp_map» .entry)) (now («relative_grid_address» .entry)) (now (frequencies1 .entry)) (now (frequencies2 .entry)) (now («frequency_points» .entry)) triplet) (length (now (weights .entry))) (length (now (flags .entry)))))
-        (allFlags (studyOf (given shape (now (addresses .entry)) (now («gp_map» .entry)) (now («relative_grid_address» .entry)) (now (frequencies1 .entry)) (now (frequencies2 .entry)) (now («frequency_points» .entry)) triplet)))
-        (now (flags .entry)) ⌝ }
+    ensures { λ r. ⌜ DidFill (studyOfOne shape addresses «gp_map» «relative_grid_address» frequencies1 frequencies2 «frequency_points» triplet) weights flags r ⌝ }
 {
     kernel::fill_given(
         shape,

@@ -3,7 +3,8 @@ ghost use mathlib.Core.Path.{_≡_};
 ghost use Prim.Native.Nat.{_≤_};
 ghost use lib.Signed.{mag};
 ghost use Rattle.question_grids.specs.Ask.{firstNo};
-ghost use Rattle.triplet_study.specs.Given.{given, givenQuestions, sizesBy, areLengths, FewSizes};
+ghost use Rattle.triplet_study.specs.Given.{givenQuestions, sizesBy, areLengths, FewSizes};
+ghost use Rattle.triplet_study.specs.Lent.{studyIn};
 use crate::Shape;
 use triplet_piece::Sizes;
 
@@ -18,7 +19,7 @@ pub fn given_no(
     frequency_points: &[f64],
     triplets: &[i64],
 ) -> u64
-    ensures { λ r. ⌜ r ≡ firstNo (givenQuestions (given shape (now (addresses .entry)) (now («gp_map» .entry)) (now («relative_grid_address» .entry)) (now (frequencies1 .entry)) (now (frequencies2 .entry)) (now («frequency_points» .entry)) (now (triplets .entry)))) ⌝ }
+    ensures { λ r. ⌜ r ≡ firstNo (givenQuestions (studyIn shape addresses «gp_map» «relative_grid_address» frequencies1 frequencies2 «frequency_points» triplets)) ⌝ }
 {
     let bz_grid_type = shape.bz_grid_type;
     let d_diag = shape.d_diag;

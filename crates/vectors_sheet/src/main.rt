@@ -20,6 +20,7 @@ ghost use lib.ListN.{length, take};
 use replay_input::kernel as input;
 use replay_input::kernel::Cursor;
 use replay_input::kernel::compare;
+use sheet::Answer;
 use sheet::Counts;
 use sheet::OpenAnswer;
 use sheet::Shape;
@@ -263,21 +264,20 @@ fn refusal_of(number: u64) -> u64 {
     if number == 0 { 21 } else { number }
 }
 
-fn made_of(answer: SheetAnswer, before: u64, next: Cursor) -> Made {
+fn number_in(answer: Answer) -> u64 {
     match answer {
-        SheetAnswer::Done(after) => {
-            let tally = after.runs;
-            Made {
-                number: 0,
-                tally,
-                next,
-            }
-        }
-        SheetAnswer::Refused(number) => Made {
-            number: refusal_of(number),
-            tally: before,
-            next,
-        },
+        Answer::Done => 0,
+        Answer::Refused(number) => refusal_of(number),
+    }
+}
+
+fn made_of(done: SheetAnswer, next: Cursor) -> Made {
+    let answer = done.answer;
+    let after = done.tally;
+    Made {
+        number: number_in(answer),
+        tally: after.runs,
+        next,
     }
 }
 
@@ -318,7 +318,7 @@ fn run_made(
         b1.value,
         b2.value,
     );
-    made_of(answer, tally, next)
+    made_of(answer, next)
 }
 
 fn carry_made(
@@ -350,7 +350,7 @@ fn carry_made(
         marks,
         Tally { runs: tally },
     );
-    made_of(answer, tally, c)
+    made_of(answer, c)
 }
 
 fn average_made(
@@ -394,7 +394,7 @@ fn average_made(
         &ids1[..n1],
         &ids2[..n2],
     );
-    made_of(answer, tally, next)
+    made_of(answer, next)
 }
 
 // Answers that are not the stored ones count as refusal 21.
@@ -402,11 +402,11 @@ fn checked(number: u64, agrees: bool) -> u64 {
     if agrees { number } else { 21 }
 }
 
-fn made_by_list(made: Made, agrees: bool, next: Cursor) -> Made {
-    let tally = made.tally;
+fn made_by_list(done: SheetAnswer, agrees: bool, next: Cursor) -> Made {
+    let made = made_of(done, next);
     Made {
         number: checked(made.number, agrees),
-        tally,
+        tally: made.tally,
         next,
     }
 }
@@ -452,7 +452,7 @@ fn played(
     let a = same_answers(text, c, answers);
     let t = same_answers(text, a.next, tallies);
     let next = t.next;
-    made_by_list(made_of(answer, tally, next), a.agrees & t.agrees, next)
+    made_by_list(answer, a.agrees & t.agrees, next)
 }
 
 fn list_made(

@@ -1,11 +1,10 @@
 // The questions of the calls on a sheet, in their order: the number of the first that is answered no, or 0.
 ghost use mathlib.Core.Path.{_≡_};
-ghost use mathlib.Core.List.{_++_};
 ghost use Prim.Native.Nat.{_+_, _*_, _<_};
 ghost use lib.ListN.{length};
 ghost use Rattle.question_grids.specs.Ask.{firstNo};
-ghost use Rattle.triplet_study.specs.Given.{given, givenQuestions};
-ghost use Rattle.sheet_step.specs.Steps.{countsOf, sheetQuestions, pieceQuestions, averageQuestions, areTripletWeights, Counted};
+ghost use Rattle.triplet_study.specs.Lent.{studyIn};
+ghost use Rattle.sheet_step.specs.Steps.{commonQuestions, sheetQuestions, pieceQuestions, averageQuestions, areTripletWeights, Counted};
 use crate::kernel::marks;
 use triplet_piece::Sizes;
 use triplet_study::Shape;
@@ -40,8 +39,8 @@ pub fn common_no(
     flags: usize,
     marks: &[u8],
 ) -> u64
-    ensures { λ r. ⌜ r ≡ firstNo (givenQuestions (given shape (now (addresses .entry)) (now («gp_map» .entry)) (now («relative_grid_address» .entry)) (now (frequencies1 .entry)) (now (frequencies2 .entry)) (now («frequency_points» .entry)) (now (triplets .entry)))
-        ++ sheetQuestions (countsOf (given shape (now (addresses .entry)) (now («gp_map» .entry)) (now («relative_grid_address» .entry)) (now (frequencies1 .entry)) (now (frequencies2 .entry)) (now («frequency_points» .entry)) (now (triplets .entry)))) weights flags (now (marks .entry))) ⌝ }
+    ensures { λ r. ⌜ r ≡ firstNo (commonQuestions (studyIn shape addresses «gp_map» «relative_grid_address» frequencies1 frequencies2 «frequency_points» triplets)
+        weights flags (now (marks .entry))) ⌝ }
 {
     let no = triplet_study::kernel::given_no(
         shape,

@@ -1,3 +1,5 @@
+use Rattle.sheet_step.specs.Marks.{openPieces}
+use Rattle.sheet_marks.specs.declared.SheetAnswer.{SheetAnswer}
 use Rattle.sheet_turn.proofs.TurnLaws.{average-done, average-no, average-on, average-place, counted-yes, long-yes}
 use Rattle.sheet_step.specs.Steps.{Sheet, sheet}
 use Rattle.sheet_marks.specs.Tallies.{addedTo}

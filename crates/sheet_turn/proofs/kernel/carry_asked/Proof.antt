@@ -1,4 +1,6 @@
-use Rattle.sheet_turn.proofs.TurnLaws.{carry-done, carry-full, long-yes, made-is, made-ready}
+use Rattle.sheet_turn.proofs.TurnLaws.{added-no, added-runs, carry-done, carry-full, long-yes, made-is, made-ready}
+use Rattle.sheet_step.specs.Marks.{openPieces}
+use Rattle.sheet_marks.specs.declared.SheetAnswer.{SheetAnswer}
 use Rattle.sheet_step.specs.Steps.{Sheet, sheet}
 use Rattle.sheet_marks.specs.Tallies.{addedTo}
 use Rattle.triplet_study.specs.Given.{Given, given}
@@ -35,13 +37,8 @@ open-pieces-requires c κs = search needs
 add-requires : tie.Need-add-requires
 add-requires c κs = search needs
 
--- src/kernel.rt:156:19
-enum-known-next : tie.Need-enum-known-next
-enum-known-next c = search needs
-
--- src/kernel.rt:157:9
-enum-told : tie.Need-enum-told
-enum-told c = search needs
+number-of-requires : tie.Need-number-of-requires
+number-of-requires c κs = search needs
 
 -- src/kernel.rt:157:9
 same-length : tie.Need-same-length
@@ -54,12 +51,12 @@ returns c =
     let y = s .pre .0 .0 in
     let p = s .pre .0 .1 in
     let a = c .before .before .add .ensures ∙ ap (addedTo (s .args .runs)) (c .before .before .before .open-pieces .ensures) in
-    (carry-full (asked s) (start s) y p (sym (c .enum-told .given .1) ∙ a), s .pre .1)
+    (carry-full (asked s) (start s) y p (added-no (s .args .runs) (openPieces (s .args .marks .now)) a (c .before .number-of .ensures)) (c .if1 .taken), s .pre .1)
 
 -- src/kernel.rt:163:9
 fill-open-requires : tie.Need-fill-open-requires
 fill-open-requires c κs =
-    let s : _ = c .before .before .before .before .before .before .before .before .before .before .before .before .before .before .before .before .before .before .before .before .before .before .before .before in
+    let s : _ = c .before .before .before .before .before .before .before .before .before .before .before .before .before .before .before .before .before .before .before .before .before .before .before in
     let y = s .pre .0 .0 in
     let p = s .pre .0 .1 in
     (made-ready (asked s) (start s) y p, ((p .copy, (p .all-rows, long-yes (asked s) (start s) y (p .counts) .1 .1)), ((λ h. let k = s .pre .1 .0 h in (k .0 ∙ ap (λ (q : Study). firstCorners q (s .args .held)) (sym (made-is (asked s) (start s) y p)), k .1 ∙ ap (λ (q : Study). secondCorners q (s .args .held)) (sym (made-is (asked s) (start s) y p)))), s .pre .1 .1)))
@@ -83,8 +80,9 @@ returns-2 c =
     let y = s .pre .0 .0 in
     let p = s .pre .0 .1 in
     let a = c .before .before .before .before .before .before .before .before .before .before .before .before .before .before .before .before .before .before .before .before .before .before .add .ensures ∙ ap (addedTo (s .args .runs)) (c .before .before .before .before .before .before .before .before .before .before .before .before .before .before .before .before .before .before .before .before .before .before .before .open-pieces .ensures) in
-    let f = c .before .before .before .before .before .fill-open .ensures in
-    (carry-done (asked s) (start s) y p (sym (c .before .before .before .before .before .before .before .before .before .before .before .before .before .before .before .before .before .before .before .before .next .given .1) ∙ a) (f .1 .0) (f .1 .1 .0) (f .1 .1 .1), ((λ h. let k = f .0 .0 h in (k .0 ∙ ap (λ (q : Study). firstCorners q (c .before .before .before .before .before .fill-open .result)) (made-is (asked s) (start s) y p), k .1 ∙ ap (λ (q : Study). secondCorners q (c .before .before .before .before .before .fill-open .result)) (made-is (asked s) (start s) y p))), f .0 .1))
+    let u = sym (added-no (s .args .runs) (openPieces (s .args .marks .now)) a (c .before .before .before .before .before .before .before .before .before .before .before .before .before .before .before .before .before .before .before .before .before .number-of .ensures)) ∙ c .before .before .before .before .before .before .before .before .before .before .before .before .before .before .before .before .before .before .before .before .if1 .left in
+    let f = c .before .before .before .before .before .before .fill-open .ensures in
+    (carry-done (asked s) (start s) y p u (added-runs (s .args .runs) (openPieces (s .args .marks .now)) a u) (f .1 .0) (f .1 .1 .0) (f .1 .1 .1), ((λ h. let k = f .0 .0 h in (k .0 ∙ ap (λ (q : Study). firstCorners q (c .before .before .before .before .before .before .fill-open .result)) (made-is (asked s) (start s) y p), k .1 ∙ ap (λ (q : Study). secondCorners q (c .before .before .before .before .before .before .fill-open .result)) (made-is (asked s) (start s) y p))), f .0 .1))
 
 pub carry-asked-spec : {M : Type 1} → statement M
 carry-asked-spec =
@@ -92,8 +90,7 @@ carry-asked-spec =
     (tie.spec
     open-pieces-requires
     add-requires
-    enum-known-next
-    enum-told
+    number-of-requires
     same-length
     returns
     fill-open-requires

@@ -1,4 +1,6 @@
-use Rattle.sheet_turn.proofs.TurnLaws.{counted-yes, long-yes, made-is, made-ready, run-done, run-full, run-no, run-on, run-place, run-small}
+use Rattle.sheet_turn.proofs.TurnLaws.{added-no, added-runs, counted-yes, long-yes, made-is, made-ready, run-done, run-full, run-no, run-on, run-place, run-small}
+use Rattle.sheet_step.specs.Marks.{openPieces}
+use Rattle.sheet_marks.specs.declared.SheetAnswer.{SheetAnswer}
 use Rattle.sheet_step.specs.Steps.{Sheet, sheet}
 use Rattle.sheet_marks.specs.Tallies.{addedTo}
 use Rattle.triplet_study.specs.Given.{Given, given}
@@ -54,13 +56,8 @@ returns c =
 add-requires : tie.Need-add-requires
 add-requires c κs = search needs
 
--- src/kernel.rt:67:19
-enum-known-next : tie.Need-enum-known-next
-enum-known-next c = search needs
-
--- src/kernel.rt:68:9
-enum-told : tie.Need-enum-told
-enum-told c = search needs
+number-of-requires : tie.Need-number-of-requires
+number-of-requires c κs = search needs
 
 -- src/kernel.rt:68:9
 same-length-2 : tie.Need-same-length-2
@@ -74,7 +71,7 @@ returns-2 c =
     let p = s .pre .0 .1 in
     let o = rw (toZ-ofZ w64 (s .args .triplet) (s .fits .triplet), toZ-ofZ w64 (s .args .b1) (s .fits .b1), toZ-ofZ w64 (s .args .b2) (s .fits .b2)) at (c .before .before .before .before .piece-no .ensures) in
     let e = sym o ∙ c .before .before .before .if1 .left in
-    (run-full (asked s) (start s) y p (s .args .triplet) (s .args .b1) (s .args .b2) e (sym (c .enum-told .given .1) ∙ c .before .before .add .ensures), s .pre .1)
+    (run-full (asked s) (start s) y p (s .args .triplet) (s .args .b1) (s .args .b2) e (added-no (s .args .runs) 1 (c .before .before .add .ensures) (c .before .number-of .ensures)) (c .if2 .taken), s .pre .1)
 
 -- src/kernel.rt:74:9
 magnitude-requires : tie.Need-magnitude-requires
@@ -91,11 +88,11 @@ magnitude-requires-3 c κs = search needs
 -- src/kernel.rt:77:5
 fill-named-requires : tie.Need-fill-named-requires
 fill-named-requires c κs =
-    let s : _ = c .before .before .before .before .before .before .before .before .before .before .before .before .before .before .before .before .before .before .before .before .before .before .before .before .before .before .before in
+    let s : _ = c .before .before .before .before .before .before .before .before .before .before .before .before .before .before .before .before .before .before .before .before .before .before .before .before .before .before in
     let y = s .pre .0 .0 in
     let p = s .pre .0 .1 in
-    let o = rw (toZ-ofZ w64 (s .args .triplet) (s .fits .triplet), toZ-ofZ w64 (s .args .b1) (s .fits .b1), toZ-ofZ w64 (s .args .b2) (s .fits .b2)) at (c .before .before .before .before .before .before .before .before .before .before .before .before .before .before .before .before .before .before .before .before .piece-no .ensures) in
-    let e = sym o ∙ c .before .before .before .before .before .before .before .before .before .before .before .before .before .before .before .before .before .before .before .if1 .left in
+    let o = rw (toZ-ofZ w64 (s .args .triplet) (s .fits .triplet), toZ-ofZ w64 (s .args .b1) (s .fits .b1), toZ-ofZ w64 (s .args .b2) (s .fits .b2)) at (c .before .before .before .before .before .before .before .before .before .before .before .before .before .before .before .before .before .before .before .piece-no .ensures) in
+    let e = sym o ∙ c .before .before .before .before .before .before .before .before .before .before .before .before .before .before .before .before .before .before .if1 .left in
     let nt = c .before .before .before .before .before .before .before .before .before .before .before .before .before .before .magnitude .ensures ∙ ap mag (toZ-ofZ w64 (s .args .triplet) (s .fits .triplet)) in
     let n1 = c .before .before .before .before .before .before .before .before .before .before .before .before .before .magnitude2 .ensures ∙ ap mag (toZ-ofZ w64 (s .args .b1) (s .fits .b1)) in
     let n2 = c .before .before .before .before .before .before .before .before .before .before .before .before .magnitude3 .ensures ∙ ap mag (toZ-ofZ w64 (s .args .b2) (s .fits .b2)) in
@@ -104,11 +101,11 @@ fill-named-requires c κs =
 -- src/kernel.rt:109:27
 mul-set-mark : tie.Need-mul-set-mark
 mul-set-mark c =
-    let s : _ = c .before .before .before .before .before .before .before .before .before .before .before .before .before .before .before .before .before .before .before .before .before .before .before .before .before .before .before .before .before .before .before .before in
+    let s : _ = c .before .before .before .before .before .before .before .before .before .before .before .before .before .before .before .before .before .before .before .before .before .before .before .before .before .before .before .before .before .before .before in
     let y = s .pre .0 .0 in
     let p = s .pre .0 .1 in
-    let o = rw (toZ-ofZ w64 (s .args .triplet) (s .fits .triplet), toZ-ofZ w64 (s .args .b1) (s .fits .b1), toZ-ofZ w64 (s .args .b2) (s .fits .b2)) at (c .before .before .before .before .before .before .before .before .before .before .before .before .before .before .before .before .before .before .before .before .before .before .before .before .before .piece-no .ensures) in
-    let e = sym o ∙ c .before .before .before .before .before .before .before .before .before .before .before .before .before .before .before .before .before .before .before .before .before .before .before .before .if1 .left in
+    let o = rw (toZ-ofZ w64 (s .args .triplet) (s .fits .triplet), toZ-ofZ w64 (s .args .b1) (s .fits .b1), toZ-ofZ w64 (s .args .b2) (s .fits .b2)) at (c .before .before .before .before .before .before .before .before .before .before .before .before .before .before .before .before .before .before .before .before .before .before .before .before .piece-no .ensures) in
+    let e = sym o ∙ c .before .before .before .before .before .before .before .before .before .before .before .before .before .before .before .before .before .before .before .before .before .before .before .if1 .left in
     let nt = c .before .before .before .before .before .before .before .before .before .before .before .before .before .before .before .before .before .before .before .magnitude .ensures ∙ ap mag (toZ-ofZ w64 (s .args .triplet) (s .fits .triplet)) in
     let n1 = c .before .before .before .before .before .before .before .before .before .before .before .before .before .before .before .before .before .before .magnitude2 .ensures ∙ ap mag (toZ-ofZ w64 (s .args .b1) (s .fits .b1)) in
     let n2 = c .before .before .before .before .before .before .before .before .before .before .before .before .before .before .before .before .before .magnitude3 .ensures ∙ ap mag (toZ-ofZ w64 (s .args .b2) (s .fits .b2)) in
@@ -117,11 +114,11 @@ mul-set-mark c =
 -- src/kernel.rt:109:40
 mul-set-mark-2 : tie.Need-mul-set-mark-2
 mul-set-mark-2 c =
-    let s : _ = c .before .before .before .before .before .before .before .before .before .before .before .before .before .before .before .before .before .before .before .before .before .before .before .before .before .before .before .before .before .before .before .before in
+    let s : _ = c .before .before .before .before .before .before .before .before .before .before .before .before .before .before .before .before .before .before .before .before .before .before .before .before .before .before .before .before .before .before .before in
     let y = s .pre .0 .0 in
     let p = s .pre .0 .1 in
-    let o = rw (toZ-ofZ w64 (s .args .triplet) (s .fits .triplet), toZ-ofZ w64 (s .args .b1) (s .fits .b1), toZ-ofZ w64 (s .args .b2) (s .fits .b2)) at (c .before .before .before .before .before .before .before .before .before .before .before .before .before .before .before .before .before .before .before .before .before .before .before .before .before .piece-no .ensures) in
-    let e = sym o ∙ c .before .before .before .before .before .before .before .before .before .before .before .before .before .before .before .before .before .before .before .before .before .before .before .before .if1 .left in
+    let o = rw (toZ-ofZ w64 (s .args .triplet) (s .fits .triplet), toZ-ofZ w64 (s .args .b1) (s .fits .b1), toZ-ofZ w64 (s .args .b2) (s .fits .b2)) at (c .before .before .before .before .before .before .before .before .before .before .before .before .before .before .before .before .before .before .before .before .before .before .before .before .piece-no .ensures) in
+    let e = sym o ∙ c .before .before .before .before .before .before .before .before .before .before .before .before .before .before .before .before .before .before .before .before .before .before .before .if1 .left in
     let nt = c .before .before .before .before .before .before .before .before .before .before .before .before .before .before .before .before .before .before .before .magnitude .ensures ∙ ap mag (toZ-ofZ w64 (s .args .triplet) (s .fits .triplet)) in
     let n1 = c .before .before .before .before .before .before .before .before .before .before .before .before .before .before .before .before .before .before .magnitude2 .ensures ∙ ap mag (toZ-ofZ w64 (s .args .b1) (s .fits .b1)) in
     let n2 = c .before .before .before .before .before .before .before .before .before .before .before .before .before .before .before .before .before .magnitude3 .ensures ∙ ap mag (toZ-ofZ w64 (s .args .b2) (s .fits .b2)) in
@@ -130,11 +127,11 @@ mul-set-mark-2 c =
 -- src/kernel.rt:109:40
 add-set-mark : tie.Need-add-set-mark
 add-set-mark c =
-    let s : _ = c .before .before .before .before .before .before .before .before .before .before .before .before .before .before .before .before .before .before .before .before .before .before .before .before .before .before .before .before .before .before .before .before in
+    let s : _ = c .before .before .before .before .before .before .before .before .before .before .before .before .before .before .before .before .before .before .before .before .before .before .before .before .before .before .before .before .before .before .before in
     let y = s .pre .0 .0 in
     let p = s .pre .0 .1 in
-    let o = rw (toZ-ofZ w64 (s .args .triplet) (s .fits .triplet), toZ-ofZ w64 (s .args .b1) (s .fits .b1), toZ-ofZ w64 (s .args .b2) (s .fits .b2)) at (c .before .before .before .before .before .before .before .before .before .before .before .before .before .before .before .before .before .before .before .before .before .before .before .before .before .piece-no .ensures) in
-    let e = sym o ∙ c .before .before .before .before .before .before .before .before .before .before .before .before .before .before .before .before .before .before .before .before .before .before .before .before .if1 .left in
+    let o = rw (toZ-ofZ w64 (s .args .triplet) (s .fits .triplet), toZ-ofZ w64 (s .args .b1) (s .fits .b1), toZ-ofZ w64 (s .args .b2) (s .fits .b2)) at (c .before .before .before .before .before .before .before .before .before .before .before .before .before .before .before .before .before .before .before .before .before .before .before .before .piece-no .ensures) in
+    let e = sym o ∙ c .before .before .before .before .before .before .before .before .before .before .before .before .before .before .before .before .before .before .before .before .before .before .before .if1 .left in
     let nt = c .before .before .before .before .before .before .before .before .before .before .before .before .before .before .before .before .before .before .before .magnitude .ensures ∙ ap mag (toZ-ofZ w64 (s .args .triplet) (s .fits .triplet)) in
     let n1 = c .before .before .before .before .before .before .before .before .before .before .before .before .before .before .before .before .before .before .magnitude2 .ensures ∙ ap mag (toZ-ofZ w64 (s .args .b1) (s .fits .b1)) in
     let n2 = c .before .before .before .before .before .before .before .before .before .before .before .before .before .before .before .before .before .magnitude3 .ensures ∙ ap mag (toZ-ofZ w64 (s .args .b2) (s .fits .b2)) in
@@ -143,11 +140,11 @@ add-set-mark c =
 -- src/kernel.rt:109:27
 add-set-mark-2 : tie.Need-add-set-mark-2
 add-set-mark-2 c =
-    let s : _ = c .before .before .before .before .before .before .before .before .before .before .before .before .before .before .before .before .before .before .before .before .before .before .before .before .before .before .before .before .before .before .before .before in
+    let s : _ = c .before .before .before .before .before .before .before .before .before .before .before .before .before .before .before .before .before .before .before .before .before .before .before .before .before .before .before .before .before .before .before in
     let y = s .pre .0 .0 in
     let p = s .pre .0 .1 in
-    let o = rw (toZ-ofZ w64 (s .args .triplet) (s .fits .triplet), toZ-ofZ w64 (s .args .b1) (s .fits .b1), toZ-ofZ w64 (s .args .b2) (s .fits .b2)) at (c .before .before .before .before .before .before .before .before .before .before .before .before .before .before .before .before .before .before .before .before .before .before .before .before .before .piece-no .ensures) in
-    let e = sym o ∙ c .before .before .before .before .before .before .before .before .before .before .before .before .before .before .before .before .before .before .before .before .before .before .before .before .if1 .left in
+    let o = rw (toZ-ofZ w64 (s .args .triplet) (s .fits .triplet), toZ-ofZ w64 (s .args .b1) (s .fits .b1), toZ-ofZ w64 (s .args .b2) (s .fits .b2)) at (c .before .before .before .before .before .before .before .before .before .before .before .before .before .before .before .before .before .before .before .before .before .before .before .before .piece-no .ensures) in
+    let e = sym o ∙ c .before .before .before .before .before .before .before .before .before .before .before .before .before .before .before .before .before .before .before .before .before .before .before .if1 .left in
     let nt = c .before .before .before .before .before .before .before .before .before .before .before .before .before .before .before .before .before .before .before .magnitude .ensures ∙ ap mag (toZ-ofZ w64 (s .args .triplet) (s .fits .triplet)) in
     let n1 = c .before .before .before .before .before .before .before .before .before .before .before .before .before .before .before .before .before .before .magnitude2 .ensures ∙ ap mag (toZ-ofZ w64 (s .args .b1) (s .fits .b1)) in
     let n2 = c .before .before .before .before .before .before .before .before .before .before .before .before .before .before .before .before .before .magnitude3 .ensures ∙ ap mag (toZ-ofZ w64 (s .args .b2) (s .fits .b2)) in
@@ -156,11 +153,11 @@ add-set-mark-2 c =
 -- src/kernel.rt:109:5
 set-mark-requires : tie.Need-set-mark-requires
 set-mark-requires c κs =
-    let s : _ = c .before .before .before .before .before .before .before .before .before .before .before .before .before .before .before .before .before .before .before .before .before .before .before .before .before .before .before .before .before .before .before .before in
+    let s : _ = c .before .before .before .before .before .before .before .before .before .before .before .before .before .before .before .before .before .before .before .before .before .before .before .before .before .before .before .before .before .before .before in
     let y = s .pre .0 .0 in
     let p = s .pre .0 .1 in
-    let o = rw (toZ-ofZ w64 (s .args .triplet) (s .fits .triplet), toZ-ofZ w64 (s .args .b1) (s .fits .b1), toZ-ofZ w64 (s .args .b2) (s .fits .b2)) at (c .before .before .before .before .before .before .before .before .before .before .before .before .before .before .before .before .before .before .before .before .before .before .before .before .before .piece-no .ensures) in
-    let e = sym o ∙ c .before .before .before .before .before .before .before .before .before .before .before .before .before .before .before .before .before .before .before .before .before .before .before .before .if1 .left in
+    let o = rw (toZ-ofZ w64 (s .args .triplet) (s .fits .triplet), toZ-ofZ w64 (s .args .b1) (s .fits .b1), toZ-ofZ w64 (s .args .b2) (s .fits .b2)) at (c .before .before .before .before .before .before .before .before .before .before .before .before .before .before .before .before .before .before .before .before .before .before .before .before .piece-no .ensures) in
+    let e = sym o ∙ c .before .before .before .before .before .before .before .before .before .before .before .before .before .before .before .before .before .before .before .before .before .before .before .if1 .left in
     let nt = c .before .before .before .before .before .before .before .before .before .before .before .before .before .before .before .before .before .before .before .magnitude .ensures ∙ ap mag (toZ-ofZ w64 (s .args .triplet) (s .fits .triplet)) in
     let n1 = c .before .before .before .before .before .before .before .before .before .before .before .before .before .before .before .before .before .before .magnitude2 .ensures ∙ ap mag (toZ-ofZ w64 (s .args .b1) (s .fits .b1)) in
     let n2 = c .before .before .before .before .before .before .before .before .before .before .before .before .before .before .before .before .before .magnitude3 .ensures ∙ ap mag (toZ-ofZ w64 (s .args .b2) (s .fits .b2)) in
@@ -186,11 +183,14 @@ returns-3 c =
     let p = s .pre .0 .1 in
     let o = rw (toZ-ofZ w64 (s .args .triplet) (s .fits .triplet), toZ-ofZ w64 (s .args .b1) (s .fits .b1), toZ-ofZ w64 (s .args .b2) (s .fits .b2)) at (c .before .before .before .before .before .before .before .before .before .before .before .before .before .before .before .before .before .before .before .before .before .before .before .before .before .before .before .before .piece-no .ensures) in
     let e = sym o ∙ c .before .before .before .before .before .before .before .before .before .before .before .before .before .before .before .before .before .before .before .before .before .before .before .before .before .before .before .if1 .left in
-    let nt = c .before .before .before .before .before .before .before .before .before .before .before .before .before .before .before .before .before .before .before .before .before .before .magnitude .ensures ∙ ap mag (toZ-ofZ w64 (s .args .triplet) (s .fits .triplet)) in
-    let n1 = c .before .before .before .before .before .before .before .before .before .before .before .before .before .before .before .before .before .before .before .before .before .magnitude2 .ensures ∙ ap mag (toZ-ofZ w64 (s .args .b1) (s .fits .b1)) in
-    let n2 = c .before .before .before .before .before .before .before .before .before .before .before .before .before .before .before .before .before .before .before .before .magnitude3 .ensures ∙ ap mag (toZ-ofZ w64 (s .args .b2) (s .fits .b2)) in
-    let f = c .before .before .before .before .before .before .before .fill-named .ensures in
-    (run-done (asked s) (start s) y p (s .args .triplet) (s .args .b1) (s .args .b2) e (c .before .before .before .before .before .before .before .before .before .before .before .before .before .before .before .before .before .before .before .before .before .before .magnitude .result) (c .before .before .before .before .before .before .before .before .before .before .before .before .before .before .before .before .before .before .before .before .before .magnitude2 .result) (c .before .before .before .before .before .before .before .before .before .before .before .before .before .before .before .before .before .before .before .before .magnitude3 .result) nt n1 n2 (sym (c .before .before .before .before .before .before .before .before .before .before .before .before .before .before .before .before .before .before .before .before .before .before .before .before .next .given .1) ∙ c .before .before .before .before .before .before .before .before .before .before .before .before .before .before .before .before .before .before .before .before .before .before .before .before .before .before .add .ensures) (f .1 .1 .0) (f .1 .1 .1) (c .before .before .set-mark .ensures), ((λ h. (f .1 .0 .0 ∙ ap (λ (q : Study). firstCorners q (c .before .before .before .before .before .before .before .before .before .before .before .before .before .before .before .before .before .before .before .before .before .before .magnitude .result)) (made-is (asked s) (start s) y p), f .1 .0 .1 ∙ ap (λ (q : Study). secondCorners q (c .before .before .before .before .before .before .before .before .before .before .before .before .before .before .before .before .before .before .before .before .before .before .magnitude .result)) (made-is (asked s) (start s) y p))), f .0))
+    let nt = c .before .before .before .before .before .before .before .before .before .before .before .before .before .before .before .before .before .before .before .before .before .before .before .magnitude .ensures ∙ ap mag (toZ-ofZ w64 (s .args .triplet) (s .fits .triplet)) in
+    let n1 = c .before .before .before .before .before .before .before .before .before .before .before .before .before .before .before .before .before .before .before .before .before .before .magnitude2 .ensures ∙ ap mag (toZ-ofZ w64 (s .args .b1) (s .fits .b1)) in
+    let n2 = c .before .before .before .before .before .before .before .before .before .before .before .before .before .before .before .before .before .before .before .before .before .magnitude3 .ensures ∙ ap mag (toZ-ofZ w64 (s .args .b2) (s .fits .b2)) in
+    let u = sym (added-no (s .args .runs) 1 (c .before .before .before .before .before .before .before .before .before .before .before .before .before .before .before .before .before .before .before .before .before .before .before .before .before .before .add .ensures) (c .before .before .before .before .before .before .before .before .before .before .before .before .before .before .before .before .before .before .before .before .before .before .before .before .before .number-of .ensures)) ∙ c .before .before .before .before .before .before .before .before .before .before .before .before .before .before .before .before .before .before .before .before .before .before .before .before .if2 .left in
+    let f = c .before .before .before .before .before .before .before .before .fill-named .ensures in (
+      run-done (asked s) (start s) y p (s .args .triplet) (s .args .b1) (s .args .b2) e (c .before .before .before .before .before .before .before .before .before .before .before .before .before .before .before .before .before .before .before .before .before .before .before .magnitude .result) (c .before .before .before .before .before .before .before .before .before .before .before .before .before .before .before .before .before .before .before .before .before .before .magnitude2 .result) (c .before .before .before .before .before .before .before .before .before .before .before .before .before .before .before .before .before .before .before .before .before .magnitude3 .result) nt n1 n2 u (added-runs (s .args .runs) 1 (c .before .before .before .before .before .before .before .before .before .before .before .before .before .before .before .before .before .before .before .before .before .before .before .before .before .before .add .ensures) u) (f .1 .1 .0) (f .1 .1 .1) (c .before .before .before .set-mark .ensures),
+      ((λ h. (f .1 .0 .0 ∙ ap (λ (q : Study). firstCorners q (c .before .before .before .before .before .before .before .before .before .before .before .before .before .before .before .before .before .before .before .before .before .before .before .magnitude .result)) (made-is (asked s) (start s) y p), f .1 .0 .1 ∙ ap (λ (q : Study). secondCorners q (c .before .before .before .before .before .before .before .before .before .before .before .before .before .before .before .before .before .before .before .before .before .before .before .magnitude .result)) (made-is (asked s) (start s) y p))), f .0),
+    )
 
 pub run-asked-spec : {M : Type 1} → statement M
 run-asked-spec =
@@ -200,8 +200,7 @@ run-asked-spec =
     same-length
     returns
     add-requires
-    enum-known-next
-    enum-told
+    number-of-requires
     same-length-2
     returns-2
     magnitude-requires
