@@ -14,9 +14,9 @@ import sys
 import time
 
 here = os.path.dirname(os.path.abspath(__file__))
-sys.path[1:1] = [os.path.join(here, ".."), os.path.join(here, "../../foreign/python")]
+sys.path[1:1] = [os.path.join(here, ".."), os.path.join(here, "../../foreign/python/pelmetsavory")]
 
-import pelmetsavory_entries as entries
+import entries
 import sheet_cases
 import sheet_model as m
 import sheet_selftest as r
