@@ -6,12 +6,12 @@ use phonors::tetrahedron_method::all_relative_grid_address;
 use phonors::triplet::set_relative_grid_address;
 use phonors::triplet_iw::{integration_weight_per_triplet, TpRelativeGridAddress, TpType};
 
-const MESH: i64 = 12;
-
 pub struct Load {
     pub study: Study,
     /// Pairs of neighbouring bands are the degenerate sets.
     pub ids: Vec<i64>,
+    /// Every piece as a named run, six numbers each, in ascending order.
+    pub runs: Vec<i64>,
     // the study as the Rust takes it
     addresses: Vec<Vec3I>,
     tables: TpRelativeGridAddress,
@@ -31,23 +31,23 @@ fn draws(from: usize, count: usize) -> Vec<f64> {
     (0..count).map(|_| next()).collect()
 }
 
-/// Mesh 12, 12, 12 of kind 2, one address a grid point.
-fn grid() -> Grid {
-    let n = MESH.pow(3);
-    let addresses = (0..n).flat_map(|i| [i % MESH, i / MESH % MESH, i / MESH / MESH]);
+/// A mesh of kind 2 with three equal numbers, one address a grid point.
+fn grid(mesh: i64) -> Grid {
+    let n = mesh.pow(3);
+    let addresses = (0..n).flat_map(|i| [i % mesh, i / mesh % mesh, i / mesh / mesh]);
     Grid {
         kind: 2,
-        mesh: [MESH; 3],
+        mesh: [mesh; 3],
         addresses: addresses.collect(),
         map: (0..=n).collect(),
     }
 }
 
 impl Load {
-    /// Table 0, type 2; triplet i is i, i, i. With 100 triplets, six bands and ten points, all drawn, it is request 13's load. Other
+    /// Table 0, type 2; triplet i is i, i, i. With mesh 12, 100 triplets, six bands and ten points, all drawn, it is request 13's load. Other
     /// points repeat the drawn ones, which are the same for all band counts.
-    pub fn new(count: usize, bands: usize, points: usize, drawn: usize) -> Load {
-        let grid = grid();
+    pub fn new(mesh: i64, count: usize, bands: usize, points: usize, drawn: usize) -> Load {
+        let grid = grid(mesh);
         let p = grid.count();
         let study = Study {
             table: all_relative_grid_address()[0].concat().concat(),
@@ -63,7 +63,12 @@ impl Load {
             triplets: (0..count as i64).flat_map(|i| [i; 3]).collect(),
             grid,
         };
+        let pieces = (count * bands * bands) as i64;
+        let (b, pairs) = (bands as i64, (bands * bands) as i64);
         Load {
+            runs: (0..pieces)
+                .flat_map(|q| [0, q / pairs, q % pairs / b, q % b, 0, 0])
+                .collect(),
             ids: (0..bands as i64).map(|b| b - b % 2).collect(),
             addresses: triples(&study.grid.addresses),
             tables: set_relative_grid_address(&rows(&study.table), study.tp),
@@ -150,6 +155,22 @@ pub fn all_triplets(l: &Load, s: &mut Sheet) {
 pub fn run_piece(l: &Load, s: &mut Sheet, piece: [usize; 3]) {
     let no = calls::run_piece(&l.study, parts(s), piece.map(|x| x as i64));
     assert!(no == 0, "refused {no}");
+}
+
+/// All pieces as named runs in one list.
+#[inline(never)]
+pub fn list(l: &Load, s: &mut Sheet) {
+    let n = l.runs.len() / 6;
+    let (mut answers, mut tallies) = (vec![1; n], vec![0; n]);
+    let no = calls::play(
+        &l.study,
+        parts(s),
+        &l.runs,
+        &[],
+        &mut answers,
+        &mut tallies,
+    );
+    assert!(no == 0 && answers.iter().all(|a| *a == 0), "refused {no}");
 }
 
 #[inline(never)]

@@ -6,7 +6,8 @@
 //!     weights COUNT ROUNDS  nanoseconds of one weight over 24 rows, the variants in turn, medians of the rounds
 //!     weight VARIANT COUNT  so many weights of one variant
 //!
-//! LOAD is four numbers: triplets, bands, points, and how many points are drawn; the rest of the points repeat these.
+//! LOAD is four numbers: triplets, bands, points, and how many points are drawn; the rest of the points repeat these. A fifth is the mesh,
+//! 12 without it.
 #[path = "../compare/judge/calls.rs"]
 #[allow(dead_code)]
 mod calls;
@@ -20,7 +21,7 @@ mod study;
 mod weight;
 
 use clock::{clock, median};
-use load::{all_triplets, average, carry_on, questions, run_piece, rust, rust_average, Load};
+use load::{all_triplets, average, carry_on, list, questions, run_piece, rust, rust_average, Load};
 use study::Sheet;
 
 const WEIGHTS: u64 = 0x90a6e85c66921dec;
@@ -69,15 +70,17 @@ fn marked(s: &Sheet, tally: u64, mark: u8) -> bool {
 }
 
 fn compare() -> bool {
-    let l = Load::new(100, 6, 10, 10);
-    let [mut a, mut b, mut c] = [0; 3].map(|_| l.sheet());
+    let l = Load::new(12, 100, 6, 10, 10);
+    let [mut a, mut b, mut c, mut e] = [0; 4].map(|_| l.sheet());
     rust(&l, &mut a);
     carry_on(&l, &mut b);
     all_triplets(&l, &mut c);
     let d = named_runs(&l);
+    list(&l, &mut e);
     let mut good = side("the Rust", &a, &a);
     good &= side("carry-on", &a, &b) && marked(&b, 3600, 1);
     good &= side("named runs", &a, &d) && marked(&d, 3600, 1);
+    good &= side("one list", &a, &e) && marked(&e, 3600, 1);
     good &= side("all triplets", &a, &c) && marked(&c, 0, 0);
     for t in 0..100 {
         rust_average(&l, &mut a, t);
@@ -92,7 +95,7 @@ fn compare() -> bool {
     good && w + f == 0 && marked(&b, 3600, 2) && weight::compare()
 }
 
-const CALLS: [&str; 8] = [
+const CALLS: [&str; 9] = [
     "rust",
     "carry-on",
     "all-triplets",
@@ -101,10 +104,11 @@ const CALLS: [&str; 8] = [
     "average",
     "named",
     "questions",
+    "list",
 ];
 
 /// One round: both sides in turn on cleared buffers. Milliseconds in the order of CALLS.
-fn round(l: &Load, a: &mut Sheet, b: &mut Sheet) -> [f64; 8] {
+fn round(l: &Load, a: &mut Sheet, b: &mut Sheet) -> [f64; 9] {
     let n = l.study.count();
     load::clear(a);
     let rust = clock(|| rust(l, a));
@@ -115,18 +119,21 @@ fn round(l: &Load, a: &mut Sheet, b: &mut Sheet) -> [f64; 8] {
     let carry = clock(|| carry_on(l, b));
     assert!(differences(a, b) == (0, 0), "the sides differ");
     let closed = clock(|| carry_on(l, b));
+    load::clear(b);
+    let runs = clock(|| list(l, b));
+    assert!(differences(a, b) == (0, 0), "the sides differ");
     let rust_mean = clock(|| (0..n).for_each(|t| rust_average(l, a, t))) / n as f64;
     let mean = clock(|| (0..n).for_each(|t| average(l, b, t))) / n as f64;
     assert!(differences(a, b) == (0, 0), "the averages differ");
     load::clear(b);
     let named = clock(|| (0..n).for_each(|t| run_piece(l, b, [t, 0, 0]))) / n as f64;
     let asked = clock(|| (0..n).for_each(|_| questions(l, b))) / n as f64;
-    [rust, carry, all, closed, rust_mean, mean, named, asked]
+    [rust, carry, all, closed, rust_mean, mean, named, asked, runs]
 }
 
 fn time(l: &Load, rounds: usize) {
     let (mut a, mut b) = (l.sheet(), l.sheet());
-    let rounds: Vec<[f64; 8]> = (0..rounds).map(|_| round(l, &mut a, &mut b)).collect();
+    let rounds: Vec<[f64; 9]> = (0..rounds).map(|_| round(l, &mut a, &mut b)).collect();
     for (k, name) in CALLS.iter().enumerate() {
         println!(
             "{name} {:.5}",
@@ -149,6 +156,7 @@ fn work(l: &Load, name: &str) {
         "all-triplets" => all_triplets(l, &mut s),
         "named" => run_piece(l, &mut s, [0, 0, 0]),
         "questions" => questions(l, &mut s),
+        "list" => list(l, &mut s),
         "average" => average(l, &mut s, 0),
         "rust-average" => rust_average(l, &mut s, 0),
         _ => panic!("no call {name}"),
@@ -159,7 +167,8 @@ fn work(l: &Load, name: &str) {
 fn main() {
     let words: Vec<String> = std::env::args().skip(1).collect();
     let whole = |k: usize| words[k].parse::<usize>().expect("a whole number");
-    let load = || Load::new(whole(2), whole(3), whole(4), whole(5));
+    let mesh = || words.get(6).map_or(12, |_| whole(6) as i64);
+    let load = || Load::new(mesh(), whole(2), whole(3), whole(4), whole(5));
     match words[0].as_str() {
         "compare" => std::process::exit(!compare() as i32),
         "time" => time(&load(), whole(1)),

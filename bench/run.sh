@@ -69,6 +69,18 @@ average computed average_triplet
 rust-average computed the Rust's averages of a triplet
 EOF
 
+echo 'the named runs of all pieces in one list against a carry-on: milliseconds, instructions, their ratios; one named run by itself'
+for mesh in 12 48; do
+  load="100 6 10 10 $mesh"
+  "$program" time 11 $load > "$tmp/time"
+  echo "$mesh $(of carry-on) $(of list) $(net work carry-on nothing $load) $(net work list nothing $load) $(of named) $(net work named nothing $load)"
+done | awk '{
+  time = $3 <= 1.3 * $2 ? "met" : "NOT MET"
+  instr = $4 == 0 ? "not counted" : $5 <= 1.3 * $4 ? "met" : "NOT MET"
+  printf "mesh %2d: carry-on %.2f %d, the list %.2f %d, %.3f %.3f; one run %.4f %d; the aim, at most 1.3: time %s, instructions %s\n", \
+    $1, $2, $4, $3, $5, $3 / $2, ($4 > 0 ? $5 / $4 : 0), $6, $7, time, instr
+}'
+
 # What grows, how many of it, and the load.
 while read -r what units load; do
   numbers=$first

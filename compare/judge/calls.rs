@@ -79,6 +79,29 @@ pub fn carry_on(s: &Study, p: Parts) -> u64 {
     of_study!(pelmetsavory_carry_on, s, [t, w, f, m], [p.tally])
 }
 
+pub fn play(
+    s: &Study,
+    p: Parts,
+    list: &[i64],
+    ids: &[i64],
+    answers: &mut [u64],
+    tallies: &mut [u64],
+) -> u64 {
+    let (t, w, f, m) = (
+        read(&s.triplets),
+        write(p.weights),
+        write(p.flags),
+        write(p.marks),
+    );
+    let (l, i, a, b) = (read(list), read(ids), write(answers), write(tallies));
+    of_study!(
+        pelmetsavory_play,
+        s,
+        [t, w, f, m],
+        [p.tally, l.0, l.1, i.0, i.1, a.0, a.1, b.0, b.1]
+    )
+}
+
 pub fn average_triplet(s: &Study, p: Parts, triplet: i64, ids: [&[i64]; 2]) -> u64 {
     let (t, w, f, m) = (
         read(&s.triplets),

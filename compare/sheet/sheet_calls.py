@@ -5,7 +5,7 @@
 
 LIBRARY is libpelmetsavory.so. First the stored lists and open counts of sheet_cases.py, then LISTS random lists (2,000; 60s: for so many
 seconds). After each call the answer, the tally and every byte of weights, flags and marks are compared with the model's program, a NaN's
-payload too. A list that starts with all marks 0 is also replayed by one call, and compared with the model's book.
+payload too. Each list is also played by one call: from marks all 0 it is compared with the model's book, from others with its program.
 """
 import ctypes
 import os
@@ -25,7 +25,7 @@ from vectors_sheet import encoded, number_of
 NUMBERS = {"weights": ctypes.c_uint64, "flags": ctypes.c_int8, "marks": ctypes.c_uint8}
 # So many differences of a kind are told.
 TOLD = 20
-# What a place for an answer holds before a replay.
+# What a place for an answer holds before a list is played.
 UNTOUCHED = 99
 
 
@@ -77,11 +77,11 @@ class Calls:
             return self.library.carry_on(*self.given)
         return self.library.average_triplet(*self.given, call[1], *lent(wholes(call[2]), wholes(call[3])))
 
-    def replay(self, calls, places):
+    def play(self, calls, places):
         """The status, and for each call a place with its answer and one with the tally after it."""
         numbers, ids = encoded(calls)
         told, tallies = patterns([UNTOUCHED] * places), patterns([UNTOUCHED] * places)
-        status = self.library.replay(*self.given, *lent(wholes(numbers), wholes(ids), told, tallies))
+        status = self.library.play(*self.given, *lent(wholes(numbers), wholes(ids), told, tallies))
         return status, list(told), list(tallies)
 
 
@@ -114,7 +114,7 @@ class Kind:
 class Comparison:
     def __init__(self, path):
         self.library = Library(path)
-        self.kinds = {n: Kind(n) for n in ("stored call lists", "call lists", "replayed lists", "open counts")}
+        self.kinds = {n: Kind(n) for n in ("stored call lists", "call lists", "played lists", "open counts")}
 
     def compare(self, name, s, start, made, steps):
         """A list of calls; steps: the model's answers and sheets."""
@@ -124,19 +124,19 @@ class Comparison:
             number = calls.make(call)
             kind.nans += sum(map(is_nan, sheet.weights))
             kind.count(call[0], number_of(answer), number == number_of(answer) and calls.content() == list(sheet.content()))
-        self.replay(s, start, made)
+        self.play(s, start, made)
 
-    def replay(self, s, start, made):
-        """The whole list by one call: refused with 12 where it has a place too many, with 13 where a mark is not 0."""
-        kind, calls = self.kinds["replayed lists"], Calls(self.library, s, start)
+    def play(self, s, start, made):
+        """The whole list by one call: refused with 12 where it has a place too many."""
+        kind, calls = self.kinds["played lists"], Calls(self.library, s, start)
         kind.cases += 1
         places = len(made) + (kind.cases % 16 == 0)
-        want = 12 if places > len(made) else 13 if any(start.marks) else 0
-        steps = [] if want else m.book(s, start, made)
+        want = 12 if places > len(made) else 0
+        steps = [] if want else (m.program if any(start.marks) else m.book)(s, start, made)
         last = steps[-1][1] if steps else start
         expected = [[number_of(a) for a, _ in steps], [x.tally for _, x in steps]] if not want else [[UNTOUCHED] * places] * 2
-        agree = calls.replay(made, places) == (want, *expected) and calls.content() == list(last.content())
-        kind.count("replay", want, agree)
+        agree = calls.play(made, places) == (want, *expected) and calls.content() == list(last.content())
+        kind.count("list", want, agree)
 
     def stored(self):
         for c in sheet_cases.cases():
@@ -175,7 +175,7 @@ class Comparison:
                 seen[key] = seen.get(key, 0) + times
         print(m.answer_table({(call, n or "done"): times for (call, n), times in seen.items()}))
         print("sheets: %d NaNs compared by their bits" % sum(k.nans for k in self.kinds.values()))
-        asked = {**m.ASKED, "open count": (9, 12, 14), "replay": (12, 13)}
+        asked = {**m.ASKED, "open count": (9, 12, 14), "list": (12,)}
         missing = [(call, n) for call, numbers in asked.items() for n in (0, *numbers) if (call, n) not in seen]
         if missing:
             print("never seen:", missing)

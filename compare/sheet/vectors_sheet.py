@@ -15,8 +15,8 @@ import sheet_cases
 import sheet_model as m
 
 KINDS = {"run": 1, "carry_on": 2, "average": 3}
-NAMES = {1: "run of a piece", 2: "carry on", 3: "average of a triplet", 4: "open count", 5: "replay of a list"}
-# The kinds that the replay reads as an averaging: any number but 0 and 1.
+NAMES = {1: "run of a piece", 2: "carry on", 3: "average of a triplet", 4: "open count", 5: "list of calls"}
+# The kinds that a list reads as an averaging: any number but 0 and 1.
 AVERAGES = (2, -1, 77, 1 << 62)
 # The program's buffers: of a sheet, of whole numbers, of floats; and its flags.
 ROOM = 256
@@ -119,12 +119,12 @@ def encoded(calls):
     return out, ids
 
 
-def replay_of_list(c, seen, extra=0):
-    """The whole list by one call of `replay`; a start with other marks than 0 is refused with 13, a wrong count of answers with 12."""
+def whole_list(c, seen, extra=0):
+    """The whole list by one call of `play`; a wrong count of answers is refused with 12."""
     start, steps = c["start"], c["steps"]
     numbers_of, ids = encoded(c["calls"])
     places = len(steps) + extra
-    number = 12 if extra else 13 if any(start["marks"]) else 0
+    number = 12 if extra else 0
     last = steps[-1] if steps and number == 0 else start
     answers = [number_of(s["answer"]) for s in steps] if number == 0 else [0] * places
     tallies = [s["tally"] for s in steps] if number == 0 else [0] * places
@@ -160,9 +160,9 @@ def groups(seed, seen):
                 last = now
                 group += list_of_calls(c, seen)
                 if not any(c["start"]["marks"]) or c["number"] % 8 == 0:
-                    group += replay_of_list(c, seen)
+                    group += whole_list(c, seen)
                 if c["number"] % 40 == 0:
-                    group += replay_of_list(c, seen, 1)
+                    group += whole_list(c, seen, 1)
             yield group
     for c in sheet_cases.open_count_cases(seed):
         yield open_count(c, seen)
@@ -175,7 +175,7 @@ def main():
     data = records.blocks(groups(seed, seen))
     asked = {KINDS[k]: (0,) + v for k, v in m.ASKED.items()}
     asked[4] = (0, 9, 12, 14)
-    asked[5] = (0, 12, 13)
+    asked[5] = (0, 12)
     assert sorted(seen) == sorted((k, n) for k, v in asked.items() for n in v)
     lines = ["%s\t%s\t%d\n" % (NAMES[kind], "refused %d" % number if number else "done", seen[kind, number]) for kind, number in sorted(seen)]
     records.write(crate, data, ("".join(lines) + "differences\t0\n").encode())

@@ -226,29 +226,35 @@ static uint64_t call(pelmetsavory_sheet *s, const int64_t *c)
 }
 
 /* a list of calls in one call: in every bit what the same calls make one by one */
-static void replays(void)
+static void lists(void)
 {
     pelmetsavory_sheet s = new_sheet(&y, -7.25, 5, 40), t = new_sheet(&y, -7.25, 5, 40);
     uint64_t answers[CALLS], tallies[CALLS], untouched[CALLS];
     memset(answers, 0x55, sizeof answers); memset(tallies, 0x55, sizeof tallies); memset(untouched, 0x55, sizeof untouched);
-#define REPLAY(numbers, n, m) pelmetsavory_replay(PELMETSAVORY_STUDY(&y), triplets, 9, PELMETSAVORY_SHEET(&s), *list, numbers, ids, 6, answers, n, tallies, m)
-    KEPT(12, &s, REPLAY(CALLS * 6 - 1, CALLS, CALLS));
-    KEPT(12, &s, REPLAY(CALLS * 6 - 6, CALLS, CALLS));
-    KEPT(12, &s, REPLAY(CALLS * 6, CALLS - 1, CALLS - 1));
-    KEPT(12, &s, REPLAY(CALLS * 6, CALLS, CALLS - 1));
+#define PLAY(numbers, n, m) pelmetsavory_play(PELMETSAVORY_STUDY(&y), triplets, 9, PELMETSAVORY_SHEET(&s), *list, numbers, ids, 6, answers, n, tallies, m)
+    KEPT(12, &s, PLAY(CALLS * 6 - 1, CALLS, CALLS));
+    KEPT(12, &s, PLAY(CALLS * 6 - 6, CALLS, CALLS));
+    KEPT(12, &s, PLAY(CALLS * 6, CALLS - 1, CALLS - 1));
+    KEPT(12, &s, PLAY(CALLS * 6, CALLS, CALLS - 1));
     s.marks[26] = 1;
-    KEPT(12, &s, REPLAY(0, CALLS, CALLS));
-    KEPT(13, &s, REPLAY(CALLS * 6, CALLS, CALLS));
-    KEPT(13, &s, pelmetsavory_sheet_replay(&y, &s, 0, NULL, NULL, 0, NULL, NULL));
+    KEPT(12, &s, PLAY(0, CALLS, CALLS));
+    KEPT(0, &s, pelmetsavory_sheet_play(&y, &s, 0, NULL, NULL, 0, NULL, NULL));
     s.marks[26] = 0;
-    KEPT(0, &s, pelmetsavory_sheet_replay(&y, &s, 0, NULL, NULL, 0, NULL, NULL)); /* no call: nothing is written */
+    KEPT(0, &s, pelmetsavory_sheet_play(&y, &s, 0, NULL, NULL, 0, NULL, NULL)); /* no call: nothing is written */
     YES(!memcmp(answers, untouched, sizeof answers) && !memcmp(tallies, untouched, sizeof tallies));
-    WANT(0, pelmetsavory_sheet_replay(&y, &s, CALLS, list, ids, 6, answers, tallies));
+    WANT(0, pelmetsavory_sheet_play(&y, &s, CALLS, list, ids, 6, answers, tallies));
     for (int k = 0; k < CALLS; k++) { WANT(statuses[k], call(&t, list[k])); YES(answers[k] == statuses[k] && tallies[k] == t.tally); }
     unsigned char a[SHEET_BYTES], b[SHEET_BYTES];
     to_bytes(&s, a); to_bytes(&t, b);
     YES(!memcmp(a, b, SHEET_BYTES) && s.tally == 68);
-    name("replay"); wholes((const int64_t *)answers, CALLS); wholes((const int64_t *)tallies, CALLS); whole_sheet(&s); end();
+    pelmetsavory_sheet cut = new_sheet(&y, -7.25, 5, 40);
+    uint64_t told[CALLS], counts[CALLS];
+    WANT(0, pelmetsavory_sheet_play(&y, &cut, 5, list, ids, 6, told, counts));
+    WANT(0, pelmetsavory_sheet_play(&y, &cut, CALLS - 5, list + 5, ids, 6, told + 5, counts + 5)); /* resumed where the cut left the sheet */
+    to_bytes(&cut, b);
+    YES(!memcmp(a, b, SHEET_BYTES) && !memcmp(told, answers, sizeof told) && !memcmp(counts, tallies, sizeof counts));
+    free_sheet(&cut);
+    name("list"); wholes((const int64_t *)answers, CALLS); wholes((const int64_t *)tallies, CALLS); whole_sheet(&s); end();
     free_sheet(&s); free_sheet(&t);
 }
 
@@ -309,10 +315,10 @@ static void *deep(void *sheet)
     return NULL;
 }
 
-static void *deep_replay(void *sheet)
+static void *deep_list(void *sheet)
 {
     static uint64_t answers[CALLS], tallies[CALLS];
-    WANT(0, pelmetsavory_sheet_replay(&y, sheet, CALLS, list, ids, 6, answers, tallies));
+    WANT(0, pelmetsavory_sheet_play(&y, sheet, CALLS, list, ids, 6, answers, tallies));
     return NULL;
 }
 
@@ -342,9 +348,9 @@ static void stack_need(void)
 {
     pelmetsavory_sheet s = new_sheet(&y, 0, 0, 0), t = new_sheet(&y, 0, 0, 0);
     size_t length = stored("study.txt", text, sizeof text);
-    size_t plain = stack_used(deep, &s), replay = stack_used(deep_replay, &t), whole = stack_used(deep_answer, &length);
-    printf("c: threads used %zu bytes of stack, %zu for a replay, %zu for an answer to a text\n", plain, replay, whole);
-    YES(plain < 48 * 1024 && replay < 48 * 1024 && whole < 1280 * 1024);
+    size_t plain = stack_used(deep, &s), played = stack_used(deep_list, &t), whole = stack_used(deep_answer, &length);
+    printf("c: threads used %zu bytes of stack, %zu for a list, %zu for an answer to a text\n", plain, played, whole);
+    YES(plain < 48 * 1024 && played < 48 * 1024 && whole < 1280 * 1024);
     free_sheet(&s); free_sheet(&t);
 }
 
@@ -359,7 +365,7 @@ int main(int argc, char **argv)
     (void)argv;
     if (getenv("PELMETSAVORY_OUT")) out = fopen(getenv("PELMETSAVORY_OUT"), "w");
     calls();
-    replays();
+    lists();
     texts();
     if (out) YES(!fclose(out));
     if (argc < 2) stack_need();

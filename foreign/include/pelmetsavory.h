@@ -94,12 +94,12 @@ static inline uint64_t pelmetsavory_sheet_average_triplet(const pelmetsavory_stu
  * the start and end in `ids` of the first id list and of the second (average, and any other kind). What is left of the six is not read. */
 enum { PELMETSAVORY_RUN = 0, PELMETSAVORY_CARRY_ON = 1, PELMETSAVORY_AVERAGE = 2 };
 
-/* Replays `calls` calls on a sheet with every piece open: the status of each, and the tally after it. The status of the replay is 0 or 13, a
- * mark that is not 0 (12, which is its own too, asks for the lengths that this call gives); what a call asks goes to its place alone. */
-static inline uint64_t pelmetsavory_sheet_replay(const pelmetsavory_study *y, pelmetsavory_sheet *s, size_t calls, const int64_t (*list)[6],
+/* Plays `calls` calls on a sheet with any marks: the status of each, and the tally after it. The status of the list is 0 (12, which is its
+ * own, asks for the lengths that this call gives); what a call asks goes to its place alone. What all of them ask is asked once. */
+static inline uint64_t pelmetsavory_sheet_play(const pelmetsavory_study *y, pelmetsavory_sheet *s, size_t calls, const int64_t (*list)[6],
     const int64_t *ids, size_t ids_len, uint64_t *answers, uint64_t *tallies)
 {
-    return pelmetsavory_replay(PELMETSAVORY_STUDY(y), y->triplets, y->triplets_len, PELMETSAVORY_SHEET(s), calls ? *list : NULL, calls * 6,
+    return pelmetsavory_play(PELMETSAVORY_STUDY(y), y->triplets, y->triplets_len, PELMETSAVORY_SHEET(s), calls ? *list : NULL, calls * 6,
         ids, ids_len, answers, calls, tallies, calls);
 }
 

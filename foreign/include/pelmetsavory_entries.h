@@ -5,7 +5,7 @@
 #include <stdint.h>
 
 /* The interface version that this header was made for: that of the library must be the same (pelmetsavory_ready). */
-#define PELMETSAVORY_INTERFACE_VERSION 1
+#define PELMETSAVORY_INTERFACE_VERSION 2
 
 /* A piece as a caller names it: any numbers. */
 typedef struct {
@@ -87,8 +87,8 @@ uint64_t pelmetsavory_matvec_di(
     pelmetsavory_triple b,
     double product[3]);
 
-/* Replays a list of calls, six numbers a call, on a sheet with every piece open, and counts the runs behind `tally`. Each call's status goes to its place in `answers`, the tally after it to its place in `tallies`. The status is 0 or one of two questions of its own: 12, has the list six numbers for each of `answers` and of `tallies`; 13, is every mark 0? What a call asks is told in its place alone. */
-uint64_t pelmetsavory_replay(
+/* Plays a list of calls, six numbers a call, on a sheet with any marks, and counts the runs behind `tally`. Each call's status goes to its place in `answers`, the tally after it to its place in `tallies`. The status is 0, or 12: has the list six numbers for each of `answers` and of `tallies`? What a call asks is told in its place alone. */
+uint64_t pelmetsavory_play(
     pelmetsavory_shape shape,
     const int64_t *addresses,
     size_t addresses_len,

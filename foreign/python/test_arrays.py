@@ -107,7 +107,7 @@ def test_a_sheet_is_of_one_study():
     sheet.run_piece(0, 0, 0)
     y.frequencies1 *= 2
     ids = [0, 0, 2], [0, 1, 1]
-    for call in (sheet.carry_on, lambda: sheet.run_piece(1, 0, 0), lambda: sheet.average_triplet(0, *ids), lambda: sheet.replay([]), sheet.to_bytes):
+    for call in (sheet.carry_on, lambda: sheet.run_piece(1, 0, 0), lambda: sheet.average_triplet(0, *ids), lambda: sheet.play([]), sheet.to_bytes):
         raises(ValueError, "the study was changed after", call, sheet)
     y.frequencies1 /= 2
     sheet.carry_on()
@@ -204,8 +204,8 @@ def test_shapes_are_checked_and_never_changed():
         ("frequencies", f.ravel(), "(irreducible points, bands)", lambda x: pm.integration_weights_at_grid_points(g, t, [1], [0], x, [0] * 12)),
         ("gp2irgp_map", np.zeros((12, 1), int), "(P,)", lambda x: pm.integration_weights_at_grid_points(g, t, [1], [0], f, x)),
         ("ids1", np.zeros((3, 1), int), "(bands,)", lambda x: pm.Sheet(study).average_triplet(0, x, [0, 1, 2])),
-        ("ids2", np.zeros((1, 3), int), "(bands,)", lambda x: pm.Sheet(study).replay([("average_triplet", 0, [0, 1, 2], x)])),
-        ("rows", np.zeros(12, int), "(n, 6)", lambda x: pm.Sheet(study).replay_list(x, [])),
+        ("ids2", np.zeros((1, 3), int), "(bands,)", lambda x: pm.Sheet(study).play([("average_triplet", 0, [0, 1, 2], x)])),
+        ("rows", np.zeros(12, int), "(n, 6)", lambda x: pm.Sheet(study).play_list(x, [])),
         ("flags", np.zeros(27, np.int8), "(triplets, points, b1, b2)", lambda x: pm.open_count(x, 0)),
         ("flags", z[:, :, :2], "(5, 3, 3)", lambda x: pm.average_weights_over_degenerate_sets(w, x, [0, 0, 2], [0, 1, 1], 3)),
         ("weights", w.transpose(1, 0, 2, 3), "(channels, 5, 3, 3)", lambda x: pm.average_weights_over_degenerate_sets(x, z, [0, 0, 2], [0, 1, 1], 3)),
@@ -242,10 +242,10 @@ def test_nothing_wraps_and_nothing_is_rounded():
         (ValueError, "'I' or 'J'", lambda: pm.tetrahedra_integration_weight(2, [[0, 4, 4, 4]] * 24, "i")),
         (OverflowError, "triplet", lambda: sheet.run_piece(big, 0, 0)),
         (OverflowError, "b2", lambda: sheet.run_piece(0, 0, -big - 1)),
-        (OverflowError, "triplet", lambda: sheet.replay([("run_piece", big, 0, 0)])),
+        (OverflowError, "triplet", lambda: sheet.play([("run_piece", big, 0, 0)])),
         (TypeError, "", lambda: sheet.run_piece(0.0, 0, 0)),
-        (TypeError, "b2", lambda: sheet.replay([("run_piece", 0, 0)])),
-        (KeyError, "run", lambda: sheet.replay([("run",)])),
+        (TypeError, "b2", lambda: sheet.play([("run_piece", 0, 0)])),
+        (KeyError, "run", lambda: sheet.play([("run",)])),
         (TypeError, "", lambda: pm.answer("text")),
     ):
         raises(error, words, call, sheet)

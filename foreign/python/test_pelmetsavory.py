@@ -126,17 +126,16 @@ named = lambda kind, a, b, c, d, e: {0: ("run_piece", a, b, c), 1: ("carry_on",)
 calls = [named(*row) for row in rows]
 by_rows, by_calls, one_by_one, marked = fresh(), fresh(), fresh(), fresh()
 marked.marks[2, 2, 2] = 1
-replay = lambda s, numbers, answers, tallies: checked(LIBRARY.pelmetsavory_replay(*s._arguments(), *inputs(numbers, np.array(ids)), *output(answers, 8), *output(tallies, 8)))
+play = lambda s, numbers, answers, tallies: checked(LIBRARY.pelmetsavory_play(*s._arguments(), *inputs(numbers, np.array(ids)), *output(answers, 8), *output(tallies, 8)))
 short, kept = np.array(rows[1:]), [np.full(14, 7, np.uint64), np.full(14, 7, np.uint64)]
 for numbers, answers, tallies in (short, *kept), (short.ravel()[1:], kept[0][1:], kept[1][1:]), (short, kept[0][1:], kept[1]):
     for s in by_rows, marked:
-        refused(12, lambda: replay(s, numbers, answers, tallies), s)
-refused(13, lambda: replay(marked, np.array(rows), *kept), marked)
-refused(13, lambda: marked.replay([]), marked)
+        refused(12, lambda: play(s, numbers, answers, tallies), s)
+assert [a.size for a in marked.play([])] == [0, 0]
 assert all((a == 7).all() for a in kept)
-assert [a.size for a in by_rows.replay([])] == [0, 0]
+assert [a.size for a in by_rows.play([])] == [0, 0]
 assert held(by_rows) == held(fresh())
-answers, tallies = by_rows.replay_list(rows, ids)
+answers, tallies = by_rows.play_list(rows, ids)
 for k, (name, *given) in enumerate(calls):
     try:
         getattr(one_by_one, name)(*given)
@@ -145,8 +144,14 @@ for k, (name, *given) in enumerate(calls):
         status = e.number
     assert (status, status, one_by_one.tally) == (statuses[k], answers[k], tallies[k])
 assert held(by_rows) == held(one_by_one) and by_rows.tally == 68
-assert [a.tolist() for a in by_calls.replay(calls)] == [statuses, tallies.tolist()] and held(by_calls) == held(by_rows)
-say("replay", *answers, *tallies, *sheet_values(by_rows))
+assert [a.tolist() for a in by_calls.play(calls)] == [statuses, tallies.tolist()] and held(by_calls) == held(by_rows)
+cut = fresh()
+parts = cut.play_list(rows[:5], ids), cut.play_list(rows[5:], ids)  # resumed where the cut left the sheet
+assert [np.concatenate(x).tolist() for x in zip(*parts)] == [statuses, tallies.tolist()] and held(cut) == held(by_rows)
+named_runs, pieces = fresh(), fresh()
+some = [(1, 1, 1), (3, 0, 0), (0, 2, 1)]
+assert [a.tolist() for a in pieces.run_pieces(some)] == [a.tolist() for a in named_runs.play([("run_piece", *p) for p in some])] and held(pieces) == held(named_runs)
+say("list", *answers, *tallies, *sheet_values(by_rows))
 
 # the answer to the text of the stored study is the stored listing
 stored = open(DATA + "study.txt", "rb").read()

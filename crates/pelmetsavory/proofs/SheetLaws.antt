@@ -7,8 +7,8 @@ use Rattle.sheet_marks.specs.declared.SheetAnswer.{SheetAnswer}
 use Rattle.sheet_marks.specs.Tallies.{answerNumber}
 use Rattle.sheet_marks.proofs.TallyLaws.{number-is}
 use Rattle.sheet_step.specs.Steps.{Sheet, Call, verdict, step, Did}
-use Rattle.book.specs.Replay.{Replayed, numberIn, DidReplay}
-use Rattle.pelmetsavory.specs.Sheets.{Called, CalledReplay}
+use Rattle.sheet_list.specs.Play.{Outcome, numberIn, DidPlay}
+use Rattle.pelmetsavory.specs.Sheets.{Called, CalledPlay}
 
 -- `seen` is the call as the code below sees it, `call` as its caller names it
 pub called : (g : Given) (s : Sheet) (seen call : Call) → seen ≡ call → (a : SheetAnswer) (left : Sheet) → Did g s seen a left
@@ -19,9 +19,9 @@ called g s seen call same a left h status e = record {
 }
 
 -- a list of calls
-pub called-replay : (g : Given) (start : Sheet) (calls : List Call) (n : ℕ) (answers tallies : List ℕ) (a : SheetAnswer) (left : Replayed)
-    → DidReplay g start calls n answers tallies a left → (status : ℕ) → status ≡ answerNumber (a .answer) → CalledReplay g start calls n answers tallies status left
-called-replay g start calls n answers tallies a left h status e = record {
+pub called-play : (g : Given) (s : Sheet) (calls : List Call) (n : ℕ) (answers tallies : List ℕ) (a : SheetAnswer) (left : Outcome)
+    → DidPlay g s calls n answers tallies a left → (status : ℕ) → status ≡ answerNumber (a .answer) → CalledPlay g s calls n answers tallies status left
+called-play g s calls n answers tallies a left h status e = record {
   status-is = e ∙ ap numberIn (h .answers-with) ∙ number-is n;
   leaves = h .leaves;
 }

@@ -5,14 +5,14 @@ use Prim.Native.Nat.{ℕ}
 use Rattle.question_grids.specs.Ask.{afterCall}
 use Rattle.triplet_study.specs.Given.{Given}
 use Rattle.sheet_step.specs.Steps.{Sheet, Call, verdict, step}
-use Rattle.book.specs.Replay.{Replayed, replayed, bookReplay}
+use Rattle.sheet_list.specs.Play.{Outcome, outcome, outcomeOf}
 
 -- one call
 pub record Called (g : Given) (s : Sheet) (c : Call) (status : ℕ) (left : Sheet) : Type 0 where
   pub status-is : status ≡ verdict g s c
   pub leaves : left ≡ step g s c
 
--- a list of calls, which the number of a first no may keep from being replayed
-pub record CalledReplay (g : Given) (start : Sheet) (calls : List Call) (no : ℕ) (answers tallies : List ℕ) (status : ℕ) (left : Replayed) : Type 0 where
-  pub status-is : status ≡ no
-  pub leaves : left ≡ afterCall no (bookReplay g start calls) (replayed start answers tallies)
+-- a list of calls, which the number of a first no may keep from being played
+pub record CalledPlay (g : Given) (s : Sheet) (calls : List Call) (number : ℕ) (answers tallies : List ℕ) (status : ℕ) (left : Outcome) : Type 0 where
+  pub status-is : status ≡ number
+  pub leaves : left ≡ afterCall number (outcomeOf g s calls) (outcome s answers tallies)

@@ -3,7 +3,7 @@
 pub mod answering;
 mod choice;
 pub mod grids;
-pub mod replaying;
+pub mod playing;
 pub mod sheets;
 pub mod tetrahedra;
 pub mod triplets;

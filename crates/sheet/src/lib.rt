@@ -1,7 +1,9 @@
 // The run sheet: run a named piece, carry on, average a triplet. Weights lie by channel, triplet, point, b1, b2; flags without
 // the channel; marks by triplet, b1, b2.
+ghost use mathlib.Core.Path.{_≡_};
 ghost use Rattle.triplet_study.specs.Lent.{studyIn};
 ghost use Rattle.sheet_step.specs.Lent.{sheetIn, sheetOut};
+ghost use Rattle.sheet_marks.specs.Tallies.{sheetAnswer};
 ghost use Rattle.sheet_step.specs.Steps.{run, carry, average, Did};
 pub use sheet_marks::Answer;
 pub use sheet_marks::Counts;
@@ -10,9 +12,21 @@ pub use sheet_marks::SheetAnswer;
 pub use sheet_marks::Tally;
 use sheet_marks::kernel::refused;
 pub use sheet_marks::open_count;
-use sheet_step::kernel::marks::COMPUTED;
-use sheet_step::kernel::marks::set_mark;
 pub use triplet_study::Shape;
+
+// The answer of a call by its number and the tally after it.
+fn answer_of(no: u64, runs: u64) -> SheetAnswer
+    ensures { λ r. ⌜ r ≡ sheetAnswer no runs ⌝ }
+{
+    let tally = Tally { runs };
+    if no != 0 {
+        return refused(no, tally);
+    }
+    SheetAnswer {
+        answer: Answer::Done,
+        tally,
+    }
+}
 
 // Runs the piece of a triplet and two bands: its entries at every point, in every channel, and its mark. Questions 3 to 15, 20.
 pub fn run_piece(
@@ -52,44 +66,62 @@ pub fn run_piece(
         return refused(no, tally);
     }
     let z = triplet_study::kernel::sizes_of(shape, frequency_points.len(), triplets.len() / 3);
-    let own = sheet_step::kernel::asks::piece_no(z, marks, triplet, b1, b2);
-    if own != 0 {
-        return refused(own, tally);
-    }
-    let added = tally.add(1);
-    let room = added.answer;
-    let Answer::Done = room else {
-        return added;
-    };
     let tp_type = shape.tp_type;
     let bz_grid_type = shape.bz_grid_type;
     let d_diag = shape.d_diag;
     let tp = triplet_channels::kernel::types::tp_type_of(tp_type);
     let grid = bzgrid::kernel::grid_of(bz_grid_type, d_diag);
-    let t = common::kernel::magnitude(triplet);
-    let n1 = common::kernel::magnitude(b1);
-    let n2 = common::kernel::magnitude(b2);
-    sheet_fill::kernel::run::fill_named(
+    let second = triplet_corners::kernel::second_steps(tp, relative_grid_address);
+    let m = relative_grid_address.len();
+    let rows = m / 12;
+    let none = z.triplets;
+    let runs = tally.runs;
+    let mut f1 = [0.0; 384];
+    let mut f2 = [0.0; 384];
+    let mut a0 = [0.0; 384];
+    let mut a1 = [0.0; 384];
+    let mut a2 = [0.0; 384];
+    let mut p0 = [0usize; 96];
+    let mut p1 = [0usize; 96];
+    let mut p2 = [0usize; 96];
+    let mut numbers1 = [0usize; 384];
+    let mut numbers2 = [0usize; 384];
+    let turn = sheet_turn::kernel::run_asked(
+        &mut f1,
+        &mut f2,
+        &mut a0,
+        &mut a1,
+        &mut a2,
+        &mut p0,
+        &mut p1,
+        &mut p2,
+        &mut numbers1,
+        &mut numbers2,
         weights,
         flags,
+        marks,
+        shape,
         z,
         tp,
         grid,
         addresses,
         gp_map,
         relative_grid_address,
+        &second[..m],
+        rows,
         frequencies1,
         frequencies2,
         frequency_points,
         triplets,
-        t,
-        n1,
-        n2,
+        runs,
+        none,
+        triplet,
+        b1,
+        b2,
     );
-    let pairs = z.pairs;
-    let bands2 = z.bands2;
-    set_mark(marks, t * pairs + (n1 * bands2 + n2), COMPUTED);
-    added
+    let own = turn.no;
+    let after = turn.runs;
+    answer_of(own, after)
 }
 
 // Runs all pieces marked 0, in ascending order. Questions 3 to 13, 20 for all runs of the call.
@@ -127,33 +159,59 @@ pub fn carry_on(
         return refused(no, tally);
     }
     let z = triplet_study::kernel::sizes_of(shape, frequency_points.len(), triplets.len() / 3);
-    let runs = sheet_step::kernel::marks::open_pieces(marks);
-    let added = tally.add(runs);
-    let room = added.answer;
-    let Answer::Done = room else {
-        return added;
-    };
     let tp_type = shape.tp_type;
     let bz_grid_type = shape.bz_grid_type;
     let d_diag = shape.d_diag;
     let tp = triplet_channels::kernel::types::tp_type_of(tp_type);
     let grid = bzgrid::kernel::grid_of(bz_grid_type, d_diag);
-    sheet_fill::kernel::carry::fill_open(
+    let second = triplet_corners::kernel::second_steps(tp, relative_grid_address);
+    let m = relative_grid_address.len();
+    let rows = m / 12;
+    let none = z.triplets;
+    let runs = tally.runs;
+    let mut f1 = [0.0; 384];
+    let mut f2 = [0.0; 384];
+    let mut a0 = [0.0; 384];
+    let mut a1 = [0.0; 384];
+    let mut a2 = [0.0; 384];
+    let mut p0 = [0usize; 96];
+    let mut p1 = [0usize; 96];
+    let mut p2 = [0usize; 96];
+    let mut numbers1 = [0usize; 384];
+    let mut numbers2 = [0usize; 384];
+    let turn = sheet_turn::kernel::carry_asked(
+        &mut f1,
+        &mut f2,
+        &mut a0,
+        &mut a1,
+        &mut a2,
+        &mut p0,
+        &mut p1,
+        &mut p2,
+        &mut numbers1,
+        &mut numbers2,
         weights,
         flags,
         marks,
+        shape,
         z,
         tp,
         grid,
         addresses,
         gp_map,
         relative_grid_address,
+        &second[..m],
+        rows,
         frequencies1,
         frequencies2,
         frequency_points,
         triplets,
+        runs,
+        none,
     );
-    added
+    let own = turn.no;
+    let after = turn.runs;
+    answer_of(own, after)
 }
 
 // Averages a triplet over the degenerate sets of two id lists: each channel, then the flags; its marks become 2. Questions 3 to 19.
@@ -194,24 +252,24 @@ pub fn average_triplet(
         return refused(no, tally);
     }
     let z = triplet_study::kernel::sizes_of(shape, frequency_points.len(), triplets.len() / 3);
-    let own = sheet_step::kernel::asks::average_no(
-        z,
+    let runs = tally.runs;
+    let own = sheet_turn::kernel::average_asked(
         weights,
+        flags,
         marks,
+        shape,
+        z,
+        addresses,
+        gp_map,
+        relative_grid_address,
+        frequencies1,
+        frequencies2,
+        frequency_points,
+        triplets,
+        runs,
         triplet,
         degenerate_ids1,
         degenerate_ids2,
     );
-    if own != 0 {
-        return refused(own, tally);
-    }
-    let t = common::kernel::magnitude(triplet);
-    sheet_fill::kernel::average::average_weights(z, weights, t, degenerate_ids1, degenerate_ids2);
-    sheet_fill::kernel::average::average_flags(z, flags, t, degenerate_ids1, degenerate_ids2);
-    let pairs = z.pairs;
-    sheet_step::kernel::marks::average_marks(pairs, marks, t);
-    SheetAnswer {
-        answer: Answer::Done,
-        tally,
-    }
+    answer_of(own, runs)
 }

@@ -101,7 +101,7 @@ module _ (m : List ℕ) where
       (lt-or-le n mid))
 
   -- one piece
-  open-one : (q n : ℕ) → cond (isOpenAt m q) (eqb n q) false ≡ openWithin m q (q + 1) n
+  pub open-one : (q n : ℕ) → cond (isOpenAt m q) (eqb n q) false ≡ openWithin m q (q + 1) n
   unfolding openWithin
   open-one q n = rw (one-place q n) (go (eqb n q) refl)
     where
@@ -109,7 +109,7 @@ module _ (m : List ℕ) where
       go true e = let h : n ≡ q = eqb-true n q e in rw h (cond-same (isOpenAt m q))
       go false e = cond-no (isOpenAt m q)
 
-  closed-one : (q : ℕ) → q < length m → cond (isOpenAt m q) (set m q 1) m ≡ closedWithin m q (q + 1)
+  pub closed-one : (q : ℕ) → q < length m → cond (isOpenAt m q) (set m q 1) m ≡ closedWithin m q (q + 1)
   unfolding closedWithin isOpenAt
   closed-one q h = go (eqb (markAt m q) 0) refl
     where
@@ -142,27 +142,3 @@ module _ (m : List ℕ) where
   closed-all hi e =
       sym (patch-is 1 (inStretch 0 hi) (λ n. closed (markAt m n)) m (map closed m) (length-map m closed)
       (λ i l. List·getD-map closed m i 1 ∙ rw (stretch-yes 0 hi i (omega arith) (omega arith))))
-
--- a piece after a stretch, by the marks that the stretch left
-module _ (m m' : List ℕ) (lo q hi : ℕ) (e : m' ≡ closedWithin m lo q) (a : lo ≤ q) (h : hi ≡ q + 1) where
-  pub open-next : (n : ℕ) → cond (cond (isOpenAt m' q) (eqb n q) false) true (openWithin m lo q n) ≡ openWithin m lo hi n
-  open-next n = rw (open-one m' q n, e, h) (open-join m lo q (q + 1) n a (omega arith))
-
-  pub closed-next : q < length m' → cond (isOpenAt m' q) (set m' q 1) m' ≡ closedWithin m lo hi
-  closed-next l = closed-one m' q l ∙ rw (e, h) (closed-join m lo q (q + 1) a (omega arith))
-
--- a stretch with no open piece
-pub shut : (m : List ℕ) (lo hi : ℕ) → ((n : ℕ) → lo ≤ n → n < hi → isOpenAt m n ≡ false) → (n : ℕ) → openWithin m lo hi n ≡ false
-unfolding openWithin
-shut m lo hi h n =
-    ⊎-elim (λ l. rw (stretch-low lo hi n l))
-    (λ l. ⊎-elim (λ k. rw (h n l k) (and-no (inStretch lo hi n))) (λ k. rw (stretch-high lo hi n k)) (lt-or-le n hi))
-    (lt-or-le n lo)
-
-pub shut-marks : (m : List ℕ) (lo hi : ℕ) → ((n : ℕ) → lo ≤ n → n < hi → isOpenAt m n ≡ false) → m ≡ closedWithin m lo hi
-unfolding closedWithin isOpenAt
-shut-marks m lo hi h =
-    patch-is 1 (inStretch lo hi) (λ n. closed (markAt m n)) m m refl
-    (λ i _. ⊎-elim (λ l. rw (stretch-low lo hi i l))
-    (λ l. ⊎-elim (λ k. rw (stretch-yes lo hi i l k, h i l k)) (λ k. rw (stretch-high lo hi i k)) (lt-or-le i hi))
-    (lt-or-le i lo))

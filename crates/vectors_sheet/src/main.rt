@@ -8,7 +8,7 @@
 //   5  open count: triplets, points, both band counts, length of the flags, the flags, named triplet, then refusal and count
 //
 // A call is its kind (1 run of a piece: triplet, b1, b2; 2 carry on; 3 averaging: triplet, both lists of ids; 5 a whole list through
-// `replay`: list of its numbers, list of ids, how many answers, the answers and the tallies after each), then what it is to give: refusal,
+// `play`: list of its numbers, list of ids, how many answers, the answers and the tallies after each), then what it is to give: refusal,
 // tally, and 1 with the content of weights, flags and marks, or 0 where that is the content before the call.
 //
 // Refusal 0 is an accepted call. Tally and count are hexadecimal. Each block has its own grids, tables and studies. A list's sheet goes
@@ -402,7 +402,7 @@ fn checked(number: u64, agrees: bool) -> u64 {
     if agrees { number } else { 21 }
 }
 
-fn made_by_replay(done: SheetAnswer, agrees: bool, next: Cursor) -> Made {
+fn made_by_list(done: SheetAnswer, agrees: bool, next: Cursor) -> Made {
     let made = made_of(done, next);
     Made {
         number: checked(made.number, agrees),
@@ -411,7 +411,7 @@ fn made_by_replay(done: SheetAnswer, agrees: bool, next: Cursor) -> Made {
     }
 }
 
-fn replayed(
+fn played(
     text: &[u8],
     c: Cursor,
     shape: Shape,
@@ -431,7 +431,7 @@ fn replayed(
     answers: &mut [u64],
     tallies: &mut [u64],
 ) -> Made {
-    let answer = book::replay(
+    let answer = sheet_list::play(
         shape,
         addresses,
         map,
@@ -452,10 +452,10 @@ fn replayed(
     let a = same_answers(text, c, answers);
     let t = same_answers(text, a.next, tallies);
     let next = t.next;
-    made_by_replay(answer, a.agrees & t.agrees, next)
+    made_by_list(answer, a.agrees & t.agrees, next)
 }
 
-fn replay_made(
+fn list_made(
     text: &[u8],
     c: Cursor,
     shape: Shape,
@@ -483,7 +483,7 @@ fn replay_made(
     let mut tallies = answers_buffer();
     let k = answers_of(size.value, &answers);
     let j = answers_of(size.value, &tallies);
-    replayed(
+    played(
         text,
         next,
         shape,
@@ -541,7 +541,7 @@ fn call_made(
         );
     }
     if kind == 5 {
-        return replay_made(
+        return list_made(
             text,
             c,
             shape,
@@ -878,7 +878,7 @@ fn print_kind(kind: u64) {
             io::write_all(1, b"average of a triplet");
         }
         5 => {
-            io::write_all(1, b"replay of a list");
+            io::write_all(1, b"list of calls");
         }
         _ => {
             io::write_all(1, b"open count");

@@ -124,22 +124,29 @@ class Sheet:
         a, b = numbers("ids1", np.int64, ids1, "bands"), numbers("ids2", np.int64, ids2, "bands")
         checked(LIBRARY.pelmetsavory_average_triplet(*self._arguments(), whole("triplet", triplet), *inputs(a, b)))
 
-    def replay(self, calls: Iterable[tuple]) -> tuple[np.ndarray, np.ndarray]:
+    def play(self, calls: Iterable[tuple]) -> tuple[np.ndarray, np.ndarray]:
         """Makes a list of calls: the status of each, 0 or the number of its question, and the tally after it.
 
         A call is ("run_piece", triplet, b1, b2), ("carry_on",) or ("average_triplet", triplet, ids1, ids2); one that is refused changes nothing,
-        and the next is made. The replay itself asks two questions of its own, which it alone raises: 13, is every piece of the sheet open; and 12,
-        has the list six numbers a call, and as many answers and tallies as calls (here always yes)."""
+        and the next is made. What all of them ask is asked once, so a list costs what its calls compute. The list itself asks 12, has it six numbers
+        a call, and as many answers and tallies as calls (here always yes)."""
         ids: list[int] = []
         rows = [_ROWS[name](ids, *given) for name, *given in calls]
-        return self.replay_list(rows, ids)
+        return self.play_list(rows, ids)
 
-    def replay_list(self, rows: ArrayLike, ids: ArrayLike) -> tuple[np.ndarray, np.ndarray]:
+    def run_pieces(self, pieces: ArrayLike) -> tuple[np.ndarray, np.ndarray]:
+        """Runs the pieces (n, 3), each a triplet, b1 and b2, in one call: the status of each and the tally after it, as `play`."""
+        p = numbers("pieces", np.int64, pieces, "n", 3)
+        rows = np.zeros((len(p), 6), np.int64)
+        rows[:, 1:4] = p
+        return self.play_list(rows, [])
+
+    def play_list(self, rows: ArrayLike, ids: ArrayLike) -> tuple[np.ndarray, np.ndarray]:
         """The same by numbers (n, 6): 0, triplet, b1, b2 runs a piece; 1 carries on; any other kind averages a triplet, with the start and the
         end in `ids` of the first id list and of the second."""
         r, i = numbers("rows", np.int64, rows, "n", 6), numbers("ids", np.int64, ids, "n")
         answers, tallies = np.zeros(len(r), np.uint64), np.zeros(len(r), np.uint64)
-        checked(LIBRARY.pelmetsavory_replay(*self._arguments(), *inputs(r, i), *output(answers, 8), *output(tallies, 8)))
+        checked(LIBRARY.pelmetsavory_play(*self._arguments(), *inputs(r, i), *output(answers, 8), *output(tallies, 8)))
         return answers, tallies
 
     def open_count(self, triplet: int) -> int:

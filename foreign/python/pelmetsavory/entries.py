@@ -2,7 +2,7 @@
 import ctypes
 
 # the interface version that this module was made for
-INTERFACE_VERSION = 1
+INTERFACE_VERSION = 2
 
 
 class Piece(ctypes.Structure):
@@ -110,7 +110,7 @@ ENTRIES = {
         ("b", "value", Triple, None),
         ("product", "mut", ctypes.c_double, 3),
     ]),
-    "pelmetsavory_replay": (ctypes.c_uint64, [
+    "pelmetsavory_play": (ctypes.c_uint64, [
         ("shape", "value", Shape, None),
         ("addresses", "const", ctypes.c_int64, None),
         ("addresses_len", "value", ctypes.c_size_t, None),

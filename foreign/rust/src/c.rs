@@ -1,7 +1,7 @@
 // made by foreign/bindings.py from the Rattle source and foreign/questions.txt: do not edit
 
 /// The interface version that this crate was made for: that of the library must be the same.
-pub const INTERFACE_VERSION: u64 = 1;
+pub const INTERFACE_VERSION: u64 = 2;
 
 /// A piece as a caller names it: any numbers.
 #[repr(C)]
@@ -161,7 +161,7 @@ entries! {
         b: Triple,
         product: *mut [f64; 3],
     ) -> u64;
-    pub fn pelmetsavory_replay(
+    pub fn pelmetsavory_play(
         shape: Shape,
         addresses: *const i64,
         addresses_len: usize,

@@ -162,8 +162,8 @@ pub enum Call<'a> {
     },
 }
 
-/// Of a call in a replay: its answer, and the tally after it.
-pub type Replayed = (Result<(), Refused>, u64);
+/// Of a call in a list: its answer, and the tally after it.
+pub type Played = (Result<(), Refused>, u64);
 
 /// A list of calls as numbers, six a call, and the ids that it names by their places.
 fn numbered(calls: &[Call]) -> (Vec<i64>, Vec<i64>) {
@@ -233,21 +233,21 @@ impl Sheet {
         on_sheet!(pelmetsavory_average_triplet, self, y, triplet, ids1.as_ptr(), ids1.len(), ids2.as_ptr(), ids2.len())
     }
 
-    /// Replays a list of calls on a sheet with every piece open: of each its answer, and the tally after it. An `Err` of the replay itself is
-    /// 13, a mark that is not 0 (12 cannot be); what a call asks is in its own answer, and the next call is made.
-    pub fn replay(&mut self, y: &Study, calls: &[Call]) -> Result<Vec<Replayed>, Refused> {
+    /// Plays a list of calls: of each its answer, and the tally after it. What a call asks is in its own answer, and the next call is made;
+    /// what all of them ask is asked once. (An `Err` of the list itself would be 12, which cannot be here.)
+    pub fn play(&mut self, y: &Study, calls: &[Call]) -> Result<Vec<Played>, Refused> {
         let (list, ids) = numbered(calls);
         let (mut answers, mut tallies) = (vec![0; calls.len()], vec![0; calls.len()]);
-        self.replay_list(y, &list, &ids, &mut answers, &mut tallies)?;
+        self.play_list(y, &list, &ids, &mut answers, &mut tallies)?;
         Ok(answers.into_iter().map(told).zip(tallies).collect())
     }
 
     /// The same by numbers, six a call: 0, triplet, b1, b2 runs a piece; 1 carries on; any other kind averages a triplet, with the start
-    /// and the end in `ids` of either id list. An `Err` is one of two questions of its own: 12, has the list six numbers for each of
-    /// `answers` and of `tallies`; 13, is every mark 0?
-    pub fn replay_list(&mut self, y: &Study, list: &[i64], ids: &[i64], answers: &mut [u64], tallies: &mut [u64]) -> Result<(), Refused> {
+    /// and the end in `ids` of either id list. An `Err` is 12: has the list six numbers for each of `answers` and of
+    /// `tallies`?
+    pub fn play_list(&mut self, y: &Study, list: &[i64], ids: &[i64], answers: &mut [u64], tallies: &mut [u64]) -> Result<(), Refused> {
         on_sheet!(
-            pelmetsavory_replay, self, y, list.as_ptr(), list.len(), ids.as_ptr(), ids.len(),
+            pelmetsavory_play, self, y, list.as_ptr(), list.len(), ids.as_ptr(), ids.len(),
             answers.as_mut_ptr(), answers.len(), tallies.as_mut_ptr(), tallies.len()
         )
     }

@@ -186,7 +186,7 @@ fn every_entry_and_every_refusal() {
     assert_eq!(integration_weights_at_grid_points(&mut [], &[0.5], &small.table, &[], at, g, Function::J), Ok(()));
     assert_eq!(fill_neighboring_grid_points(&mut [], 0, &[], g), Err(Refused(7)));
 
-    replays(&y, &mut out);
+    lists(&y, &mut out);
     answers(&stored, &mut out);
     if let Ok(path) = std::env::var("PELMETSAVORY_OUT") {
         std::fs::write(path, out).unwrap();
@@ -211,24 +211,23 @@ fn named(c: &[i64; 6]) -> Call<'static> {
 }
 
 /// A list of calls in one call: in every bit what the same calls make one by one.
-fn replays(y: &Study, out: &mut String) {
+fn lists(y: &Study, out: &mut String) {
     let (mut answers, mut tallies) = ([7; 14], [7; 14]);
     let mut s = filled(y, -7.25, 5, 40);
     let (mut other, mut one_by_one, list) = (s.clone(), s.clone(), LIST.concat());
-    kept(12, &mut s, |s| s.replay_list(y, &list[1..], &IDS, &mut answers, &mut tallies));
-    kept(12, &mut s, |s| s.replay_list(y, &list[6..], &IDS, &mut answers, &mut tallies));
-    kept(12, &mut s, |s| s.replay_list(y, &list, &IDS, &mut answers[1..], &mut tallies[1..]));
-    kept(12, &mut s, |s| s.replay_list(y, &list, &IDS, &mut answers, &mut tallies[1..]));
+    kept(12, &mut s, |s| s.play_list(y, &list[1..], &IDS, &mut answers, &mut tallies));
+    kept(12, &mut s, |s| s.play_list(y, &list[6..], &IDS, &mut answers, &mut tallies));
+    kept(12, &mut s, |s| s.play_list(y, &list, &IDS, &mut answers[1..], &mut tallies[1..]));
+    kept(12, &mut s, |s| s.play_list(y, &list, &IDS, &mut answers, &mut tallies[1..]));
     s.marks[26] = 1;
-    kept(12, &mut s, |s| s.replay_list(y, &[], &IDS, &mut answers, &mut tallies));
-    kept(13, &mut s, |s| s.replay_list(y, &list, &IDS, &mut answers, &mut tallies));
-    kept(13, &mut s, |s| s.replay(y, &[]).map(|_| ()));
+    kept(12, &mut s, |s| s.play_list(y, &[], &IDS, &mut answers, &mut tallies));
+    assert_eq!(s.play(y, &[]), Ok(vec![]));
     s.marks[26] = 0;
     assert!(answers == [7; 14] && tallies == [7; 14]);
-    assert_eq!(s.replay(y, &[]), Ok(vec![]));
+    assert_eq!(s.play(y, &[]), Ok(vec![]));
     assert!(all_of(&s) == all_of(&other));
 
-    assert_eq!(s.replay_list(y, &list, &IDS, &mut answers, &mut tallies), Ok(()));
+    assert_eq!(s.play_list(y, &list, &IDS, &mut answers, &mut tallies), Ok(()));
     for (k, c) in LIST.iter().enumerate() {
         let told = match named(c) {
             Call::Run(p) => one_by_one.run_piece(y, p),
@@ -240,9 +239,13 @@ fn replays(y: &Study, out: &mut String) {
     }
     assert!(all_of(&s) == all_of(&one_by_one) && s.tally == 68);
     let calls: Vec<Call> = LIST.iter().map(named).collect();
-    let told: Vec<u64> = other.replay(y, &calls).unwrap().iter().map(|(answer, _)| answer.map_or_else(|no| no.0, |()| 0)).collect();
+    let told: Vec<u64> = other.play(y, &calls).unwrap().iter().map(|(answer, _)| answer.map_or_else(|no| no.0, |()| 0)).collect();
     assert!(told == STATUSES && all_of(&other) == all_of(&s));
-    say(out, "replay", vec![text(&answers), text(&tallies), hex(&s.weights), text(&s.flags), text(&s.marks), text(&[s.tally])]);
+    let (mut cut, mut told, mut counts) = (filled(y, -7.25, 5, 40), [0; 14], [0; 14]);
+    assert_eq!(cut.play_list(y, &list[..30], &IDS, &mut told[..5], &mut counts[..5]), Ok(()));
+    assert_eq!(cut.play_list(y, &list[30..], &IDS, &mut told[5..], &mut counts[5..]), Ok(())); // resumed where the cut left the sheet
+    assert!(told == answers && counts == tallies && all_of(&cut) == all_of(&s));
+    say(out, "list", vec![text(&answers), text(&tallies), hex(&s.weights), text(&s.flags), text(&s.marks), text(&[s.tally])]);
 }
 
 /// The answer to the text of the stored study is the stored listing.

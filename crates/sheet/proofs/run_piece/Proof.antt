@@ -1,32 +1,33 @@
--- `sheet::run_piece` meets its contract. Assumes nothing.
-use Prim.Native.Nat.{_*_, _+_, _<_, ℕ}
-use borrow.Author.Needs.{needs}
-use lib.Dec.{eqb}
-use lib.ListN.{length, length-set, set}
-use lib.Signed.{mag}
-use mathlib.Core.List.{List}
-use mathlib.Core.Path.{_∙_, _≡_, ap, sym}
-use mir.Syntax.{w64}
+use Prim.Native.Nat.{_≤_}
 use mir.ValLaws.{toZ-ofZ}
-use native.Mathlib.Omega.{arith}
-use Rattle.bzgrid.specs.Neighbours.{gridOf}
-use Rattle.list_laws.proofs.ProductLaws.{digit-lt}
-use Rattle.list_laws.proofs.SignedLaws.{back}
-use Rattle.question_grids.proofs.AskLaws.{group-no, group-yes}
-use Rattle.question_grids.specs.Ask.{Question, firstNo}
-use Rattle.sheet_marks.proofs.TallyLaws.{no-room, refused-is, room}
-use Rattle.sheet_marks.specs.Tallies.{tallyQuestions}
-use Rattle.sheet_step.proofs.StepLaws.{common-refused, commonOf, counts-yes, done-call, given-yes, lengths-yes, piece-named, piece-numbered, refused-call, verdict-own}
-use Rattle.sheet_step.specs.Steps.{Call, Sheet, countsOf, effect, pieceOf, pieceQuestions, run, sheet, verdict}
-use Rattle.sheet.proofs.EntryLaws.{ready-made, study-made}
-use Rattle.triplet_channels.specs.Types.{tpTypeOf}
-use Rattle.triplet_piece.proofs.StudyLaws.{length-computed, length-computed-flags}
-use Rattle.triplet_piece.specs.Study.{computedFlags, computedWeights, study}
+use mir.Syntax.{w64}
+use Rattle.sheet_turn.proofs.TurnLaws.{steps-yes}
+use Rattle.triplet_corners.proofs.CornerLaws.{second-length, second-lent}
+use Rattle.sheet.proofs.AnswerLaws.{copy-fits, did}
+use Rattle.sheet_turn.specs.Turns.{Prepared}
+use Rattle.sheet_step.proofs.StepLaws.{common-refused, given-yes}
+use Rattle.sheet_step.specs.Steps.{Sheet, sheet, run, carry, average}
 use Rattle.triplet_study.proofs.GivenLaws.{few-counts, sizes-same}
-use Rattle.triplet_study.specs.Given.{Given, given, studyOf}
+use Rattle.triplet_study.specs.Given.{Given, given}
+use Rattle.list_laws.proofs.SignedLaws.{back}
+use lib.Signed.{mag}
+use lib.ListN.{length}
+use mathlib.Core.Path.{_∙_, _≡_, ap, sym, refl}
+use native.Mathlib.Omega.{arith}
+use borrow.Author.Needs.{needs}
 use Rattle.sheet.proofs.run_piece.Statement.{statement}
 use Rattle.sheet.proofs.run_piece.Tie as tie
+use Rattle.sheet.proofs.run_piece.Reads as reads
+use Rattle.sheet.proofs.run_piece.Lts as lts
+use Rattle.bzgrid.proofs.kernel.grid_of.Reads as grid-of-reads
+use Rattle.sheet.proofs.answer_of.Reads as answer-of-reads
+use Rattle.sheet_step.proofs.kernel.asks.common_no.Reads as common-no-reads
+use Rattle.sheet_turn.proofs.kernel.run_asked.Reads as run-asked-reads
+use Rattle.triplet_channels.proofs.kernel.types.tp_type_of.Reads as tp-type-of-reads
+use Rattle.triplet_corners.proofs.kernel.second_steps.Reads as second-steps-reads
+use Rattle.triplet_study.proofs.kernel.sizes_of.Reads as sizes-of-reads
 
+-- src/lib.rt:45:9
 -- ---- what the call takes
 
 abbrev asked : tie.Start → Given
@@ -35,233 +36,111 @@ asked s = given (s .args .shape) (s .args .addresses .now) (s .args .gp-map .now
 abbrev start : tie.Start → Sheet
 start s = sheet (s .args .weights .now) (s .args .flags .now) (s .args .marks .now) (s .args .tally .runs)
 
-abbrev call : tie.Start → Call
-call s = run (s .args .triplet) (s .args .b1) (s .args .b2)
-
-abbrev own : tie.Start → List Question
-own s = pieceQuestions (countsOf (asked s)) (s .args .marks .now) (s .args .triplet) (s .args .b1) (s .args .b2)
-
-abbrev place : tie.Start → ℕ
-place s = pieceOf (countsOf (asked s)) (s .args .triplet) (s .args .b1) (s .args .b2)
-
--- ---- what is known at each point of the call
-
--- questions 3 to 13 say yes
-common-yes : (c : tie.Else1) → let s = c .before .before .before .before .before .before .before .before in firstNo (commonOf (asked s) (start s) (call s)) ≡ 0
-common-yes c = sym (c .before .common-no .ensures) ∙ c .if1 .left
-
-counts-are : (c : tie.After-sizes-of) → c .sizes-of .result ≡ countsOf (asked (c .before .before .before .before .before .before .before .before .before))
-counts-are c = c .sizes-of .ensures ∙ sizes-same (asked (c .before .before .before .before .before .before .before .before .before))
-
-own-asked : (c : tie.After-piece-no) → c .piece-no .result ≡ firstNo (own (c .before .before .before .before .before .before .before .before .before .before .before))
-own-asked c =
-    let s : _ = c .before .before .before .before .before .before .before .before .before .before .before in
-    rw (counts-are (c .before .before), toZ-ofZ w64 (s .args .triplet) (s .fits .triplet), toZ-ofZ w64 (s .args .b1) (s .fits .b1), toZ-ofZ w64 (s .args .b2) (s .fits .b2)) at (c .piece-no .ensures)
-
--- 14 and 15 say yes
-own-yes : (c : tie.Else2) → firstNo (own (c .before .before .before .before .before .before .before .before .before .before .before .before)) ≡ 0
-own-yes c = sym (own-asked (c .before)) ∙ c .if2 .left
-
--- so the piece has a mark
-place-in : (c : tie.Else2) → place (c .before .before .before .before .before .before .before .before .before .before .before .before) < length (c .before .before .before .before .before .before .before .before .before .before .before .before .args .marks .now)
-place-in c =
-    let s : _ = c .before .before .before .before .before .before .before .before .before .before .before .before in
-    let z : _ = countsOf (asked s) in
-    let y : _ = common-yes (c .before .before .before .before) in
-    let n : _ = piece-named z (s .args .marks .now) (s .args .triplet) (s .args .b1) (s .args .b2) (own-yes c) in
-    let k : _ = digit-lt (mag (s .args .b1)) (z .bands1) (mag (s .args .b2)) (z .bands2) (n .1 .0) (n .1 .1) in
-    rw (lengths-yes (asked s) (start s) (call s) y .1 .1)
-    (digit-lt (mag (s .args .triplet)) (z .triplets) (mag (s .args .b1) * z .bands2 + mag (s .args .b2)) (z .pairs) (n .0) (rw (counts-yes (asked s) (start s) (call s) y .pairs-are) k))
-
-type-is : (c : tie.After-tp-type-of) → c .tp-type-of .result ≡ tpTypeOf (c .before .before .before .before .before .before .before .before .before .before .before .before .before .before .before .before .before .before .before .args .shape .«tp_type»)
-type-is c = rw (back (c .before .before .before .before .before .before .before .before .before .before .before .before .before .before .before .before .before .before .before .args .shape .«tp_type») (c .before .before .before .struct-told .given .1 .1 .0 .1)) at (c .tp-type-of .ensures)
-
-grid-is : (c : tie.After-grid-of) → c .grid-of .result ≡ gridOf (c .before .before .before .before .before .before .before .before .before .before .before .before .before .before .before .before .before .before .before .before .args .shape .«bz_grid_type») (c .before .before .before .before .before .before .before .before .before .before .before .before .before .before .before .before .before .before .before .before .args .shape .«d_diag»)
-grid-is c = rw (back (c .before .before .before .before .before .before .before .before .before .before .before .before .before .before .before .before .before .before .before .before .args .shape .«bz_grid_type») (c .before .before .before .struct-told2 .given .0 .1)) at (c .grid-of .ensures)
-
--- the study by the values that the call makes
-study-is : (c : tie.After-grid-of) → let g = asked (c .before .before .before .before .before .before .before .before .before .before .before .before .before .before .before .before .before .before .before .before) in let z = c .before .before .before .before .before .before .before .before .before .before .before .sizes-of .result in
-    study (c .before .tp-type-of .result) (c .grid-of .result) (g .addresses) (g .gp-map) (g .steps) (z .bands1) (z .bands2) (g .frequencies1) (g .frequencies2) (g .points) (g .triplets) ≡ studyOf g
-study-is c = study-made (asked (c .before .before .before .before .before .before .before .before .before .before .before .before .before .before .before .before .before .before .before .before)) (c .before .before .before .before .before .before .before .before .before .before .before .sizes-of .result) (c .before .tp-type-of .result) (c .grid-of .result) (counts-are (c .before .before .before .before .before .before .before .before .before .before .before)) (type-is (c .before)) (grid-is c)
-
-numbers-are : (c : tie.After-magnitude3) → let s = c .before .before .before .before .before .before .before .before .before .before .before .before .before .before .before .before .before .before .before .before .before .before .before in
-    (c .before .before .magnitude .result ≡ mag (s .args .triplet)) × ((c .before .magnitude2 .result ≡ mag (s .args .b1)) × (c .magnitude3 .result ≡ mag (s .args .b2)))
-numbers-are c =
-    let s : _ = c .before .before .before .before .before .before .before .before .before .before .before .before .before .before .before .before .before .before .before .before .before .before .before in (
-      c .before .before .magnitude .ensures ∙ ap mag (toZ-ofZ w64 (s .args .triplet) (s .fits .triplet)),
-      (
-        c .before .magnitude2 .ensures ∙ ap mag (toZ-ofZ w64 (s .args .b1) (s .fits .b1)),
-        c .magnitude3 .ensures ∙ ap mag (toZ-ofZ w64 (s .args .b2) (s .fits .b2)),
-      ),
-    )
-
--- the place of the piece's mark by those values
-abbrev placed : tie.After-magnitude3 → ℕ
-placed c = c .before .before .magnitude .result * c .before .before .before .before .before .before .before .before .before .before .before .before .before .before .sizes-of .result .pairs + (c .before .magnitude2 .result * c .before .before .before .before .before .before .before .before .before .before .before .before .before .before .sizes-of .result .bands2 + c .magnitude3 .result)
-
-place-is : (c : tie.After-magnitude3) → placed c ≡ place (c .before .before .before .before .before .before .before .before .before .before .before .before .before .before .before .before .before .before .before .before .before .before .before)
-place-is c = let n : _ = numbers-are c in rw (n .0, n .1 .0, n .1 .1, counts-are (c .before .before .before .before .before .before .before .before .before .before .before .before .before .before))
-
-placed-in : (c : tie.After-magnitude3) → placed c < length (c .before .before .before .before .before .before .before .before .before .before .before .before .before .before .before .before .before .before .before .before .before .before .before .args .marks .now)
-placed-in c = rw (place-is c) (place-in (c .before .before .before .before .before .before .before .before .before .before .before))
-
 -- ---- the facts that the checker asks for
 
 common-no-requires : tie.Need-common-no-requires
 common-no-requires c κs = search needs
 
+-- src/lib.rt:59:9
 same-length : tie.Need-same-length
 same-length c = search needs
 
+-- src/lib.rt:59:9
 returns : tie.Need-returns
 returns c =
-    let s : _ = c .before .before .before .before .before .before .before .before .before in
-    common-refused (asked s) (start s) (call s) (c .before .before .common-no .result) (c .refused .result) (c .before .before .common-no .ensures) (c .before .if1 .taken) (c .refused .ensures)
+    let s : _ = c .before .before .before .before .before .before .before .before in
+    common-refused (asked s) (start s) (run (s .args .triplet) (s .args .b1) (s .args .b2)) (c .before .common-no .result) (c .before .common-no .ensures) (c .if1 .taken)
 
+-- src/lib.rt:61:9
 sizes-of-requires : tie.Need-sizes-of-requires
 sizes-of-requires c κs =
     let s : _ = c .before .before .before .before .before .before .before .before in
-    few-counts (asked s) (given-yes (asked s) (start s) (call s) (common-yes c))
+    let y = sym (c .before .common-no .ensures) ∙ c .if1 .left in
+    few-counts (asked s) (given-yes (asked s) (start s) carry y)
 
-piece-no-requires : tie.Need-piece-no-requires
-piece-no-requires c κs =
-    let s : _ = c .before .before .before .before .before .before .before .before .before .before in
-    let y : _ = common-yes (c .before .before) in
-    rw (counts-are (c .before)) (counts-yes (asked s) (start s) (call s) y, lengths-yes (asked s) (start s) (call s) y .1 .1)
-
-same-length-2 : tie.Need-same-length-2
-same-length-2 c = search needs
-
-returns-2 : tie.Need-returns-2
-returns-2 c =
-    let s : _ = c .before .before .before .before .before .before .before .before .before .before .before .before .before in
-    let n : _ = own-asked (c .before .before) in
-    refused-call (asked s) (start s) (call s) (c .before .before .piece-no .result) (c .refused2 .result)
-    (verdict-own (asked s) (start s) (call s) (common-yes (c .before .before .before .before .before)) ∙ group-no (own s) (tallyQuestions (s .args .tally .runs) 1) (λ z. c .before .if2 .taken (n ∙ z)) ∙ sym n)
-    (c .before .if2 .taken) (c .refused2 .ensures ∙ refused-is (c .before .before .piece-no .result) (s .args .tally .runs) (c .before .if2 .taken))
-
-add-requires : tie.Need-add-requires
-add-requires c κs = search needs
-
-refused-requires : tie.Need-refused-requires
-refused-requires c κs = search needs
-
-refused-requires-2 : tie.Need-refused-requires-2
-refused-requires-2 c κs = search needs
-
-enum-told : tie.Need-enum-told
-enum-told c = search needs
-
-enum-told-2 : tie.Need-enum-told-2
-enum-told-2 c = search needs
-
-same-length-3 : tie.Need-same-length-3
-same-length-3 c = search needs
-
-returns-3 : tie.Need-returns-3
-returns-3 c =
-    let s : _ = c .before .before .before .before .before .before .before .before .before .before .before .before .before .before .before in
-    let p : _ = piece-numbered (countsOf (asked s)) (s .args .marks .now) (s .args .triplet) (s .args .b1) (s .args .b2) in
-    let r : _ = no-room (s .args .tally .runs) 1 (c .before .before .add .result) (c .before .before .add .ensures) _ (c .enum-told2 .given .1) in
-    refused-call (asked s) (start s) (call s) _ (c .before .before .add .result)
-    (verdict-own (asked s) (start s) (call s) (common-yes (c .before .before .before .before .before .before .before)) ∙ group-yes (own s) (tallyQuestions (s .args .tally .runs) 1) p (own-yes (c .before .before .before))) (r .0) (r .1)
-
+-- src/lib.rt:65:9
 tp-type-of-requires : tie.Need-tp-type-of-requires
 tp-type-of-requires c κs = search needs
 
+-- src/lib.rt:66:9
 grid-of-requires : tie.Need-grid-of-requires
 grid-of-requires c κs = search needs
 
-magnitude-requires : tie.Need-magnitude-requires
-magnitude-requires c κs = search needs
+-- src/lib.rt:67:18
+second-steps-requires : tie.Need-second-steps-requires
+second-steps-requires c κs =
+    let s : _ = c .before .before .before .before .before .before .before .before .before .before .before .before .before .before in
+    let y = sym (c .before .before .before .before .before .before .before .common-no .ensures) ∙ c .before .before .before .before .before .before .if1 .left in
+    let q = steps-yes (asked s) (start s) y in
+    (omega (arith, q .1 .0, q .1 .1), q .0)
 
-magnitude-requires-2 : tie.Need-magnitude-requires-2
-magnitude-requires-2 c κs = search needs
+-- src/lib.rt:103:9
+array-share-prefix-second : tie.Need-array-share-prefix-second
+array-share-prefix-second c =
+    let s : _ = c .before .before .before .before .before .before .before .before .before .before .before .before .before .before .before .before .before .before .before .before .before .before .before .before .before .before .before .before in
+    let y = sym (c .before .before .before .before .before .before .before .before .before .before .before .before .before .before .before .before .before .before .before .before .before .common-no .ensures) ∙ c .before .before .before .before .before .before .before .before .before .before .before .before .before .before .before .before .before .before .before .before .if1 .left in
+    let q = steps-yes (asked s) (start s) y in
+    let b : length (s .args .relative-grid-address .now) ≤ 1152 = omega (arith, q .1 .0, q .1 .1) in
+    copy-fits (c .before .before .before .before .before .before .before .before .before .before .before .before .before .before .before .tp-type-of .result) (s .args .relative-grid-address .now) (c .before .before .before .before .before .before .before .before .before .before .before .before .before .second-steps .result) (c .before .before .before .before .before .before .before .before .before .before .before .before .before .second-steps .ensures) b
 
-magnitude-requires-3 : tie.Need-magnitude-requires-3
-magnitude-requires-3 c κs = search needs
+-- src/lib.rt:103:9
+slice-aggregate-run-asked : tie.Need-slice-aggregate-run-asked
+slice-aggregate-run-asked c =
+    let s : _ = c .before .before .before .before .before .before .before .before .before .before .before .before .before .before .before .before .before .before .before .before .before .before .before .before .before .before .before .before .before in
+    sym (ap length (second-lent (c .before .before .before .before .before .before .before .before .before .before .before .before .before .before .before .before .tp-type-of .result) (s .args .relative-grid-address .now) (c .before .before .before .before .before .before .before .before .before .before .before .before .before .before .second-steps .result) (c .before .before .before .before .before .before .before .before .before .before .before .before .before .before .second-steps .ensures)) ∙ second-length (c .before .before .before .before .before .before .before .before .before .before .before .before .before .before .before .before .tp-type-of .result) (s .args .relative-grid-address .now))
 
-fill-named-requires : tie.Need-fill-named-requires
-fill-named-requires c κs =
-    let s : _ = c .before .before .before .before .before .before .before .before .before .before .before .before .before .before .before .before .before .before .before .before .before .before .before .before .before in
-    let y : _ = common-yes (c .before .before .before .before .before .before .before .before .before .before .before .before .before .before .before .before .before) in
-    let l : _ = lengths-yes (asked s) (start s) (call s) y in
-    let n : _ = numbers-are (c .before .before) in
-    let on : _ = piece-named (countsOf (asked s)) (s .args .marks .now) (s .args .triplet) (s .args .b1) (s .args .b2) (own-yes (c .before .before .before .before .before .before .before .before .before .before .before .before .before)) in (
-      ready-made (asked s) (c .before .before .before .before .before .before .before .before .before .before .before .before .before .before .before .before .sizes-of .result) (c .before .before .before .before .before .before .tp-type-of .result) (c .before .before .before .before .before .grid-of .result) (counts-are (c .before .before .before .before .before .before .before .before .before .before .before .before .before .before .before .before)) (type-is (c .before .before .before .before .before .before)) (grid-is (c .before .before .before .before .before))
-          (given-yes (asked s) (start s) (call s) y) (length (s .args .weights .now)) (length (s .args .flags .now)) (l .0) (l .1 .0),
-      rw (n .0, n .1 .0, n .1 .1, counts-are (c .before .before .before .before .before .before .before .before .before .before .before .before .before .before .before .before)) on,
-    )
+-- src/lib.rt:82:9
+run-asked-requires : tie.Need-run-asked-requires
+run-asked-requires c κs =
+    let s : _ = c .before .before .before .before .before .before .before .before .before .before .before .before .before .before .before .before .before .before .before .before .before .before .before .before .before .before .before .before .before in
+    let y = sym (c .before .before .before .before .before .before .before .before .before .before .before .before .before .before .before .before .before .before .before .before .before .before .common-no .ensures) ∙ c .before .before .before .before .before .before .before .before .before .before .before .before .before .before .before .before .before .before .before .before .before .if1 .left in
+    let p : Prepared (asked s) (c .before .before .before .before .before .before .before .before .before .before .before .before .before .before .before .before .before .before .before .before .sizes-of .result) (c .before .before .before .before .before .before .before .before .before .before .before .before .before .before .before .before .tp-type-of .result) (c .before .before .before .before .before .before .before .before .before .before .before .before .before .before .before .grid-of .result) _ _ = record {
+      counts = c .before .before .before .before .before .before .before .before .before .before .before .before .before .before .before .before .before .before .before .before .sizes-of .ensures ∙ sizes-same (asked s);
+      type = rw (back (s .args .shape .«tp_type») (c .before .before .before .before .before .before .before .before .before .before .before .before .before .before .before .before .before .before .before .struct-told .given .1 .1 .0 .1)) at (c .before .before .before .before .before .before .before .before .before .before .before .before .before .before .before .before .tp-type-of .ensures);
+      mesh = rw (back (s .args .shape .«bz_grid_type») (c .before .before .before .before .before .before .before .before .before .before .before .before .before .before .before .before .before .before .struct-told2 .given .0 .1)) at (c .before .before .before .before .before .before .before .before .before .before .before .before .before .before .before .grid-of .ensures);
+      copy = second-lent (c .before .before .before .before .before .before .before .before .before .before .before .before .before .before .before .before .tp-type-of .result) (s .args .relative-grid-address .now) (c .before .before .before .before .before .before .before .before .before .before .before .before .before .before .second-steps .result) (c .before .before .before .before .before .before .before .before .before .before .before .before .before .before .second-steps .ensures);
+      all-rows = refl;
+    } in
+    ((y, p), ((λ h. absurd (omega (arith, h))), record { size1 = refl; size2 = refl; channel0 = refl; channel1 = refl; channel2 = refl; places0 = refl; places1 = refl; places2 = refl }))
 
-mul-set-mark : tie.Need-mul-set-mark
-mul-set-mark c = omega (arith, c .before .before .before .before .before .before .before .before .before .before .before .before .before .before .before .before .before .before .before .before .before .before .before .before .before .before .before .before .before .before .good, placed-in (c .before .before .before .before .before .before .before))
+-- src/lib.rt:117:5
+answer-of-requires : tie.Need-answer-of-requires
+answer-of-requires c κs = search needs
 
-mul-set-mark-2 : tie.Need-mul-set-mark-2
-mul-set-mark-2 c = omega (arith, c .before .before .before .before .before .before .before .before .before .before .before .before .before .before .before .before .before .before .before .before .before .before .before .before .before .before .before .before .before .before .good, placed-in (c .before .before .before .before .before .before .before))
+-- src/lib.rt:25:1
+same-length-2 : tie.Need-same-length-2
+same-length-2 c = search needs
 
-add-set-mark : tie.Need-add-set-mark
-add-set-mark c = omega (arith, c .before .before .before .before .before .before .before .before .before .before .before .before .before .before .before .before .before .before .before .before .before .before .before .before .before .before .before .before .before .before .good, placed-in (c .before .before .before .before .before .before .before))
+-- src/lib.rt:25:1
+same-length-3 : tie.Need-same-length-3
+same-length-3 c = search needs
 
-add-set-mark-2 : tie.Need-add-set-mark-2
-add-set-mark-2 c = omega (arith, c .before .before .before .before .before .before .before .before .before .before .before .before .before .before .before .before .before .before .before .before .before .before .before .before .before .before .before .before .before .before .good, placed-in (c .before .before .before .before .before .before .before))
-
-set-mark-requires : tie.Need-set-mark-requires
-set-mark-requires c κs = placed-in (c .before .before .before .before .before .before .before)
-
+-- src/lib.rt:25:1
 same-length-4 : tie.Need-same-length-4
-same-length-4 c =
-    ap length (c .before .before .before .before .before .before .before .fill-named .ensures .0) ∙ length-computed _ _ (c .before .before .before .before .before .before .before .before .before .before .before .before .before .before .before .before .before .before .before .before .before .before .before .before .before .before .before .before .before .before .before .before .before .args .weights .now)
+same-length-4 c = search needs
 
-same-length-5 : tie.Need-same-length-5
-same-length-5 c =
-    ap length (c .before .before .before .before .before .before .before .fill-named .ensures .1) ∙ length-computed-flags _ _ (c .before .before .before .before .before .before .before .before .before .before .before .before .before .before .before .before .before .before .before .before .before .before .before .before .before .before .before .before .before .before .before .before .before .args .flags .now)
-
-same-length-6 : tie.Need-same-length-6
-same-length-6 c = ap length (c .before .before .set-mark .ensures) ∙ length-set (c .before .before .before .before .before .before .before .before .before .before .before .before .before .before .before .before .before .before .before .before .before .before .before .before .before .before .before .before .before .before .before .before .before .args .marks .now) (placed (c .before .before .before .before .before .before .before .before .before .before)) _
-
-returns-4 : tie.Need-returns-4
-unfolding effect
-returns-4 c =
-    let s : _ = c .before .before .before .before .before .before .before .before .before .before .before .before .before .before .before .before .before .before .before .before .before .before .before .before .before .before .before .before .before .before .before .before .before in
-    let p : _ = piece-numbered (countsOf (asked s)) (s .args .marks .now) (s .args .triplet) (s .args .b1) (s .args .b2) in
-    let r : _ = room (s .args .tally .runs) 1 (c .before .before .before .before .before .before .before .before .before .before .before .before .before .before .before .before .before .before .before .before .add .result) (c .before .before .before .before .before .before .before .before .before .before .before .before .before .before .before .before .before .before .before .before .add .ensures) (c .before .before .before .before .before .before .before .before .before .before .before .before .before .before .before .before .before .before .enum-told .given .1) in
-    let v : verdict (asked s) (start s) (call s) ≡ 0 =
-    verdict-own (asked s) (start s) (call s) (common-yes (c .before .before .before .before .before .before .before .before .before .before .before .before .before .before .before .before .before .before .before .before .before .before .before .before .before)) ∙ group-yes (own s) (tallyQuestions (s .args .tally .runs) 1) p (own-yes (c .before .before .before .before .before .before .before .before .before .before .before .before .before .before .before .before .before .before .before .before .before)) ∙ r .0 in
-    done-call (asked s) (start s) (call s) (c .before .before .before .before .before .before .before .before .before .before .before .before .before .before .before .before .before .before .before .before .add .result) _ _ _ v (r .1)
-    (c .before .before .before .before .before .before .before .fill-named .ensures .0 ∙ (λ i. computedWeights (study-is (c .before .before .before .before .before .before .before .before .before .before .before .before .before) i) (λ k. eqb k (place-is (c .before .before .before .before .before .before .before .before .before .before) i)) (s .args .weights .now)))
-    (c .before .before .before .before .before .before .before .fill-named .ensures .1 ∙ (λ i. computedFlags (study-is (c .before .before .before .before .before .before .before .before .before .before .before .before .before) i) (λ k. eqb k (place-is (c .before .before .before .before .before .before .before .before .before .before) i)) (s .args .flags .now)))
-    (c .before .before .set-mark .ensures ∙ ap (λ (k : ℕ). set (s .args .marks .now) k 1) (place-is (c .before .before .before .before .before .before .before .before .before .before)))
+-- src/lib.rt:25:1
+returns-2 : tie.Need-returns-2
+returns-2 c =
+    let s : _ = c .before .before .before .before .before .before .before .before .before .before .before .before .before .before .before .before .before .before .before .before .before .before .before .before .before .before .before .before .before .before .before .before .before .before .before .before in
+    did (asked s) (start s) (run (s .args .triplet) (s .args .b1) (s .args .b2)) _ _ _ _ _ _ (rw (toZ-ofZ w64 (s .args .triplet) (s .fits .triplet), toZ-ofZ w64 (s .args .b1) (s .fits .b1), toZ-ofZ w64 (s .args .b2) (s .fits .b2)) at (c .before .before .before .before .before .before .run-asked .ensures .0)) (c .answer-of .ensures)
 
 pub run-piece-spec : {M : Type 1} → statement M
 run-piece-spec =
     tie.close
     (tie.spec
     common-no-requires
-    refused-requires
     same-length
     returns
     sizes-of-requires
-    piece-no-requires
-    refused-requires-2
-    same-length-2
-    returns-2
-    add-requires
-    enum-told
-    enum-told-2
-    same-length-3
-    returns-3
     tp-type-of-requires
     grid-of-requires
-    magnitude-requires
-    magnitude-requires-2
-    magnitude-requires-3
-    fill-named-requires
-    mul-set-mark
-    mul-set-mark-2
-    add-set-mark
-    add-set-mark-2
-    set-mark-requires
+    second-steps-requires
+    array-share-prefix-second
+    slice-aggregate-run-asked
+    run-asked-requires
+    answer-of-requires
+    same-length-2
+    same-length-3
     same-length-4
-    same-length-5
-    same-length-6
-    returns-4)
+    returns-2)

@@ -1,4 +1,0 @@
--- The laws.
-pub mod CallLaws
-pub mod PlayLaws
-pub mod ReplayLaws

@@ -1,0 +1,28 @@
+-- A list that is played on an open sheet leaves what the book says: by demand 3. Assumes nothing.
+use mathlib.Core.Path.{_≡_, refl, ap, ap₂, _∙_}
+use mathlib.Core.List.{List, [], _∷_, map}
+use Prim.Native.Nat.{ℕ}
+use lib.ListN.{length, replicate}
+use Rattle.triplet_study.specs.Given.{Given}
+use Rattle.sheet_step.specs.Steps.{Sheet, Call, step}
+use Rattle.book_claim.specs.Book.{Book, opened, render, turn}
+use Rattle.book_claim.proofs.Demand3.{demand-3, same-step, opened-is}
+use Rattle.sheet_list.specs.Play.{numberIn, tallies, outcome, outcomeOf}
+use Rattle.sheet_list.specs.Booked.{bookTallies, bookOutcome}
+
+module _ (g : Given) (start : Sheet) where
+  render-tally : (b : Book) → render g start b .tally ≡ b .tally
+  unfolding render
+  render-tally b = refl
+
+  all-tallies : (calls : List Call) (b : Book) (s : Sheet) → s ≡ render g start b → tallies g s calls ≡ bookTallies g start b calls
+  all-tallies [] b s e = refl
+  all-tallies (c ∷ calls) b s e =
+      let k : step g s c ≡ render g start (turn g start b c) = rw e (same-step g start b c) in
+      ap₂ (λ (n : ℕ) (rest : List ℕ). n ∷ rest) (ap (λ (x : Sheet). x .tally) k ∙ render-tally (turn g start b c)) (all-tallies calls (turn g start b c) (step g s c) k)
+
+  -- from marks all 0, what `play` leaves is the book's
+  pub played-booked : (calls : List Call) → start .marks ≡ replicate (length (start .marks)) 0 → outcomeOf g start calls ≡ bookOutcome g start calls
+  unfolding outcomeOf bookOutcome
+  played-booked calls o =
+      λ i. outcome (demand-3 g start o calls .0 i) (map numberIn (demand-3 g start o calls .1 i)) (all-tallies calls (opened start) start (opened-is g start o) i)

@@ -1,0 +1,6 @@
+-- Laws that several proofs cite.
+pub mod CallLaws
+pub mod KeptLaws
+pub mod ListLaws
+pub mod ResumeLaws
+pub mod BookLaws

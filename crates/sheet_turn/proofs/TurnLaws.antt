@@ -1,0 +1,178 @@
+-- One call on a sheet whose questions 3 to 13 say yes, by the values that the code makes: refused by its own questions, or done. Assumes
+-- nothing.
+use mathlib.Core.Path.{_≡_, refl, sym, ap, _∙_}
+use mathlib.Core.Bool.{true}
+use mathlib.Core.List.{List}
+use Prim.Native.Nat.{ℕ, _+_, _*_, _≤_, _<_}
+use native.Mathlib.Omega.{arith}
+use lib.Dec.{eqb}
+use lib.Ieee.{Float}
+use lib.IntN.{ℤ}
+use lib.ListN.{length, set}
+use lib.Signed.{mag}
+use Rattle.list_laws.proofs.ProductLaws.{digit-lt}
+use Rattle.question_grids.specs.Ask.{Question, firstNo}
+use Rattle.question_grids.specs.Grids.{areTriples}
+use Rattle.question_grids.specs.Tables.{rowsIn}
+use Rattle.question_grids.proofs.AskLaws.{group-no, group-yes, after-done}
+use Rattle.bzgrid.specs.declared.BzGrid.{BzGrid}
+use Rattle.triplet_channels.specs.declared.TpType.{TpType}
+use Rattle.triplet_piece.specs.declared.Sizes.{Sizes}
+use Rattle.triplet_piece.specs.Study.{Study, study, Ready, computedWeights, computedFlags}
+use Rattle.triplet_study.specs.Given.{Given, studyOf}
+use Rattle.triplet_study.proofs.GivenLaws.{given-ready}
+use Rattle.sheet_marks.specs.declared.SheetAnswer.{SheetAnswer}
+use Rattle.sheet_marks.specs.Tallies.{addedTo, answerNumber, tallyQuestions}
+use Rattle.sheet_marks.proofs.TallyLaws.{number-is}
+use Rattle.sheet_step.specs.Marks.{isOpenAt, openPieces, carriedMarks, averagedMarks}
+use Rattle.sheet_step.specs.Steps.{Sheet, sheet, Call, run, carry, average, countsOf, Counted, pieceQuestions, averageQuestions, pieceOf, tripletAveraged, tripletFlagsAveraged, verdict, effect, step}
+use Rattle.sheet_step.proofs.CountLaws.{marks-place, pieces-few}
+use Rattle.sheet_step.proofs.StepLaws.{verdict-own, counts-yes, lengths-yes, given-yes, piece-numbered, piece-named, average-named, refused-sheet, done-sheet}
+use Rattle.sheet_turn.specs.Turns.{commonNo, Prepared, Turned}
+use Rattle.sheet_turn.proofs.EntryLaws.{study-made, ready-made}
+
+-- ---- the tally's answer by its number
+
+module _ (tally runs : ℕ) {a : SheetAnswer} (e : a ≡ addedTo tally runs) where
+  pub added-no : {n : ℕ} → n ≡ answerNumber (a .answer) → n ≡ firstNo (tallyQuestions tally runs)
+  added-no h = h ∙ ap (λ (x : SheetAnswer). answerNumber (x .answer)) e ∙ number-is (firstNo (tallyQuestions tally runs))
+
+  pub added-runs : firstNo (tallyQuestions tally runs) ≡ 0 → a .tally .runs ≡ tally + runs
+  added-runs z = ap (λ (x : SheetAnswer). x .tally .runs) e ∙ sym (after-done (firstNo (tallyQuestions tally runs)) (tally + runs) tally z)
+
+-- ---- one call, refused or done
+
+module _ (g : Given) (s : Sheet) (c : Call) where
+  turned-no : (n : ℕ) → verdict g s c ≡ n → (n ≡ 0 → ⊥) → Turned g s c n s
+  turned-no n e h = record { says = sym e; leaves = refused-sheet g s c n e h }
+
+  turned-yes : (runs : ℕ) (w : List Float) (f : List ℤ) (m : List ℕ) → verdict g s c ≡ 0 → runs ≡ effect g s c .tally
+      → w ≡ effect g s c .weights → f ≡ effect g s c .flags → m ≡ effect g s c .marks → Turned g s c 0 (sheet w f m runs)
+  turned-yes runs w f m e er ew ef em = record { says = sym e; leaves = (λ i. sheet (ew i) (ef i) (em i) (er i)) ∙ done-sheet g s c e }
+
+-- the steps of a tested study
+pub steps-yes : (g : Given) (s : Sheet) → commonNo g s ≡ 0 → (areTriples (g .steps) ≡ true) × ((length (g .steps) ≡ rowsIn (g .steps) * 12) × (rowsIn (g .steps) ≤ 96))
+unfolding studyOf
+steps-yes g s y =
+    let l : _ = lengths-yes g s carry y in
+    let r : Ready (studyOf g) (countsOf g) (length (s .weights)) (length (s .flags)) = given-ready g (countsOf g) (length (s .weights)) (length (s .flags)) (given-yes g s carry y) refl (l .0) (l .1 .0) in
+    (r .table, (r .rows-whole, r .rows-high))
+
+-- ---- what the counts say
+
+module _ (g : Given) (s : Sheet) {z : Sizes} (y : commonNo g s ≡ 0) (ez : z ≡ countsOf g) where
+  pub counted-yes : Counted z
+  counted-yes = rw (ez) (counts-yes g s carry y)
+
+  pub long-yes : (length (s .weights) ≡ z .channels * z .cells) × ((length (s .flags) ≡ z .cells) × (length (s .marks) ≡ z .triplets * z .pairs))
+  long-yes = rw (ez) (lengths-yes g s carry y)
+
+  -- ---- an averaging
+
+  module _ (t : ℤ) (ids1 ids2 : List ℤ) where
+    own-average : firstNo (averageQuestions z (s .weights) (s .marks) t ids1 ids2) ≡ verdict g s (average t ids1 ids2)
+    own-average = ap (λ (x : Sizes). firstNo (averageQuestions x (s .weights) (s .marks) t ids1 ids2)) (ez) ∙ sym (verdict-own g s (average t ids1 ids2) y)
+
+    pub average-no : {n : ℕ} → n ≡ firstNo (averageQuestions z (s .weights) (s .marks) t ids1 ids2) → (n ≡ 0 → ⊥)
+        → Turned g s (average t ids1 ids2) n s
+    average-no {n} e h = turned-no g s (average t ids1 ids2) n (sym (e ∙ own-average)) h
+
+    module _ (e : firstNo (averageQuestions z (s .weights) (s .marks) t ids1 ids2) ≡ 0) (nt : ℕ) (et : nt ≡ mag t) where
+      -- what the averages of weights and of flags require
+      pub average-on : (Counted z × ((nt < z .triplets) × ((z .bands1 ≡ z .bands2) × (z .bands1 ≤ 64)))) × ((length ids1 ≡ z .bands1) × (length ids2 ≡ z .bands1))
+      average-on =
+          let n : _ = average-named z (s .weights) (s .marks) t ids1 ids2 e in
+          ((counted-yes, (rw et (n .0), (n .1 .0, counted-yes .bands1-few))), n .1 .1)
+
+      pub average-place : nt * z .pairs + z .pairs ≤ length (s .marks)
+      average-place = marks-place z counted-yes nt (length (s .marks)) (average-on .0 .1 .0) (long-yes .1 .1)
+
+      pub average-done : {w : List Float} {f : List ℤ} {m : List ℕ} → w ≡ tripletAveraged z nt ids1 ids2 (s .weights)
+          → f ≡ tripletFlagsAveraged z nt ids1 ids2 (s .flags) → m ≡ averagedMarks (z .pairs) nt (s .marks)
+          → Turned g s (average t ids1 ids2) 0 (sheet w f m (s .tally))
+      unfolding effect
+      average-done {w} {f} {m} ew ef em =
+          turned-yes g s (average t ids1 ids2) (s .tally) w f m (sym own-average ∙ e) refl
+          (ew ∙ (λ i. tripletAveraged (ez i) (et i) ids1 ids2 (s .weights)))
+          (ef ∙ (λ i. tripletFlagsAveraged (ez i) (et i) ids1 ids2 (s .flags)))
+          (em ∙ (λ i. averagedMarks (ez i .pairs) (et i) (s .marks)))
+
+-- ---- on a prepared study
+
+module _ (g : Given) (s : Sheet) {z : Sizes} {tp : TpType} {grid : BzGrid} {second : List ℤ} {rows : ℕ} (y : commonNo g s ≡ 0) (p : Prepared g z tp grid second rows) where
+  -- the study by the values that are made once
+  abbrev pub made : Study
+  made = study tp grid (g .addresses) (g .gp-map) (g .steps) (z .bands1) (z .bands2) (g .frequencies1) (g .frequencies2) (g .points) (g .triplets)
+
+  pub made-is : made ≡ studyOf g
+  made-is = study-made g z tp grid (p .counts) (p .type) (p .mesh)
+
+  pub made-ready : Ready made z (length (s .weights)) (length (s .flags))
+  made-ready =
+      let l : _ = lengths-yes g s carry y in
+      ready-made g z tp grid (p .counts) (p .type) (p .mesh) (given-yes g s carry y) (length (s .weights)) (length (s .flags)) (l .0) (l .1 .0)
+
+  -- ---- a named piece
+
+  module _ (t b1 b2 : ℤ) where
+    abbrev asking : List Question
+    asking = pieceQuestions z (s .marks) t b1 b2
+
+    own-is : firstNo asking ≡ firstNo (pieceQuestions (countsOf g) (s .marks) t b1 b2)
+    own-is = ap (λ (x : Sizes). firstNo (pieceQuestions x (s .marks) t b1 b2)) (p .counts)
+
+    pub run-no : {n : ℕ} → n ≡ firstNo asking → (n ≡ 0 → ⊥) → Turned g s (run t b1 b2) n s
+    run-no {n} e h =
+        turned-no g s (run t b1 b2) n
+        (verdict-own g s (run t b1 b2) y ∙ group-no (pieceQuestions (countsOf g) (s .marks) t b1 b2) (tallyQuestions (s .tally) 1) (λ k. h (e ∙ own-is ∙ k)) ∙ sym (e ∙ own-is)) h
+
+    module _ (e : firstNo asking ≡ 0) where
+      room-left : verdict g s (run t b1 b2) ≡ firstNo (tallyQuestions (s .tally) 1)
+      room-left =
+          verdict-own g s (run t b1 b2) y
+          ∙ group-yes (pieceQuestions (countsOf g) (s .marks) t b1 b2) (tallyQuestions (s .tally) 1) (piece-numbered (countsOf g) (s .marks) t b1 b2) (sym own-is ∙ e)
+
+      pub run-full : {n : ℕ} → n ≡ firstNo (tallyQuestions (s .tally) 1) → (n ≡ 0 → ⊥) → Turned g s (run t b1 b2) n s
+      run-full {n} f h = turned-no g s (run t b1 b2) n (room-left ∙ sym f) h
+
+      -- the piece by numbers
+      module _ (nt n1 n2 : ℕ) (et : nt ≡ mag t) (e1 : n1 ≡ mag b1) (e2 : n2 ≡ mag b2) where
+        pub run-on : (nt < z .triplets) × ((n1 < z .bands1) × (n2 < z .bands2))
+        run-on = rw (et, e1, e2) (piece-named z (s .marks) t b1 b2 e)
+
+        pub run-place : nt * z .pairs + (n1 * z .bands2 + n2) < length (s .marks)
+        run-place =
+            let k : n1 * z .bands2 + n2 < z .bands1 * z .bands2 = digit-lt n1 (z .bands1) n2 (z .bands2) (run-on .1 .0) (run-on .1 .1) in
+            rw (long-yes g s y (p .counts) .1 .1) (digit-lt nt (z .triplets) (n1 * z .bands2 + n2) (z .pairs) (run-on .0) (rw (counted-yes g s y (p .counts) .pairs-are) k))
+
+        pub run-small : nt * z .pairs + (n1 * z .bands2 + n2) < 268435456
+        run-small = omega (arith, run-place, long-yes g s y (p .counts) .1 .1, pieces-few z (counted-yes g s y (p .counts)))
+
+        place-is : nt * z .pairs + (n1 * z .bands2 + n2) ≡ pieceOf (countsOf g) t b1 b2
+        place-is = rw (et, e1, e2, p .counts)
+
+        pub run-done : {runs : ℕ} {w : List Float} {f : List ℤ} {m : List ℕ} → firstNo (tallyQuestions (s .tally) 1) ≡ 0 → runs ≡ s .tally + 1
+            → w ≡ computedWeights made (λ n. eqb n (nt * z .pairs + (n1 * z .bands2 + n2))) (s .weights)
+            → f ≡ computedFlags made (λ n. eqb n (nt * z .pairs + (n1 * z .bands2 + n2))) (s .flags)
+            → m ≡ set (s .marks) (nt * z .pairs + (n1 * z .bands2 + n2)) 1
+            → Turned g s (run t b1 b2) 0 (sheet w f m runs)
+        unfolding effect
+        run-done {runs} {w} {f} {m} a er ew ef em =
+            turned-yes g s (run t b1 b2) runs w f m (room-left ∙ a) er
+            (ew ∙ (λ i. computedWeights (made-is i) (λ k. eqb k (place-is i)) (s .weights)))
+            (ef ∙ (λ i. computedFlags (made-is i) (λ k. eqb k (place-is i)) (s .flags)))
+            (em ∙ ap (λ (k : ℕ). set (s .marks) k 1) place-is)
+
+  -- ---- a carry-on
+
+  pub carry-full : {n : ℕ} → n ≡ firstNo (tallyQuestions (s .tally) (openPieces (s .marks))) → (n ≡ 0 → ⊥) → Turned g s carry n s
+  carry-full {n} f h = turned-no g s carry n (verdict-own g s carry y ∙ sym f) h
+
+  pub carry-done : {runs : ℕ} {w : List Float} {f : List ℤ} {m : List ℕ} → firstNo (tallyQuestions (s .tally) (openPieces (s .marks))) ≡ 0 → runs ≡ s .tally + openPieces (s .marks)
+      → w ≡ computedWeights made (isOpenAt (s .marks)) (s .weights) → f ≡ computedFlags made (isOpenAt (s .marks)) (s .flags) → m ≡ carriedMarks (s .marks)
+      → Turned g s carry 0 (sheet w f m runs)
+  unfolding effect
+  carry-done {runs} {w} {f} {m} a er ew ef em =
+      turned-yes g s carry runs w f m (verdict-own g s carry y ∙ a) er
+      (ew ∙ (λ i. computedWeights (made-is i) (isOpenAt (s .marks)) (s .weights)))
+      (ef ∙ (λ i. computedFlags (made-is i) (isOpenAt (s .marks)) (s .flags))) em
