@@ -1,3 +1,4 @@
+use Rattle.sheet.proofs.AnswerLaws.{copy-fits, did}
 use Prim.Native.Nat.{_≤_}
 use mir.ValLaws.{toZ-ofZ}
 use mir.Syntax.{w64}
@@ -17,6 +18,7 @@ use Rattle.sheet.proofs.average_triplet.Statement.{statement}
 use Rattle.sheet.proofs.average_triplet.Tie as tie
 use Rattle.sheet.proofs.average_triplet.Reads as reads
 use Rattle.sheet.proofs.average_triplet.Lts as lts
+use Rattle.sheet_marks.proofs.kernel.refused.Reads as refused-reads
 use Rattle.sheet.proofs.answer_of.Reads as answer-of-reads
 use Rattle.sheet_step.proofs.kernel.asks.common_no.Reads as common-no-reads
 use Rattle.sheet_turn.proofs.kernel.average_asked.Reads as average-asked-reads
@@ -36,6 +38,9 @@ start s = sheet (s .args .weights .now) (s .args .flags .now) (s .args .marks .n
 common-no-requires : tie.Need-common-no-requires
 common-no-requires c κs = search needs
 
+refused-requires : tie.Need-refused-requires
+refused-requires c κs = search needs
+
 -- src/lib.rt:245:9
 same-length : tie.Need-same-length
 same-length c = search needs
@@ -43,8 +48,8 @@ same-length c = search needs
 -- src/lib.rt:245:9
 returns : tie.Need-returns
 returns c =
-    let s : _ = c .before .before .before .before .before .before .before .before in
-    common-refused (asked s) (start s) (average (s .args .triplet) (s .args .degenerate-ids1 .now) (s .args .degenerate-ids2 .now)) (c .before .common-no .result) (c .before .common-no .ensures) (c .if1 .taken)
+    let s : _ = c .before .before .before .before .before .before .before .before .before in
+    common-refused (asked s) (start s) (average (s .args .triplet) (s .args .degenerate-ids1 .now) (s .args .degenerate-ids2 .now)) (c .before .before .common-no .result) _ (c .before .before .common-no .ensures) (c .before .if1 .taken) (c .refused .ensures)
 
 -- src/lib.rt:247:9
 sizes-of-requires : tie.Need-sizes-of-requires
@@ -87,6 +92,7 @@ average-triplet-spec =
     tie.close
     (tie.spec
     common-no-requires
+    refused-requires
     same-length
     returns
     sizes-of-requires

@@ -12,6 +12,7 @@ use Rattle.sheet_list.proofs.play.Statement.{statement}
 use Rattle.sheet_list.proofs.play.Tie as tie
 use Rattle.sheet_list.proofs.play.Reads as reads
 use Rattle.sheet_list.proofs.play.Lts as lts
+use Rattle.sheet_marks.proofs.kernel.refused.Reads as refused-reads
 use Rattle.sheet_list.proofs.along.play_all.Reads as play-all-reads
 use Rattle.sheet_list.proofs.asks.list_no.Reads as list-no-reads
 
@@ -34,6 +35,9 @@ number s = listNo (length (s .args .list .now)) (length (s .args .answers .now))
 list-no-requires : tie.Need-list-no-requires
 list-no-requires c κs = search needs
 
+refused-requires : tie.Need-refused-requires
+refused-requires c κs = search needs
+
 -- src/lib.rt:62:9
 same-length : tie.Need-same-length
 same-length c = search needs
@@ -45,8 +49,8 @@ same-length-2 c = search needs
 -- src/lib.rt:62:9
 returns : tie.Need-returns
 returns c =
-    let s : _ = c .before .before .before .before .before .before .before .before .before .before .before in
-    play-refused (asked s) (start s) (calls s) (number s) (s .args .answers .now) (s .args .tallies .now) (c .before .list-no .ensures) (c .if1 .taken)
+    let s : _ = c .before .before .before .before .before .before .before .before .before .before .before .before in
+    play-refused (asked s) (start s) (calls s) (number s) (s .args .answers .now) (s .args .tallies .now) _ (c .before .before .list-no .ensures) (c .before .if1 .taken) (c .refused .ensures)
 
 -- src/lib.rt:65:9
 play-all-requires : tie.Need-play-all-requires
@@ -87,6 +91,7 @@ play-spec =
     tie.close
     (tie.spec
     list-no-requires
+    refused-requires
     same-length
     same-length-2
     returns
