@@ -350,7 +350,7 @@ static void stack_need(void)
     size_t length = stored("study.txt", text, sizeof text);
     size_t plain = stack_used(deep, &s), played = stack_used(deep_list, &t), whole = stack_used(deep_answer, &length);
     printf("c: threads used %zu bytes of stack, %zu for a list, %zu for an answer to a text\n", plain, played, whole);
-    YES(plain < 48 * 1024 && played < 48 * 1024 && whole < 1280 * 1024);
+    YES(plain < 64 * 1024 && played < 64 * 1024 && whole < 1280 * 1024);
     free_sheet(&s); free_sheet(&t);
 }
 

@@ -1,7 +1,7 @@
 -- `pelmetsavory::sheets::pelmetsavory_tally_add` meets its contract: the answer as a status and a tally. Assumes nothing.
 use borrow.Author.Needs.{needs}
 use mathlib.Core.Path.{_∙_, ap}
-use Rattle.book.specs.Replay.{numberIn}
+use Rattle.sheet_list.specs.Play.{numberIn}
 use Rattle.sheet_marks.proofs.TallyLaws.{number-is}
 use Rattle.sheet_marks.specs.declared.SheetAnswer.{SheetAnswer}
 use Rattle.pelmetsavory.proofs.sheets.pelmetsavory_tally_add.Statement.{statement}
