@@ -59,6 +59,7 @@ pub fn run_piece(
     let added = tally.add(1);
     let room = added.answer;
     let Answer::Done = room else {
+        // no room for one more run
         return added;
     };
     let tp_type = shape.tp_type;
