@@ -11,9 +11,10 @@ use Rattle.list_laws.specs.Lists.{oneIf}
 use Rattle.list_laws.proofs.MapLaws.{getD-map-lt}
 use Rattle.question_grids.specs.Ask.{afterCall}
 use Rattle.triplet_study.specs.Given.{Given}
-use Rattle.sheet_step.specs.declared.SheetAnswer.{SheetAnswer}
+use Rattle.sheet_marks.specs.declared.SheetAnswer.{SheetAnswer}
+use Rattle.sheet_marks.specs.Tallies.{answerOf}
 use Rattle.sheet_step.specs.Marks.{isOpenAt}
-use Rattle.sheet_step.specs.Steps.{Sheet, Call, run, carry, average, step, stepAnswer, sheetAnswer}
+use Rattle.sheet_step.specs.Steps.{Sheet, Call, run, carry, average, step, stepAnswer}
 use Rattle.book_claim.specs.Book.{wordAt, fresh, Book, markOf, render, bookNo, turn, opened, booked}
 use Rattle.book_claim.specs.Lists.{played, answers}
 use Rattle.book_claim.specs.Counts.{runsOf, runsAccepted, runsPiece, hasRun, averages, averagings}
@@ -24,13 +25,13 @@ use Rattle.book_claim.proofs.Words.{opened-long}
 use Rattle.book_claim.proofs.Demand3.{same-step, opened-is}
 use Rattle.book_claim.proofs.Corollaries.{is-book, tally-is}
 
-done-or : {A : Type 0} (n tally : ℕ) (x y : A) → cond (isDone (sheetAnswer n tally)) x y ≡ afterCall n x y
-done-or zero tally x y = refl
-done-or (suc n) tally x y = refl
+done-or : {A : Type 0} (n : ℕ) (x y : A) → cond (isDone (answerOf n)) x y ≡ afterCall n x y
+done-or zero x y = refl
+done-or (suc n) x y = refl
 
-done-zero : (n tally : ℕ) → isDone (sheetAnswer n tally) ≡ eqb n 0
-done-zero zero tally = refl
-done-zero (suc n) tally = sym (ne-eqb (suc n) 0 (λ e. omega arith))
+done-zero : (n : ℕ) → isDone (answerOf n) ≡ eqb n 0
+done-zero zero = refl
+done-zero (suc n) = sym (ne-eqb (suc n) 0 (λ e. omega arith))
 
 or-same : {a b c d : Bool} → a ≡ b → c ≡ d → (a || c) ≡ (b || d)
 or-same e f = rw (e, f)
@@ -39,9 +40,9 @@ module _ (g : Given) (start : Sheet) where
   -- ---- one call on the sheet that a book stands for
 
   -- what counts where the answer is Done counts where the book accepts
-  counted : {A : Type 0} (b : Book) (c : Call) (x y z : A) → x ≡ y → cond (isDone (stepAnswer g (render g start b) c)) x z ≡ afterCall (bookNo g start b c) y z
+  counted : {A : Type 0} (b : Book) (c : Call) (x y z : A) → x ≡ y → cond (isDone (stepAnswer g (render g start b) c .answer)) x z ≡ afterCall (bookNo g start b c) y z
   unfolding bookNo
-  counted b c x y z e = done-or (bookNo g start b c) (step g (render g start b) c .tally) x z ∙ ap (λ (v : _). afterCall (bookNo g start b c) v z) e
+  counted b c x y z e = done-or (bookNo g start b c) x z ∙ ap (λ (v : _). afterCall (bookNo g start b c) v z) e
 
   same-runs : (b : Book) (c : Call) → runsOn (render g start b) c ≡ runsOf b c
   unfolding render
@@ -66,7 +67,7 @@ module _ (g : Given) (start : Sheet) where
   ran-along : (q : ℕ) (calls : List Call) (b : Book) (s : Sheet) → s ≡ render g start b → q < length (b .words) → ranDone g s q calls ≡ hasRun g start b q calls
   ran-along q [] b s e h = refl
   ran-along q (c ∷ calls) b s e h =
-      let first : cond (isDone (stepAnswer g s c)) (runsPieceOn g s q c) false ≡ afterCall (bookNo g start b c) (runsPiece g b q c) false
+      let first : cond (isDone (stepAnswer g s c .answer)) (runsPieceOn g s q c) false ≡ afterCall (bookNo g start b c) (runsPiece g b q c) false
       = rw e (counted b c (runsPieceOn g (render g start b) q c) (runsPiece g b q c) false (same-piece b q c h)) in
       or-same first
       (ran-along q calls (turn g start b c) (step g s c) (rw e (same-step g start b c)) (rw (turn-long g start b c) h))
@@ -86,9 +87,9 @@ answer-at g s (x ∷ before) c after d = answer-at g (step g s x) before c after
 -- a start on which no piece is marked, any content, any tally; and any list of calls
 module _ (g : Given) (start : Sheet) (unmarked : start .marks ≡ replicate (length (start .marks)) 0) (calls : List Call) where
   -- a call after the list is answered Done exactly where the book accepts it
-  pub accepted-done : (c : Call) → isDone (stepAnswer g (played g start calls) c) ≡ eqb (bookNo g start (booked g start (opened start) calls) c) 0
+  pub accepted-done : (c : Call) → isDone (stepAnswer g (played g start calls) c .answer) ≡ eqb (bookNo g start (booked g start (opened start) calls) c) 0
   unfolding bookNo
-  accepted-done c = rw (is-book g start unmarked calls) (done-zero (bookNo g start (booked g start (opened start) calls) c) _)
+  accepted-done c = rw (is-book g start unmarked calls) (done-zero (bookNo g start (booked g start (opened start) calls) c))
 
   -- the accepted runs are those answered Done, "repeats included"
   pub runs-done : runsAccepted g start (opened start) calls ≡ runsDone g start calls

@@ -5,15 +5,15 @@ use Prim.Native.Nat.{ℕ, _+_}
 use lib.Dec.{eqb}
 use Rattle.list_laws.specs.Lists.{oneIf}
 use Rattle.triplet_study.specs.Given.{Given}
-use Rattle.sheet_step.specs.declared.SheetAnswer.{SheetAnswer}
-use Rattle.sheet_step.specs.declared.SheetAnswer.the-variants.{Done, Refused}
+use Rattle.sheet_marks.specs.declared.Answer.{Answer}
+use Rattle.sheet_marks.specs.declared.Answer.the-variants.{Done, Refused}
 use Rattle.sheet_step.specs.Marks.{isOpenAt, openPieces}
 use Rattle.sheet_step.specs.Steps.{Sheet, Call, run, carry, average, countsOf, pieceOf, step, stepAnswer}
 use Rattle.book_claim.specs.Counts.{averages}
 
 -- the entry answered Done
-abbrev pub isDone : SheetAnswer → Bool
-isDone (Done tally) = true
+abbrev pub isDone : Answer → Bool
+isDone Done = true
 isDone (Refused n) = false
 
 -- how many runs a call makes on a sheet: a run of a piece one, a carry-on one for each mark 0, an averaging none
@@ -25,7 +25,7 @@ runsOn s (average t ids1 ids2) = 0
 -- the runs of the calls that were answered Done
 abbrev pub runsDone : Given → Sheet → List Call → ℕ
 runsDone g s [] = 0
-runsDone g s (c ∷ calls) = cond (isDone (stepAnswer g s c)) (runsOn s c) 0 + runsDone g (step g s c) calls
+runsDone g s (c ∷ calls) = cond (isDone (stepAnswer g s c .answer)) (runsOn s c) 0 + runsDone g (step g s c) calls
 
 -- whether a call runs piece q of a sheet: it names it, or carries on while its mark is 0
 abbrev pub runsPieceOn : Given → Sheet → ℕ → Call → Bool
@@ -36,9 +36,9 @@ runsPieceOn g s q (average t ids1 ids2) = false
 -- whether a call that was answered Done has run it
 abbrev pub ranDone : Given → Sheet → ℕ → List Call → Bool
 ranDone g s q [] = false
-ranDone g s q (c ∷ calls) = cond (isDone (stepAnswer g s c)) (runsPieceOn g s q c) false || ranDone g (step g s c) q calls
+ranDone g s q (c ∷ calls) = cond (isDone (stepAnswer g s c .answer)) (runsPieceOn g s q c) false || ranDone g (step g s c) q calls
 
 -- the averagings of triplet t that were answered Done
 abbrev pub averagingsDone : Given → Sheet → ℕ → List Call → ℕ
 averagingsDone g s t [] = 0
-averagingsDone g s t (c ∷ calls) = cond (isDone (stepAnswer g s c)) (oneIf (averages t c)) 0 + averagingsDone g (step g s c) t calls
+averagingsDone g s t (c ∷ calls) = cond (isDone (stepAnswer g s c .answer)) (oneIf (averages t c)) 0 + averagingsDone g (step g s c) t calls
