@@ -10,7 +10,7 @@ use lib.ListN.{length}
 use lib.Signed.{mag}
 use Rattle.list_laws.specs.Signed.{isBetween}
 use Rattle.list_laws.proofs.SignedLaws.{between-high}
-use Rattle.question_grids.specs.Ask.{firstNo}
+use Rattle.ask.specs.Ask.{firstNo}
 use Rattle.questions.specs.Studies.{tripletsIn}
 use Rattle.study_counts.specs.Counts.{fewWeights}
 use Rattle.listing.specs.Listings.{refusalOf}

@@ -22,7 +22,7 @@ use Rattle.study.specs.Told.{toldStudy}
 use Rattle.study_print.proofs.StudyOnlyLaws.{PrintedOnly, printed-only}
 use Rattle.study_print.proofs.LengthLaws.{Small, study-small}
 use Rattle.listing_length.proofs.ListingLengthLaws.{refusal-short}
-use Rattle.question_grids.specs.Ask.{firstNo}
+use Rattle.ask.specs.Ask.{firstNo}
 use Rattle.triplet_study.specs.Given.{studyOf}
 use Rattle.answer_weights.specs.Asked.{questionsOf}
 use Rattle.answer_weights.specs.Answers.{listingFor, answerBy, answerTo}

@@ -7,7 +7,7 @@ use lib.ListN.{length}
 use lib.Signed.{mag}
 use Rattle.list_laws.specs.Lists.{allBelow}
 use Rattle.list_laws.specs.Signed.{within, isBetween}
-use Rattle.question_grids.specs.Ask.{firstNo}
+use Rattle.ask.specs.Ask.{firstNo}
 use Rattle.common.specs.Mesh.{countOf, meshOf}
 use Rattle.question_grids.specs.Grids.{areTriples, triplesIn, isGridKind, isMesh, areAddresses, isMap}
 use Rattle.questions.specs.Studies.{tripletsIn, areStudyCounts, areTriplets, areStudyFrequencies}

@@ -4,7 +4,7 @@ ghost use mathlib.Core.Bool.{true};
 ghost use Prim.Native.Nat.{_/_, _≤_};
 ghost use lib.ListN.{length};
 ghost use Rattle.list_laws.specs.Signed.{isBetween};
-ghost use Rattle.question_grids.specs.Ask.{firstNo};
+ghost use Rattle.ask.specs.Ask.{firstNo};
 ghost use Rattle.study_counts.specs.Counts.{fewWeights};
 ghost use Rattle.triplet_study.specs.Lent.{studyIn};
 ghost use Rattle.writing.specs.Written.{written};

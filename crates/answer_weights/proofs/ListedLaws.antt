@@ -8,8 +8,8 @@ use lib.Ieee.{Float}
 use lib.IntN.{ℤ}
 use lib.ListN.{length}
 use Rattle.list_laws.proofs.FillLaws.{length-tabulate}
-use Rattle.question_grids.specs.Ask.{asks, firstNo}
-use Rattle.question_grids.proofs.AskLaws.{group-yes}
+use Rattle.ask.specs.Ask.{asks, firstNo}
+use Rattle.ask.proofs.AskLaws.{group-yes}
 use Rattle.triplet_piece.specs.declared.Sizes.{Sizes}
 use Rattle.triplet_piece.specs.Study.{Study, sizesOf, weightAt, flagAt, Ready}
 use Rattle.triplet_study.specs.Given.{Given, givenQuestions, studyOf, areLengths}

@@ -10,11 +10,11 @@ use lib.Signed.{mag}
 use Rattle.list_laws.specs.Lists.{tabulate}
 use Rattle.list_laws.proofs.BoolLaws.{and-left, and-right, and-both}
 use Rattle.list_laws.proofs.FillLaws.{length-tabulate}
-use Rattle.question_grids.specs.Ask.{firstNo, AllYes}
+use Rattle.ask.specs.Ask.{firstNo, AllYes}
 use Rattle.question_values.specs.Counts.{isBandCount, isPointCount, isTripletCount}
 use Rattle.questions.specs.Studies.{tripletsIn, areStudyCounts}
 use Rattle.question_values.specs.TpTypes.{isTpType, channelsOf}
-use Rattle.question_grids.proofs.AskLaws.{all-yes}
+use Rattle.ask.proofs.AskLaws.{all-yes}
 use Rattle.triplet_channels.specs.Types.{tpTypeOf, channelCount}
 use Rattle.triplet_channels.specs.declared.TpType.{TpType}
 use Rattle.triplet_channels.specs.declared.TpType.the-variants.{Type2, Type3, Type4}

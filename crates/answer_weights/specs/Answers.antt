@@ -4,7 +4,7 @@ use mathlib.Core.List.{List}
 use Prim.Native.Nat.{ℕ, zero, suc, _≤_}
 use denote.Ref.{now}
 use lib.ListN.{length}
-use Rattle.question_grids.specs.Ask.{firstNo}
+use Rattle.ask.specs.Ask.{firstNo}
 use Rattle.triplet_piece.specs.declared.Sizes.{Sizes}
 use Rattle.triplet_piece.specs.Study.{Study, sizesOf, Ready}
 use Rattle.triplet_study.specs.Given.{Given, givenQuestions, studyOf}

@@ -1,7 +1,7 @@
 -- What the program asks of a study: question 1's count of weights, then 3 to 11.
 use mathlib.Core.List.{List, _∷_}
 use lib.ListN.{length}
-use Rattle.question_grids.specs.Ask.{Question, asks}
+use Rattle.ask.specs.Ask.{Question, asks}
 use Rattle.questions.specs.Studies.{tripletsIn}
 use Rattle.study_counts.specs.Counts.{fewWeights}
 use Rattle.triplet_study.specs.Given.{Given, givenQuestions}

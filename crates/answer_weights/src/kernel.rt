@@ -2,7 +2,7 @@
 ghost use mathlib.Core.Path.{_≡_};
 ghost use Prim.Native.Nat.{_/_, _≤_};
 ghost use lib.ListN.{length};
-ghost use Rattle.question_grids.specs.Ask.{firstNo};
+ghost use Rattle.ask.specs.Ask.{firstNo};
 ghost use Rattle.triplet_study.specs.Given.{studyOf};
 ghost use Rattle.triplet_study.specs.Lent.{studyNow, studyIn};
 ghost use Rattle.answer_weights.specs.Asked.{questionsOf};

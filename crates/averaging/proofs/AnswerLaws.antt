@@ -17,7 +17,7 @@ use Rattle.list_laws.proofs.SignedLaws.{between-high}
 use Rattle.question_values.specs.Averages.{areDegenerateIds}
 use Rattle.question_values.specs.Counts.{isBandCount}
 use Rattle.question_values.specs.TpTypes.{channelsOf}
-use Rattle.question_grids.proofs.AskLaws.{all-yes}
+use Rattle.ask.proofs.AskLaws.{all-yes}
 use Rattle.question_values.proofs.AverageLaws.{ids-length}
 use Rattle.questions.proofs.StudyLaws.{band-high}
 use Rattle.averaging.specs.Answers.{flagCount, averagingQuestions, averagingNo, answerOf}

@@ -9,7 +9,7 @@ use lib.ListN.{length}
 use lib.Signed.{mag}
 use lib.Ieee.{Float}
 use Rattle.list_laws.specs.Signed.{isBetween}
-use Rattle.question_grids.specs.Ask.{Question, asks, firstNo, afterCall}
+use Rattle.ask.specs.Ask.{Question, asks, firstNo, afterCall}
 use Rattle.question_values.specs.Averages.{areDegenerateIds, areWeights}
 use Rattle.question_values.specs.Counts.{isBandCount}
 use Rattle.question_values.specs.TpTypes.{isTpType, channelsOf}

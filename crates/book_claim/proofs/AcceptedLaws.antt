@@ -9,8 +9,8 @@ use lib.Arith.{digits-lt}
 use lib.IntN.{ℤ}
 use lib.ListN.{length}
 use lib.Signed.{mag}
-use Rattle.question_grids.specs.Ask.{Question, asks, AllYes, Numbered}
-use Rattle.question_grids.proofs.AskLaws.{all-yes}
+use Rattle.ask.specs.Ask.{Question, asks, AllYes, Numbered}
+use Rattle.ask.proofs.AskLaws.{all-yes}
 use Rattle.triplet_piece.specs.declared.Sizes.{Sizes}
 use Rattle.triplet_piece.specs.Layout.{Fitting}
 use Rattle.triplet_piece.specs.Study.{sizesOf}

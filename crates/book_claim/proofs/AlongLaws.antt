@@ -12,7 +12,7 @@ use borrow.Author.Tests.{eqb-true}
 use Rattle.list_laws.proofs.BoolLaws.{clash}
 use Rattle.list_laws.proofs.PatchLaws.{getD-patch}
 use Rattle.list_laws.specs.Lists.{oneIf}
-use Rattle.question_grids.specs.Ask.{afterCall}
+use Rattle.ask.specs.Ask.{afterCall}
 use Rattle.triplet_study.specs.Given.{Given}
 use Rattle.sheet_step.specs.Steps.{Sheet, Call, run, carry, average, countsOf}
 use Rattle.book_claim.specs.Book.{wordAt, Word, fresh, computed, averagedBy, Book, isOpen, writes, bookNo, turn, booked}

@@ -4,7 +4,7 @@ use mathlib.Core.List.{List, [], _∷_}
 use Prim.Native.Nat.{ℕ, zero, suc, _%_}
 use lib.ListN.{length, getD, replicate}
 use Rattle.list_laws.proofs.MapLaws.{map-replicate, getD-replicate}
-use Rattle.question_grids.specs.Ask.{afterCall}
+use Rattle.ask.specs.Ask.{afterCall}
 use Rattle.triplet_piece.specs.Layout.{pieceAt}
 use Rattle.triplet_study.specs.Given.{Given}
 use Rattle.sheet_marks.specs.declared.SheetAnswer.{SheetAnswer}

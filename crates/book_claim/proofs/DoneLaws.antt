@@ -9,10 +9,10 @@ use lib.ListN.{length, getD, replicate}
 use borrow.Author.Tests.{ne-eqb}
 use Rattle.list_laws.specs.Lists.{oneIf}
 use Rattle.list_laws.proofs.MapLaws.{getD-map-lt}
-use Rattle.question_grids.specs.Ask.{afterCall}
+use Rattle.ask.specs.Ask.{afterCall}
 use Rattle.triplet_study.specs.Given.{Given}
 use Rattle.sheet_marks.specs.declared.SheetAnswer.{SheetAnswer}
-use Rattle.sheet_marks.specs.Tallies.{answerOf}
+use Rattle.ask.specs.Answers.{answerOf}
 use Rattle.sheet_step.specs.Marks.{isOpenAt}
 use Rattle.sheet_step.specs.Steps.{Sheet, Call, run, carry, average, step, stepAnswer}
 use Rattle.book_claim.specs.Book.{wordAt, fresh, Book, markOf, render, bookNo, turn, opened, booked}

@@ -8,8 +8,8 @@ use lib.ListN.{length}
 use lib.Signed.{mag}
 use Rattle.list_laws.specs.Signed.{isBelow}
 use Rattle.list_laws.proofs.BoolLaws.{clash}
-use Rattle.question_grids.specs.Ask.{firstNo, AllYes}
-use Rattle.question_grids.proofs.AskLaws.{all-yes, none-no, FirstNo, first-no, is-first, group-yes}
+use Rattle.ask.specs.Ask.{firstNo, AllYes}
+use Rattle.ask.proofs.AskLaws.{all-yes, none-no, FirstNo, first-no, is-first, group-yes}
 use Rattle.triplet_study.specs.Given.{Given, givenQuestions}
 use Rattle.triplet_study.proofs.GivenLaws.{given-numbered}
 use Rattle.sheet_step.specs.Marks.{isAveragedAt, areMarks, isNotAveraged}

@@ -17,7 +17,7 @@ use Rattle.list_laws.proofs.BoolLaws.{and-right, clash}
 use Rattle.list_laws.proofs.PatchLaws.{length-patch, getD-patch}
 use Rattle.list_laws.specs.Lists.{oneIf}
 use Rattle.list_laws.proofs.MapLaws.{getD-map-lt}
-use Rattle.question_grids.specs.Ask.{afterCall}
+use Rattle.ask.specs.Ask.{afterCall}
 use Rattle.triplet_study.specs.Given.{Given}
 use Rattle.sheet_step.specs.Marks.{markAt, isAveragedAt, alike, isMark, areMarks, isNotAveraged}
 use Rattle.sheet_step.specs.Steps.{Sheet, Call, run, carry, average, countsOf, pieceOf}

@@ -10,7 +10,7 @@ use lib.ListN.{length, getD, set, replicate}
 use lib.Signed.{mag}
 use Rattle.list_laws.specs.Lists.{tabulate, countBelow}
 use Rattle.list_laws.specs.Patch.{patch}
-use Rattle.question_grids.specs.Ask.{afterCall}
+use Rattle.ask.specs.Ask.{afterCall}
 use Rattle.triplet_piece.specs.Layout.{pieceAt}
 use Rattle.triplet_piece.specs.Study.{weightAt, flagAt}
 use Rattle.triplet_study.specs.Given.{Given, studyOf}

@@ -7,10 +7,10 @@ use lib.Dec.{eqb}
 use lib.IntN.{ℤ}
 use lib.Signed.{mag}
 use Rattle.list_laws.specs.Lists.{oneIf}
-use Rattle.question_grids.specs.Ask.{afterCall}
+use Rattle.ask.specs.Ask.{afterCall}
 use Rattle.triplet_study.specs.Given.{Given}
-use Rattle.sheet_marks.specs.declared.Answer.{Answer}
-use Rattle.sheet_marks.specs.declared.Answer.the-variants.{Done, Refused}
+use Rattle.ask.specs.declared.Answer.{Answer}
+use Rattle.ask.specs.declared.Answer.the-variants.{Done, Refused}
 use Rattle.sheet_marks.specs.declared.SheetAnswer.{SheetAnswer}
 use Rattle.sheet_step.specs.Steps.{Sheet, Call, run, carry, average, countsOf, pieceOf}
 use Rattle.book_claim.specs.Book.{wordAt, Word, fresh, computed, averagedBy, Book, isOpen, openWords, bookNo, turn, booked}

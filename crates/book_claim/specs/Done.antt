@@ -5,8 +5,8 @@ use Prim.Native.Nat.{ℕ, _+_}
 use lib.Dec.{eqb}
 use Rattle.list_laws.specs.Lists.{oneIf}
 use Rattle.triplet_study.specs.Given.{Given}
-use Rattle.sheet_marks.specs.declared.Answer.{Answer}
-use Rattle.sheet_marks.specs.declared.Answer.the-variants.{Done, Refused}
+use Rattle.ask.specs.declared.Answer.{Answer}
+use Rattle.ask.specs.declared.Answer.the-variants.{Done, Refused}
 use Rattle.sheet_step.specs.Marks.{isOpenAt, openPieces}
 use Rattle.sheet_step.specs.Steps.{Sheet, Call, run, carry, average, countsOf, pieceOf, step, stepAnswer}
 use Rattle.book_claim.specs.Counts.{averages}

@@ -7,9 +7,9 @@ use native.Mathlib.Omega.{arith}
 use lib.IntN.{ℤ}
 use Rattle.list_laws.specs.Signed.{isNat}
 use Rattle.common.specs.Mesh.{countOf, meshOf}
-use Rattle.question_grids.specs.Ask.{firstNo, AllYes, Numbered}
+use Rattle.ask.specs.Ask.{firstNo, AllYes, Numbered}
 use Rattle.question_grids.specs.Grids.{gridQuestions, triplesIn, isMap, isSparseMap, isDenseMap}
-use Rattle.question_grids.proofs.AskLaws.{all-yes}
+use Rattle.ask.proofs.AskLaws.{all-yes}
 use Rattle.question_grids.proofs.GridLaws.{mesh-within}
 use Rattle.bzgrid.specs.declared.GridKind.the-variants.{Sparse, Dense}
 use Rattle.bzgrid.specs.declared.NeighbourAnswer.the-variants.{Filled, Refused}

@@ -5,7 +5,7 @@ use lib.Dec.{eqb}
 use lib.IntN.{ℤ}
 use lib.ListN.{length}
 use Rattle.list_laws.specs.Signed.{isBelow}
-use Rattle.question_grids.specs.Ask.{Question, asks}
+use Rattle.ask.specs.Ask.{Question, asks}
 use Rattle.question_grids.specs.Grids.{gridQuestions, triplesIn}
 use Rattle.question_grids.specs.Steps.{areSteps, areGridPoints}
 use Rattle.question_values.specs.Counts.{isTripletCount, isProduct}

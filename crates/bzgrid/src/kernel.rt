@@ -5,7 +5,7 @@ ghost use Prim.Native.Nat.{_+_, _-_, _*_, _/_, _≤_, _<_};
 ghost use lib.ListN.{length};
 ghost use Rattle.list_laws.specs.Lists.{firstAt};
 ghost use Rattle.common.specs.Mesh.{MeshWithin, countOf};
-ghost use Rattle.question_grids.specs.Ask.{firstNo};
+ghost use Rattle.ask.specs.Ask.{firstNo};
 ghost use Rattle.question_grids.specs.Grids.{areTriples, triplesIn, isDenseMap};
 ghost use Rattle.question_grids.specs.Steps.{areGridPoints};
 ghost use Rattle.bzgrid.specs.Neighbours.{gridOf, kindOf, isAddress, sparseNeighbour, inGroup, denseNeighbour, moved, wantedAddress, neighbourOf, neighboursOf, neighboursOfAll, SoundGrid};

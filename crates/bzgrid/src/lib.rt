@@ -2,7 +2,7 @@
 ghost use mathlib.Core.Path.{_≡_};
 ghost use lib.ListN.{length};
 ghost use lib.Signed.{mag};
-ghost use Rattle.question_grids.specs.Ask.{firstNo, afterCall};
+ghost use Rattle.ask.specs.Ask.{firstNo, afterCall};
 ghost use Rattle.bzgrid.specs.Neighbours.{gridOf, neighboursOf, neighboursOfAll};
 ghost use Rattle.bzgrid.specs.Calls.{pointQuestions, manyQuestions, neighbourAnswer};
 

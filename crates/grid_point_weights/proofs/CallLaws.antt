@@ -13,7 +13,7 @@ use lib.ListN.{length}
 use lib.Signed.{mag}
 use Rattle.list_laws.proofs.BoolLaws.{and-left, and-right}
 use Rattle.list_laws.proofs.SignedLaws.{between-low, between-high}
-use Rattle.question_grids.specs.Ask.{firstNo, AllYes, Numbered}
+use Rattle.ask.specs.Ask.{firstNo, AllYes, Numbered}
 use Rattle.question_values.specs.Counts.{isBandCount, isPointCount, isTripletCount}
 use Rattle.question_values.specs.Frequencies.{arePoints}
 use Rattle.question_grids.specs.Grids.{gridQuestions, triplesIn}

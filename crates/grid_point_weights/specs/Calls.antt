@@ -6,7 +6,7 @@ use lib.IntN.{ℤ}
 use lib.Ieee.{Float}
 use lib.ListN.{length}
 use lib.Signed.{mag}
-use Rattle.question_grids.specs.Ask.{Question, asks}
+use Rattle.ask.specs.Ask.{Question, asks}
 use Rattle.question_grids.specs.Grids.{gridQuestions, triplesIn}
 use Rattle.question_grids.specs.Tables.{isTable}
 use Rattle.question_values.specs.Counts.{isBandCount, isPointCount, isTripletCount, isProduct}

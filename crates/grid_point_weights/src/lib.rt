@@ -3,7 +3,7 @@ ghost use mathlib.Core.Path.{_≡_};
 ghost use lib.ListN.{length};
 ghost use lib.Signed.{mag};
 ghost use Rattle.bzgrid.specs.Neighbours.{gridOf};
-ghost use Rattle.question_grids.specs.Ask.{firstNo, afterCall};
+ghost use Rattle.ask.specs.Ask.{firstNo, afterCall};
 ghost use Rattle.grid_point_weights.specs.Weights.{study, weightsOfAll};
 ghost use Rattle.grid_point_weights.specs.Calls.{gridPointQuestions, gridPointAnswer};
 use tetrahedron_method::WeightFunction;

@@ -1,6 +1,6 @@
 // The questions after those on the grid.
 ghost use mathlib.Core.Path.{_≡_};
-ghost use Rattle.question_grids.specs.Ask.{firstNo};
+ghost use Rattle.ask.specs.Ask.{firstNo};
 ghost use Rattle.grid_point_weights.specs.Calls.{areCounts, weightsQuestions};
 
 // Question 9: bands, frequency points, grid points.

@@ -13,10 +13,10 @@ use Rattle.common.specs.Mesh.{meshOf}
 use Rattle.common.specs.declared.MatvecAnswer.{MatvecAnswer}
 use Rattle.grgrid.specs.Index.{addressOf, gridIndex, indexAnswer}
 use Rattle.grgrid.specs.declared.IndexAnswer.the-variants as index
-use Rattle.question_grids.specs.Ask.{asks, firstNo, afterCall}
+use Rattle.ask.specs.Ask.{asks, firstNo, afterCall}
 use Rattle.question_grids.specs.Grids.{isMesh}
 use Rattle.question_values.specs.TpTypes.{isTpType}
-use Rattle.question_grids.proofs.AskLaws.{after-done, after-refused}
+use Rattle.ask.proofs.AskLaws.{after-done, after-refused}
 use Rattle.tetrahedron_tables.specs.Tables.{tableOf, flat}
 use Rattle.relative_grid_address.specs.Diagonal.{mainDiagonalOf}
 use Rattle.relative_grid_address.specs.Answer.{tableAnswer}

@@ -4,7 +4,7 @@ use mathlib.Core.List.{List}
 use Prim.Native.Nat.{ℕ}
 use Rattle.triplet_study.specs.Given.{Given}
 use Rattle.sheet_marks.specs.declared.SheetAnswer.{SheetAnswer}
-use Rattle.sheet_marks.specs.Tallies.{answerNumber}
+use Rattle.ask.specs.Answers.{answerNumber}
 use Rattle.sheet_marks.proofs.TallyLaws.{number-is}
 use Rattle.sheet_step.specs.Steps.{Sheet, Call, verdict, step, Did}
 use Rattle.sheet_list.specs.Play.{Outcome, numberIn, DidPlay}

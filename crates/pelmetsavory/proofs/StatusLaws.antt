@@ -4,7 +4,7 @@ use mathlib.Core.Bool.{Bool}
 use Prim.Native.Nat.{ℕ, zero, suc}
 use native.Mathlib.Omega.{arith}
 use lib.Ieee.{Float}
-use Rattle.question_grids.specs.Ask.{afterCall}
+use Rattle.ask.specs.Ask.{afterCall}
 use Rattle.averaging.specs.Answers.{answerOf}
 use Rattle.averaging.specs.declared.AveragingAnswer.{AveragingAnswer}
 use Rattle.averaging.specs.declared.AveragingAnswer.the-variants as averaging

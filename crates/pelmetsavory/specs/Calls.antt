@@ -8,7 +8,7 @@ use lib.Dec.{eqb}
 use lib.Ieee.{Float}
 use lib.IntN.{ℤ}
 use Rattle.common.specs.Matrix.{isLattice, isVector}
-use Rattle.question_grids.specs.Ask.{Question, asks}
+use Rattle.ask.specs.Ask.{Question, asks}
 use Rattle.question_grids.specs.Grids.{isMesh}
 use Rattle.question_values.specs.TpTypes.{isTpType}
 use Rattle.tetrahedron_method.specs.declared.WeightFunction.{WeightFunction}

@@ -2,7 +2,7 @@
 use mathlib.Core.Path.{_≡_}
 use mathlib.Core.List.{List}
 use Prim.Native.Nat.{ℕ}
-use Rattle.question_grids.specs.Ask.{afterCall}
+use Rattle.ask.specs.Ask.{afterCall}
 use Rattle.triplet_study.specs.Given.{Given}
 use Rattle.sheet_step.specs.Steps.{Sheet, Call, verdict, step}
 use Rattle.sheet_list.specs.Play.{Outcome, outcome, outcomeOf}

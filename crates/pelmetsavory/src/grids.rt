@@ -6,7 +6,7 @@ ghost use lib.Signed.{mag};
 ghost use Rattle.common.specs.Matrix.{matvecOf};
 ghost use Rattle.common.specs.Mesh.{meshOf};
 ghost use Rattle.grgrid.specs.Index.{addressOf, gridIndex};
-ghost use Rattle.question_grids.specs.Ask.{firstNo, afterCall};
+ghost use Rattle.ask.specs.Ask.{firstNo, afterCall};
 ghost use Rattle.bzgrid.specs.Neighbours.{gridOf, neighboursOf, neighboursOfAll};
 ghost use Rattle.bzgrid.specs.Calls.{pointQuestions, manyQuestions};
 ghost use Rattle.pelmetsavory.specs.Calls.{indexQuestions, matvecQuestions};

@@ -5,9 +5,9 @@ ghost use Rattle.sheet_step.specs.Lent.{sheetIn, sheetOut};
 ghost use Rattle.sheet_list.specs.Calls.{callsOf};
 ghost use Rattle.sheet_list.specs.Play.{listNo, outcome};
 ghost use Rattle.pelmetsavory.specs.Sheets.{CalledPlay};
+use ask::kernel::number_of;
 use sheet_list::Shape;
 use sheet_list::Tally;
-use sheet_marks::kernel::number_of;
 
 // Plays a list of calls, six numbers a call, on a sheet with any marks, and counts the runs behind `tally`. Each call's status goes to its
 // place in `answers`, the tally after it to its place in `tallies`. The status is 0, or 12: has the list six numbers for each of `answers`

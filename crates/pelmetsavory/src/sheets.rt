@@ -3,7 +3,7 @@ ghost use mathlib.Core.Path.{_≡_};
 ghost use Prim.Native.Nat.{_*_, _+_};
 ghost use lib.ListN.{length};
 ghost use lib.Signed.{mag};
-ghost use Rattle.question_grids.specs.Ask.{firstNo, afterCall};
+ghost use Rattle.ask.specs.Ask.{firstNo, afterCall};
 ghost use Rattle.triplet_study.specs.Lent.{studyIn};
 ghost use Rattle.sheet_step.specs.Lent.{sheetIn, sheetOut};
 ghost use Rattle.sheet_step.specs.Steps.{run, carry, average};
@@ -11,11 +11,11 @@ ghost use Rattle.sheet_marks.specs.Tallies.{tallyQuestions};
 ghost use Rattle.sheet_marks.specs.OpenCount.{openQuestions, zerosFrom, cellsPerTriplet};
 ghost use Rattle.pelmetsavory.specs.Sheets.{Called};
 use crate::Piece;
+use ask::kernel::number_of;
 use sheet::Counts;
 use sheet::OpenAnswer;
 use sheet::Shape;
 use sheet::Tally;
-use sheet_marks::kernel::number_of;
 
 // Runs one piece, and counts it behind `tally`. Questions 3 to 15, 20.
 #[no_mangle]

@@ -8,7 +8,7 @@ ghost use Rattle.relative_grid_address.specs.Diagonal.{mainDiagonalOf};
 ghost use Rattle.relative_grid_address.specs.Answer.{allTables};
 ghost use Rattle.tetrahedron_method.specs.Answer.{weightQuestions};
 ghost use Rattle.tetrahedron_method.specs.Weight.{weightOf};
-ghost use Rattle.question_grids.specs.Ask.{firstNo, afterCall};
+ghost use Rattle.ask.specs.Ask.{firstNo, afterCall};
 ghost use Rattle.bzgrid.specs.Neighbours.{gridOf};
 ghost use Rattle.grid_point_weights.specs.Weights.{study, weightsOfAll};
 ghost use Rattle.grid_point_weights.specs.Calls.{gridPointQuestions};

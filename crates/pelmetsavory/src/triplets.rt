@@ -2,7 +2,7 @@
 ghost use mathlib.Core.Path.{_≡_};
 ghost use lib.ListN.{length};
 ghost use Rattle.triplet_channels.specs.Types.{tpTypeOf, channelCount};
-ghost use Rattle.question_grids.specs.Ask.{firstNo, afterCall};
+ghost use Rattle.ask.specs.Ask.{firstNo, afterCall};
 ghost use Rattle.triplet_study.specs.Lent.{studyIn, studyOfOne};
 ghost use Rattle.averaging.specs.Answers.{averagingNo, weightsAfter, flagsAfter};
 ghost use Rattle.triplet_addresses.specs.Normal.{isNQuestions, isNormal};

@@ -14,7 +14,7 @@ use Rattle.relative_grid_address.specs.Answer.{tableAnswer}
 use Rattle.relative_grid_address.specs.Diagonal.{mainDiagonalOf}
 use Rattle.averaging_blocks.specs.Weights.{averagedPoints}
 use Rattle.averaging_blocks.specs.Flags.{averagedFlagPoints}
-use Rattle.question_grids.specs.Ask.{firstNo}
+use Rattle.ask.specs.Ask.{firstNo}
 use Rattle.question_values.specs.Averages.{isDegenerateId, areDegenerateIds, isWeight, areWeights}
 use Rattle.question_values.specs.Counts.{isBandCount, isProduct}
 use Rattle.question_values.specs.Frequencies.{inRange, areInRange}

@@ -6,7 +6,7 @@ use lib.IntN.{ℤ, pos, negsuc}
 use lib.ListN.{length}
 use lib.Ieee.{Float, binary64, ofBits}
 use Rattle.ieee_laws.specs.Zeros.{zeroF}
-use Rattle.question_grids.specs.Ask.{firstNo}
+use Rattle.ask.specs.Ask.{firstNo}
 use Rattle.bzgrid.specs.Calls.{manyQuestions, neighbourAnswer}
 use Rattle.bzgrid.specs.Neighbours.{gridOf, neighboursOfAll}
 use Rattle.bzgrid.specs.declared.NeighbourAnswer.the-variants.{Filled}

@@ -1,6 +1,6 @@
 -- Questions 3 to 6: the grid kind, the mesh, the addresses and the map. N is the product of the mesh numbers, P the count of addresses.
 use mathlib.Core.Bool.{Bool, _&&_, _||_, cond}
-use mathlib.Core.List.{List, [], _∷_}
+use mathlib.Core.List.{List, [], _∷_, _++_}
 use Prim.Native.Nat.{ℕ, _+_, _*_, _/_, _%_}
 use lib.Dec.{leb, ltb, eqb}
 use lib.IntN.{ℤ}
@@ -9,7 +9,7 @@ use lib.Signed.{ltZ}
 use Rattle.list_laws.specs.Lists.{allBelow, at}
 use Rattle.list_laws.specs.Signed.{isNat, isBelow, isBetween, within}
 use Rattle.common.specs.Mesh.{countOf, meshOf}
-use Rattle.question_grids.specs.Ask.{Question, asks}
+use Rattle.ask.specs.Ask.{Question, asks}
 
 -- Question 3: "Is the grid kind 1 or 2?"
 unfoldable pub isGridKind : ℤ → Bool
@@ -48,11 +48,15 @@ isDenseMap n p gp-map =
 unfoldable pub isMap : ℤ → ℕ → ℕ → List ℤ → Bool
 isMap kind n p gp-map = cond (isNat kind 1) (isSparseMap n p gp-map) (isDenseMap n p gp-map)
 
+-- 3 and 4: the grid's kind and its mesh
+abbrev pub meshQuestions : ℤ → List ℤ → List Question
+meshQuestions kind diag = asks 3 (isGridKind kind) ∷ asks 4 (isMesh 128 diag) ∷ []
+
+-- 5 and 6: its addresses and its map
+abbrev pub placeQuestions : ℤ → List ℤ → List ℤ → List ℤ → List Question
+placeQuestions kind diag addresses gp-map =
+    asks 5 (areAddresses (countOf (meshOf diag)) addresses) ∷ asks 6 (isMap kind (countOf (meshOf diag)) (triplesIn addresses) gp-map) ∷ []
+
 -- The questions that every call on a grid asks first.
 abbrev pub gridQuestions : ℤ → List ℤ → List ℤ → List ℤ → List Question
-gridQuestions kind diag addresses gp-map =
-    asks 3 (isGridKind kind)
-    ∷ asks 4 (isMesh 128 diag)
-    ∷ asks 5 (areAddresses (countOf (meshOf diag)) addresses)
-    ∷ asks 6 (isMap kind (countOf (meshOf diag)) (triplesIn addresses) gp-map)
-    ∷ []
+gridQuestions kind diag addresses gp-map = meshQuestions kind diag ++ placeQuestions kind diag addresses gp-map

@@ -14,7 +14,7 @@ use Rattle.list_laws.specs.Lists.{at}
 use Rattle.list_laws.specs.Signed.{isNat}
 use Rattle.list_laws.proofs.BoolLaws.{and-left, and-right, clash}
 use Rattle.list_laws.proofs.SignedLaws.{between-low, between-high}
-use Rattle.question_grids.specs.Ask.{firstNo, AllYes, Numbered}
+use Rattle.ask.specs.Ask.{firstNo, AllYes, Numbered}
 use Rattle.question_values.specs.Counts.{isBandCount, isPointCount, isTripletCount, isProduct}
 use Rattle.question_values.specs.Frequencies.{areFrequencies, arePoints}
 use Rattle.question_grids.specs.Grids.{areTriples, triplesIn, gridQuestions}
@@ -23,7 +23,7 @@ use Rattle.question_grids.specs.Steps.{areGridPoints}
 use Rattle.question_values.specs.TpTypes.{channelsOf}
 use Rattle.question_grids.specs.Tables.{isTable}
 use Rattle.questions.specs.Studies.{tripletsIn, areStudyCounts, areTriplets, holdFrequencies, areStudyFrequencies, studyQuestions}
-use Rattle.question_grids.proofs.AskLaws.{all-yes}
+use Rattle.ask.proofs.AskLaws.{all-yes}
 use Rattle.question_grids.proofs.StepLaws.{grid-points-at, product-yes}
 
 -- a table has 24, 48, 72 or 96 rows of twelve numbers

@@ -7,7 +7,7 @@ use lib.IntN.{ℤ}
 use lib.Ieee.{Float}
 use lib.ListN.{length}
 use lib.Signed.{mag}
-use Rattle.question_grids.specs.Ask.{Question, asks}
+use Rattle.ask.specs.Ask.{Question, asks}
 use Rattle.question_values.specs.Counts.{isBandCount, isPointCount, isTripletCount, isProduct}
 use Rattle.question_values.specs.Frequencies.{areFrequencies, arePoints}
 use Rattle.question_grids.specs.Grids.{triplesIn, gridQuestions}
@@ -37,15 +37,23 @@ unfoldable pub areStudyFrequencies : ℕ → ℕ → ℕ → List Float → List
 areStudyFrequencies p bands1 bands2 frequencies1 frequencies2 points =
     (holdFrequencies p bands1 frequencies1 && holdFrequencies p bands2 frequencies2) && arePoints points
 
--- questions 7 to 11, P being the count of addresses
-abbrev pub tripletQuestions : ℕ → ℤ → ℤ → ℤ → List ℤ → List Float → List Float → List Float → List ℤ → List Question
-tripletQuestions p type bands1 bands2 steps frequencies1 frequencies2 points triplets =
-    asks 7 (isTable steps)
-    ∷ asks 8 (isTpType type)
+-- 7, of the table
+abbrev pub tableQuestions : List ℤ → List Question
+tableQuestions steps = asks 7 (isTable steps) ∷ []
+
+-- 8 to 11, P being the count of addresses
+abbrev pub valueQuestions : ℕ → ℤ → ℤ → ℤ → List Float → List Float → List Float → List ℤ → List Question
+valueQuestions p type bands1 bands2 frequencies1 frequencies2 points triplets =
+    asks 8 (isTpType type)
     ∷ asks 9 (areStudyCounts bands1 bands2 (length points) (tripletsIn triplets))
     ∷ asks 10 (areTriplets p triplets)
     ∷ asks 11 (areStudyFrequencies p (mag bands1) (mag bands2) frequencies1 frequencies2 points)
     ∷ []
+
+-- 7 to 11
+abbrev pub tripletQuestions : ℕ → ℤ → ℤ → ℤ → List ℤ → List Float → List Float → List Float → List ℤ → List Question
+tripletQuestions p type bands1 bands2 steps frequencies1 frequencies2 points triplets =
+    tableQuestions steps ++ valueQuestions p type bands1 bands2 frequencies1 frequencies2 points triplets
 
 -- The questions on a study, 3 to 11, in their order.
 abbrev pub studyQuestions : ℤ → List ℤ → ℤ → ℤ → ℤ → List ℤ → List ℤ → List ℤ → List Float → List Float → List Float → List ℤ → List Question

@@ -5,7 +5,7 @@ ghost use Rattle.triplet_study.specs.Lent.{studyIn};
 ghost use Rattle.sheet_step.specs.Lent.{sheetIn, sheetOut};
 ghost use Rattle.sheet_marks.specs.Tallies.{sheetAnswer};
 ghost use Rattle.sheet_step.specs.Steps.{run, carry, average, Did};
-pub use sheet_marks::Answer;
+pub use ask::Answer;
 pub use sheet_marks::Counts;
 pub use sheet_marks::OpenAnswer;
 pub use sheet_marks::SheetAnswer;

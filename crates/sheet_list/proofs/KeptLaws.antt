@@ -17,8 +17,8 @@ use Rattle.list_laws.proofs.BoolLaws.{and-left, and-right, and-both, true-or-fa
 use Rattle.list_laws.proofs.BelowLaws.{below-at, below-all}
 use Rattle.list_laws.proofs.MapLaws.{getD-map-lt}
 use Rattle.list_laws.proofs.PatchLaws.{getD-patch}
-use Rattle.question_grids.specs.Ask.{Question, asks, firstNo, AllYes}
-use Rattle.question_grids.proofs.AskLaws.{all-yes, none-no, group-yes}
+use Rattle.ask.specs.Ask.{Question, asks, firstNo, AllYes}
+use Rattle.ask.proofs.AskLaws.{all-yes, none-no, group-yes}
 use Rattle.triplet_piece.proofs.StudyLaws.{length-computed, length-computed-flags}
 use Rattle.triplet_study.specs.Given.{Given, givenQuestions, studyOf}
 use Rattle.triplet_study.proofs.GivenLaws.{given-numbered}

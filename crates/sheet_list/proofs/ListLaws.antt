@@ -13,8 +13,8 @@ use Rattle.list_laws.proofs.FillLaws.{front-all, length-tabulate, tabulate-ext}
 use borrow.Author.Tests.{eqb-true}
 use lib.Dec.{eqb}
 use Rattle.list_laws.proofs.BoolLaws.{and-left, and-right}
-use Rattle.question_grids.specs.Ask.{asks, firstNo, afterCall}
-use Rattle.question_grids.proofs.AskLaws.{all-yes, after-done, after-refused}
+use Rattle.ask.specs.Ask.{asks, firstNo, afterCall}
+use Rattle.ask.proofs.AskLaws.{all-yes, after-done, after-refused}
 use Rattle.sheet_marks.specs.Tallies.{refusedWith, sheetAnswer}
 use Rattle.sheet_marks.proofs.TallyLaws.{refused-is, number-is as number-of}
 use Rattle.triplet_study.specs.Given.{Given}

@@ -4,10 +4,11 @@ use mathlib.Core.Bool.{Bool, _&&_}
 use mathlib.Core.List.{List, [], _∷_, map}
 use Prim.Native.Nat.{ℕ, _*_}
 use lib.Dec.{eqb}
-use Rattle.question_grids.specs.Ask.{Question, asks, firstNo, afterCall}
+use Rattle.ask.specs.Ask.{Question, asks, firstNo, afterCall}
 use Rattle.triplet_study.specs.Given.{Given}
 use Rattle.sheet_marks.specs.declared.SheetAnswer.{SheetAnswer}
-use Rattle.sheet_marks.specs.Tallies.{answerNumber, sheetAnswer}
+use Rattle.ask.specs.Answers.{answerNumber}
+use Rattle.sheet_marks.specs.Tallies.{sheetAnswer}
 use Rattle.sheet_step.specs.Steps.{Sheet, Call, step}
 use Rattle.book_claim.specs.Lists.{played, answers}
 

@@ -4,7 +4,7 @@ ghost use Rattle.triplet_study.specs.Lent.{studyIn};
 ghost use Rattle.sheet_step.specs.Lent.{sheetIn, sheetOut};
 ghost use Rattle.sheet_list.specs.Calls.{callsOf};
 ghost use Rattle.sheet_list.specs.Play.{listNo, outcome, DidPlay};
-pub use sheet_marks::Answer;
+pub use ask::Answer;
 pub use sheet_marks::SheetAnswer;
 pub use sheet_marks::Tally;
 pub use triplet_study::Shape;

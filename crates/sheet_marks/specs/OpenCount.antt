@@ -8,7 +8,7 @@ use lib.ListN.{length}
 use lib.Signed.{mag}
 use Rattle.list_laws.specs.Lists.{at, countBelow}
 use Rattle.list_laws.specs.Signed.{eqZ, isBelow, isBetween}
-use Rattle.question_grids.specs.Ask.{Question, asks, firstNo}
+use Rattle.ask.specs.Ask.{Question, asks, firstNo}
 use Rattle.question_values.specs.Counts.{isBandCount}
 use Rattle.sheet_marks.specs.declared.Counts.{Counts}
 use Rattle.sheet_marks.specs.declared.OpenAnswer.{OpenAnswer}

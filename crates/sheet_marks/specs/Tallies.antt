@@ -1,22 +1,12 @@
 -- The tally of accepted runs, and the answer that it comes back with.
 use mathlib.Core.Bool.{Bool}
 use mathlib.Core.List.{List, [], _∷_}
-use Prim.Native.Nat.{ℕ, zero, suc, _+_, _^_}
+use Prim.Native.Nat.{ℕ, _+_, _^_}
 use lib.Dec.{ltb}
-use Rattle.question_grids.specs.Ask.{Question, asks, firstNo, afterCall}
-use Rattle.sheet_marks.specs.declared.Answer.{Answer}
-use Rattle.sheet_marks.specs.declared.Answer.the-variants.{Done, Refused}
+use Rattle.ask.specs.Ask.{Question, asks, firstNo, afterCall}
+use Rattle.ask.specs.declared.Answer.the-variants.{Refused}
+use Rattle.ask.specs.Answers.{answerOf}
 use Rattle.sheet_marks.specs.declared.SheetAnswer.{SheetAnswer}
-
--- the answer by the number of the first no: 0 is done, any other is the refusal
-abbrev pub answerOf : ℕ → Answer
-answerOf zero = Done
-answerOf (suc n) = Refused (suc n)
-
--- the number of an answer
-abbrev pub answerNumber : Answer → ℕ
-answerNumber Done = 0
-answerNumber (Refused n) = n
 
 -- "the tally goes in by value and comes back": beside the answer
 abbrev pub sheetAnswer : ℕ → ℕ → SheetAnswer

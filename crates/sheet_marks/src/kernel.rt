@@ -4,13 +4,13 @@ ghost use mathlib.Core.Bool.{true};
 ghost use Prim.Native.Nat.{_+_, _*_, _≤_, _<_};
 ghost use lib.ListN.{length};
 ghost use Rattle.list_laws.specs.Lists.{oneIf};
-ghost use Rattle.question_grids.specs.Ask.{firstNo};
+ghost use Rattle.ask.specs.Ask.{firstNo};
 ghost use Rattle.sheet_marks.specs.OpenCount.{areCounts, cellsPerTriplet, openQuestions, isZeroAt, zerosFrom};
-ghost use Rattle.sheet_marks.specs.Tallies.{answerNumber, refusedWith};
-use crate::Answer;
+ghost use Rattle.sheet_marks.specs.Tallies.{refusedWith};
 use crate::Counts;
 use crate::SheetAnswer;
 use crate::Tally;
+use ask::Answer;
 
 // 2^63
 pub const FULL: u64 = 0x8000_0000_0000_0000;
@@ -22,16 +22,6 @@ pub fn refused(number: u64, tally: Tally) -> SheetAnswer
     SheetAnswer {
         answer: Answer::Refused(number),
         tally,
-    }
-}
-
-// The number of an answer, 0 where the call is done.
-pub fn number_of(answer: Answer) -> u64
-    ensures { λ r. ⌜ r ≡ answerNumber answer ⌝ }
-{
-    match answer {
-        Answer::Done => 0,
-        Answer::Refused(number) => number,
     }
 }
 

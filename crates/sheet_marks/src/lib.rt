@@ -3,18 +3,13 @@ ghost use mathlib.Core.Path.{_≡_};
 ghost use Prim.Native.Nat.{_*_, _<_};
 ghost use Rattle.sheet_marks.specs.Tallies.{addedTo};
 ghost use Rattle.sheet_marks.specs.OpenCount.{openCountAnswer};
+use ask::Answer;
 
 pub mod kernel;
 
 // The count of accepted runs, repeats included. It stays below 2^63.
 pub struct Tally {
     pub runs: u64,
-}
-
-// Done, or the number of the first question that is answered no.
-pub enum Answer {
-    Done,
-    Refused(u64),
 }
 
 // What comes back: the answer, and the tally beside it, the old one after a refusal.

@@ -4,7 +4,7 @@ use Prim.Native.Nat.{ℕ, _+_, _*_, _≤_, _<_}
 use native.Mathlib.Nat.{mul-le-mul, mul-assoc, one-le-mul}
 use native.Mathlib.Omega.{arith}
 use Rattle.list_laws.proofs.ProductLaws.{row-le}
-use Rattle.question_grids.specs.Ask.{firstNo}
+use Rattle.ask.specs.Ask.{firstNo}
 use Rattle.triplet_piece.specs.declared.Sizes.{Sizes}
 use Rattle.triplet_piece.specs.Study.{sizesOf, Ready}
 use Rattle.triplet_study.specs.Given.{Given, givenQuestions, studyOf, FewSizes}

@@ -13,10 +13,10 @@ use lib.Signed.{mag}
 use Rattle.list_laws.specs.Signed.{isBelow}
 use Rattle.list_laws.proofs.BoolLaws.{and-left, and-right}
 use Rattle.list_laws.proofs.SignedLaws.{below-lt}
-use Rattle.question_grids.specs.Ask.{Question, asks, firstNo, AllYes, Numbered}
+use Rattle.ask.specs.Ask.{Question, asks, firstNo, AllYes, Numbered}
 use Rattle.question_values.specs.Averages.{areDegenerateIds}
 use Rattle.question_values.proofs.AverageLaws.{ids-length}
-use Rattle.question_grids.proofs.AskLaws.{group-no, group-yes, all-yes, after-done, after-refused}
+use Rattle.ask.proofs.AskLaws.{group-no, group-yes, all-yes, after-done, after-refused}
 use Rattle.triplet_piece.specs.declared.Sizes.{Sizes}
 use Rattle.triplet_study.specs.Given.{Given, givenQuestions, areLengths}
 use Rattle.triplet_study.proofs.GivenLaws.{given-numbered, lengths-say}

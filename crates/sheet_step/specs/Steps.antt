@@ -11,7 +11,7 @@ use lib.Signed.{mag}
 use Rattle.list_laws.specs.Lists.{allBelow, part, rowOf}
 use Rattle.list_laws.specs.Patch.{patch}
 use Rattle.list_laws.specs.Signed.{isBelow}
-use Rattle.question_grids.specs.Ask.{Question, asks, firstNo, afterCall}
+use Rattle.ask.specs.Ask.{Question, asks, firstNo, afterCall}
 use Rattle.question_values.specs.Averages.{areDegenerateIds, areWeights}
 use Rattle.triplet_piece.specs.declared.Sizes.{Sizes}
 use Rattle.triplet_piece.specs.Layout.{tripletAt}

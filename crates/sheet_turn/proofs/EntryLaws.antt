@@ -6,7 +6,7 @@ use lib.Ieee.{Float}
 use lib.IntN.{ℤ}
 use lib.ListN.{length, length-map}
 use Rattle.list_laws.proofs.PatchLaws.{length-patch}
-use Rattle.question_grids.specs.Ask.{firstNo}
+use Rattle.ask.specs.Ask.{firstNo}
 use Rattle.bzgrid.specs.declared.BzGrid.{BzGrid}
 use Rattle.bzgrid.specs.Neighbours.{gridOf}
 use Rattle.triplet_channels.specs.declared.TpType.{TpType}

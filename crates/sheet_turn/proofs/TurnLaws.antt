@@ -11,10 +11,10 @@ use lib.IntN.{ℤ}
 use lib.ListN.{length, set}
 use lib.Signed.{mag}
 use Rattle.list_laws.proofs.ProductLaws.{digit-lt}
-use Rattle.question_grids.specs.Ask.{Question, firstNo}
+use Rattle.ask.specs.Ask.{Question, firstNo}
 use Rattle.question_grids.specs.Grids.{areTriples}
 use Rattle.question_grids.specs.Tables.{rowsIn}
-use Rattle.question_grids.proofs.AskLaws.{group-no, group-yes, after-done}
+use Rattle.ask.proofs.AskLaws.{group-no, group-yes, after-done}
 use Rattle.bzgrid.specs.declared.BzGrid.{BzGrid}
 use Rattle.triplet_channels.specs.declared.TpType.{TpType}
 use Rattle.triplet_piece.specs.declared.Sizes.{Sizes}
@@ -22,7 +22,8 @@ use Rattle.triplet_piece.specs.Study.{Study, study, Ready, computedWeights, com
 use Rattle.triplet_study.specs.Given.{Given, studyOf}
 use Rattle.triplet_study.proofs.GivenLaws.{given-ready}
 use Rattle.sheet_marks.specs.declared.SheetAnswer.{SheetAnswer}
-use Rattle.sheet_marks.specs.Tallies.{addedTo, answerNumber, tallyQuestions}
+use Rattle.ask.specs.Answers.{answerNumber}
+use Rattle.sheet_marks.specs.Tallies.{addedTo, tallyQuestions}
 use Rattle.sheet_marks.proofs.TallyLaws.{number-is}
 use Rattle.sheet_step.specs.Marks.{isOpenAt, openPieces, carriedMarks, averagedMarks}
 use Rattle.sheet_step.specs.Steps.{Sheet, sheet, Call, run, carry, average, countsOf, Counted, pieceQuestions, averageQuestions, pieceOf, tripletAveraged, tripletFlagsAveraged, verdict, effect, step}

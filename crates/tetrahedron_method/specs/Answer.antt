@@ -4,7 +4,7 @@ use mathlib.Core.Bool.{_&&_}
 use mathlib.Core.List.{List, [], _∷_}
 use lib.ListN.{length}
 use lib.Ieee.{Float}
-use Rattle.question_grids.specs.Ask.{Question, asks, firstNo}
+use Rattle.ask.specs.Ask.{Question, asks, firstNo}
 use Rattle.question_values.specs.Frequencies.{arePoints, isPoint}
 use Rattle.question_values.specs.Rows.{hasRows}
 use Rattle.tetrahedron_method.specs.declared.WeightAnswer.{WeightAnswer}

@@ -6,7 +6,7 @@ use lib.IntN.{ℤ, negℤ}
 use lib.ListN.{length}
 use Rattle.list_laws.specs.Lists.{at, tabulate}
 use Rattle.list_laws.specs.Signed.{isNat}
-use Rattle.question_grids.specs.Ask.{Question, asks}
+use Rattle.ask.specs.Ask.{Question, asks}
 use Rattle.question_values.specs.Counts.{isProduct}
 use Rattle.question_grids.specs.Tables.{isTable}
 use Rattle.question_values.specs.TpTypes.{isTpType}

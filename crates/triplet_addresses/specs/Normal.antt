@@ -6,7 +6,7 @@ use lib.IntN.{ℤ, _+ℤ_}
 use lib.Signed.{mag}
 use Rattle.list_laws.specs.Lists.{at}
 use Rattle.list_laws.specs.Signed.{isBelow, isNat}
-use Rattle.question_grids.specs.Ask.{Question, asks}
+use Rattle.ask.specs.Ask.{Question, asks}
 use Rattle.question_grids.specs.Grids.{areTriples, triplesIn}
 use Rattle.triplet_addresses.specs.declared.IsNAnswer.{IsNAnswer}
 use Rattle.triplet_addresses.specs.declared.IsNAnswer.the-variants.{Normal, Refused}

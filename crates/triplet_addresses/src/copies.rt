@@ -6,7 +6,7 @@ ghost use lib.IntN.{negℤ};
 ghost use lib.ListN.{length};
 ghost use Rattle.list_laws.specs.Lists.{at};
 ghost use Rattle.list_laws.specs.Signed.{within};
-ghost use Rattle.question_grids.specs.Ask.{firstNo};
+ghost use Rattle.ask.specs.Ask.{firstNo};
 ghost use Rattle.question_grids.specs.Grids.{areTriples};
 ghost use Rattle.triplet_addresses.specs.Copies.{isNegated, stepOf, copyOf, copiesOf, copyQuestions};
 

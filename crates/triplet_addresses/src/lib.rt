@@ -1,7 +1,7 @@
 // Addresses of triplets: whether they add to zero, and both copies of the neighbour table.
 ghost use mathlib.Core.Path.{_≡_};
 ghost use lib.ListN.{length};
-ghost use Rattle.question_grids.specs.Ask.{firstNo, afterCall};
+ghost use Rattle.ask.specs.Ask.{firstNo, afterCall};
 ghost use Rattle.triplet_addresses.specs.Normal.{isNQuestions, isNAnswer, isNormal};
 ghost use Rattle.triplet_addresses.specs.Copies.{copyQuestions, copyAnswer, bothCopies};
 

@@ -5,8 +5,8 @@ use mathlib.Core.List.{[], _∷_}
 use Prim.Native.Nat.{ℕ, zero, suc, _/_}
 use native.Mathlib.Omega.{arith}
 use lib.ListN.{length}
-use Rattle.question_grids.specs.Ask.{asks, firstNo}
-use Rattle.question_grids.proofs.AskLaws.{group-no, group-yes}
+use Rattle.ask.specs.Ask.{asks, firstNo}
+use Rattle.ask.proofs.AskLaws.{group-no, group-yes}
 use Rattle.bzgrid.specs.declared.BzGrid.{BzGrid}
 use Rattle.bzgrid.specs.Neighbours.{gridOf}
 use Rattle.triplet_channels.specs.declared.TpType.{TpType}

@@ -6,7 +6,7 @@ use denote.Ref.{now}
 use lib.Ieee.{Float}
 use lib.IntN.{ℤ}
 use lib.ListN.{length}
-use Rattle.question_grids.specs.Ask.{Question, asks, firstNo, afterCall}
+use Rattle.ask.specs.Ask.{Question, asks, firstNo, afterCall}
 use Rattle.triplet_piece.specs.Study.{sizesOf}
 use Rattle.triplet_study.specs.Given.{Given, givenQuestions, studyOf, areLengths}
 use Rattle.triplet_study.specs.Lent.{Lent}

@@ -8,7 +8,7 @@ use lib.Dec.{eqb}
 use lib.ListN.{length}
 use lib.Signed.{mag}
 use Rattle.list_laws.proofs.BoolLaws.{and-left, and-right}
-use Rattle.question_grids.specs.Ask.{firstNo, Numbered}
+use Rattle.ask.specs.Ask.{firstNo, Numbered}
 use Rattle.question_grids.specs.Grids.{triplesIn}
 use Rattle.questions.proofs.StudyLaws.{SoundStudy, study-numbered, grid-yes, sound-study}
 use Rattle.bzgrid.specs.Neighbours.{gridOf, SoundGrid}

@@ -6,7 +6,7 @@ use lib.Dec.{eqb}
 use lib.IntN.{ℤ}
 use lib.Ieee.{Float}
 use lib.Signed.{mag}
-use Rattle.question_grids.specs.Ask.{Question}
+use Rattle.ask.specs.Ask.{Question}
 use Rattle.questions.specs.Studies.{studyQuestions}
 use Rattle.bzgrid.specs.Neighbours.{gridOf}
 use Rattle.triplet_channels.specs.Types.{tpTypeOf, channelCount}

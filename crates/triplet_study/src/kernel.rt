@@ -2,7 +2,7 @@
 ghost use mathlib.Core.Path.{_≡_};
 ghost use Prim.Native.Nat.{_≤_};
 ghost use lib.Signed.{mag};
-ghost use Rattle.question_grids.specs.Ask.{firstNo};
+ghost use Rattle.ask.specs.Ask.{firstNo};
 ghost use Rattle.triplet_study.specs.Given.{givenQuestions, sizesBy, areLengths, FewSizes};
 ghost use Rattle.triplet_study.specs.Lent.{studyIn};
 use crate::Shape;

@@ -6,7 +6,7 @@ use lib.Signed.{mag}
 use mir.Syntax.{w64}
 use mir.ValLaws.{toZ-ofZ}
 use Rattle.question_values.specs.TpTypes.{channelsOf}
-use Rattle.question_grids.proofs.AskLaws.{after-done, after-refused}
+use Rattle.ask.proofs.AskLaws.{after-done, after-refused}
 use Rattle.averaging.specs.Answers.{averagingNo}
 use Rattle.averaging_blocks.specs.Weights.{averagedPoints}
 use Rattle.averaging_blocks.specs.Flags.{averagedFlagPoints}

@@ -10,7 +10,7 @@ use mir.Syntax.{w64}
 use mir.ValLaws.{toZ-ofZ}
 use Rattle.list_laws.specs.Signed.{isBetween}
 use Rattle.list_laws.proofs.BoolLaws.{yes-of, no-of}
-use Rattle.question_grids.specs.Ask.{firstNo}
+use Rattle.ask.specs.Ask.{firstNo}
 use Rattle.question_values.specs.Averages.{areDegenerateIds}
 use Rattle.question_values.specs.Counts.{isBandCount}
 use Rattle.question_values.specs.TpTypes.{isTpType, channelsOf}

@@ -11,9 +11,9 @@ use Rattle.bzgrid.proofs.CallLaws.{filled-is, grid-numbered, refused-is
 use Rattle.bzgrid.specs.Calls.{stepQuestions}
 use Rattle.list_laws.proofs.SignedLaws.{below-lt}
 use Rattle.list_laws.specs.Lists.{at}
-use Rattle.question_grids.proofs.AskLaws.{after-done, all-yes, group-no, group-yes, kept}
+use Rattle.ask.proofs.AskLaws.{after-done, all-yes, group-no, group-yes, kept}
 use Rattle.question_grids.proofs.StepLaws.{steps-triples}
-use Rattle.question_grids.specs.Ask.{AllYes, Question, firstNo}
+use Rattle.ask.specs.Ask.{AllYes, Question, firstNo}
 use Rattle.question_grids.specs.Grids.{gridQuestions, triplesIn}
 use Rattle.bzgrid.proofs.fill_neighboring_grid_points.Statement.{statement}
 use Rattle.bzgrid.proofs.fill_neighboring_grid_points.Tie as tie

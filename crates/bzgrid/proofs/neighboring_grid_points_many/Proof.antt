@@ -9,9 +9,9 @@ use native.Mathlib.Omega.{arith}
 use Rattle.bzgrid.proofs.CallLaws.{filled-is, grid-numbered, refused-is, sound-grid}
 use Rattle.bzgrid.specs.Calls.{stepsQuestions}
 use Rattle.list_laws.specs.Lists.{at}
-use Rattle.question_grids.proofs.AskLaws.{after-done, all-yes, group-no, group-yes, kept}
+use Rattle.ask.proofs.AskLaws.{after-done, all-yes, group-no, group-yes, kept}
 use Rattle.question_grids.proofs.StepLaws.{product-yes, steps-triples}
-use Rattle.question_grids.specs.Ask.{AllYes, Question, firstNo}
+use Rattle.ask.specs.Ask.{AllYes, Question, firstNo}
 use Rattle.question_grids.specs.Grids.{gridQuestions, triplesIn}
 use Rattle.bzgrid.proofs.neighboring_grid_points_many.Statement.{statement}
 use Rattle.bzgrid.proofs.neighboring_grid_points_many.Tie as tie

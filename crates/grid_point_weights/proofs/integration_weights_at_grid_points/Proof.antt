@@ -11,9 +11,9 @@ use Rattle.bzgrid.proofs.CallLaws.{grid-numbered}
 use Rattle.grid_point_weights.proofs.CallLaws.{filled-is, refused-is, sound-study, weights-numbered}
 use Rattle.grid_point_weights.specs.Calls.{weightsQuestions}
 use Rattle.list_laws.specs.Lists.{at}
-use Rattle.question_grids.proofs.AskLaws.{after-done, all-yes, group-no, group-yes, kept}
+use Rattle.ask.proofs.AskLaws.{after-done, all-yes, group-no, group-yes, kept}
 use Rattle.question_grids.proofs.StepLaws.{product-yes}
-use Rattle.question_grids.specs.Ask.{AllYes, Question, firstNo}
+use Rattle.ask.specs.Ask.{AllYes, Question, firstNo}
 use Rattle.question_grids.specs.Grids.{gridQuestions, triplesIn}
 use Rattle.grid_point_weights.proofs.integration_weights_at_grid_points.Statement.{statement}
 use Rattle.grid_point_weights.proofs.integration_weights_at_grid_points.Tie as tie

@@ -2,7 +2,7 @@
 ghost use mathlib.Core.Path.{_≡_};
 ghost use Prim.Native.Nat.{_<_};
 ghost use lib.ListN.{length};
-ghost use Rattle.question_grids.specs.Ask.{firstNo};
+ghost use Rattle.ask.specs.Ask.{firstNo};
 ghost use Rattle.questions.specs.Studies.{areStudyCounts, areTriplets, holdFrequencies, tripletQuestions, studyQuestions};
 use common::kernel::magnitude;
 use question_grids::kernel::grid;

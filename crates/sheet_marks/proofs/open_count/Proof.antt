@@ -11,8 +11,8 @@ use native.Mathlib.Omega.{arith}
 use Rattle.list_laws.proofs.ProductLaws.{row-room}
 use Rattle.list_laws.proofs.SignedLaws.{below-lt}
 use Rattle.list_laws.specs.Lists.{at}
-use Rattle.question_grids.proofs.AskLaws.{all-yes}
-use Rattle.question_grids.specs.Ask.{AllYes, firstNo}
+use Rattle.ask.proofs.AskLaws.{all-yes}
+use Rattle.ask.specs.Ask.{AllYes, firstNo}
 use Rattle.sheet_marks.proofs.CountLaws.{all-cells-le, open-refused}
 use Rattle.sheet_marks.specs.OpenCount.{cellsOf, cellsPerTriplet, openQuestions}
 use Rattle.sheet_marks.specs.declared.OpenAnswer.the-variants.{Open}

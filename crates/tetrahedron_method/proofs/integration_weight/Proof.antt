@@ -1,6 +1,6 @@
 -- `tetrahedron_method::integration_weight` meets its contract. Assumes nothing.
 use Rattle.question_values.proofs.RowsLaws.{rows-in}
-use Rattle.question_grids.specs.Ask.{firstNo}
+use Rattle.ask.specs.Ask.{firstNo}
 use Rattle.list_laws.proofs.BoolLaws.{yes-of, no-of}
 use mathlib.Core.Path.{_≡_}
 use lib.ListN.{length}

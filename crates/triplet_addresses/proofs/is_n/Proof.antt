@@ -1,7 +1,7 @@
 -- `triplet_addresses::is_n` meets its contract. Assumes nothing.
 use borrow.Author.Needs.{needs}
 use Rattle.list_laws.proofs.BoolLaws.{no-of, yes-of}
-use Rattle.question_grids.specs.Ask.{firstNo}
+use Rattle.ask.specs.Ask.{firstNo}
 use Rattle.triplet_addresses.proofs.is_n.Statement.{statement}
 use Rattle.triplet_addresses.proofs.is_n.Tie as tie
 

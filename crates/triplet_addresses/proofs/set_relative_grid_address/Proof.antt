@@ -7,10 +7,10 @@ use mir.Syntax.{w64}
 use mir.ValLaws.{toZ-ofZ}
 use native.Mathlib.Omega.{arith}
 use Rattle.list_laws.specs.Lists.{at}
-use Rattle.question_grids.proofs.AskLaws.{after-done, all-yes, kept}
+use Rattle.ask.proofs.AskLaws.{after-done, all-yes, kept}
 use Rattle.question_grids.proofs.StepLaws.{product-yes}
 use Rattle.question_grids.proofs.TableLaws.{table-triples}
-use Rattle.question_grids.specs.Ask.{AllYes, Question, firstNo}
+use Rattle.ask.specs.Ask.{AllYes, Question, firstNo}
 use Rattle.triplet_addresses.proofs.CopyLaws.{filled-is, refused-is}
 use Rattle.triplet_addresses.specs.Copies.{copyQuestions}
 use Rattle.triplet_addresses.proofs.set_relative_grid_address.Statement.{statement}

@@ -4,7 +4,7 @@ use lib.ListN.{length}
 use mathlib.Core.Path.{_∙_, ap, sym}
 use native.Mathlib.Omega.{arith}
 use Rattle.answer_weights.proofs.ListedLaws.{all-filled, listable, listed, wrote-as}
-use Rattle.question_grids.proofs.AskLaws.{after-done}
+use Rattle.ask.proofs.AskLaws.{after-done}
 use Rattle.triplet_study.specs.Given.{Given, given}
 use Rattle.answer_weights.proofs.kernel.put_weights.Statement.{statement}
 use Rattle.answer_weights.proofs.kernel.put_weights.Tie as tie

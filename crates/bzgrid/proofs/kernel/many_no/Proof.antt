@@ -3,7 +3,7 @@ use borrow.Author.Needs.{needs}
 use native.Mathlib.Omega.{arith}
 use Rattle.list_laws.proofs.BoolLaws.{no-of, yes-of}
 use Rattle.question_grids.proofs.StepLaws.{steps-some}
-use Rattle.question_grids.specs.Ask.{firstNo}
+use Rattle.ask.specs.Ask.{firstNo}
 use Rattle.bzgrid.proofs.kernel.many_no.Statement.{statement}
 use Rattle.bzgrid.proofs.kernel.many_no.Tie as tie
 

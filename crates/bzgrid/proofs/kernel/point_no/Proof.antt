@@ -5,7 +5,7 @@ use mir.Syntax.{w64}
 use mir.ValLaws.{toZ-ofZ}
 use Rattle.list_laws.proofs.BoolLaws.{no-of, yes-of}
 use Rattle.list_laws.specs.Lists.{at}
-use Rattle.question_grids.specs.Ask.{firstNo}
+use Rattle.ask.specs.Ask.{firstNo}
 use Rattle.bzgrid.proofs.kernel.point_no.Statement.{statement}
 use Rattle.bzgrid.proofs.kernel.point_no.Tie as tie
 

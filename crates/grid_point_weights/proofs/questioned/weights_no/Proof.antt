@@ -8,7 +8,7 @@ use native.Mathlib.Omega.{arith}
 use Rattle.grid_point_weights.proofs.CallLaws.{bands-some, size-few, size-some}
 use Rattle.list_laws.proofs.BoolLaws.{no-of, yes-of}
 use Rattle.list_laws.specs.Lists.{at}
-use Rattle.question_grids.specs.Ask.{firstNo}
+use Rattle.ask.specs.Ask.{firstNo}
 use Rattle.grid_point_weights.proofs.questioned.weights_no.Statement.{statement}
 use Rattle.grid_point_weights.proofs.questioned.weights_no.Tie as tie
 

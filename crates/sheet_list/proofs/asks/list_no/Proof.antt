@@ -1,4 +1,4 @@
-use Rattle.question_grids.specs.Ask.{firstNo}
+use Rattle.ask.specs.Ask.{firstNo}
 use Rattle.list_laws.proofs.BoolLaws.{no-of, yes-of}
 use Rattle.sheet_list.specs.Play.{areListLengths, listNo}
 use mathlib.Core.Path.{_≡_, refl}

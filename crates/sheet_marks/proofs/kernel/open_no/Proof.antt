@@ -7,7 +7,7 @@ use native.Mathlib.Omega.{arith}
 use Rattle.list_laws.proofs.BoolLaws.{no-of, yes-of}
 use Rattle.list_laws.proofs.SignedLaws.{back}
 use Rattle.list_laws.specs.Lists.{at}
-use Rattle.question_grids.specs.Ask.{firstNo}
+use Rattle.ask.specs.Ask.{firstNo}
 use Rattle.sheet_marks.proofs.CountLaws.{all-cells-le}
 use Rattle.sheet_marks.proofs.kernel.open_no.Statement.{statement}
 use Rattle.sheet_marks.proofs.kernel.open_no.Tie as tie

@@ -5,7 +5,7 @@ use lib.ListN.{length}
 use mathlib.Core.Path.{_∙_, ap, sym}
 use Rattle.list_laws.proofs.BoolLaws.{no-of, yes-of}
 use Rattle.list_laws.proofs.SignedLaws.{back}
-use Rattle.question_grids.proofs.AskLaws.{after-done, kept}
+use Rattle.ask.proofs.AskLaws.{after-done, kept}
 use Rattle.triplet_iw.proofs.CallLaws.{all-yes-12, counts-few, filled-is, length-some, refused-before, refused-is, refused-length, study-made, study-ready}
 use Rattle.triplet_iw.specs.Whole.{allFlags, allWeights}
 use Rattle.triplet_study.proofs.GivenLaws.{few-counts}

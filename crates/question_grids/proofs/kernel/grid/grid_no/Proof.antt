@@ -9,7 +9,7 @@ use Rattle.common.specs.Mesh.{countOf}
 use Rattle.list_laws.proofs.BoolLaws.{no-of, yes-of}
 use Rattle.list_laws.specs.Lists.{at}
 use Rattle.question_grids.proofs.GridLaws.{mesh-within}
-use Rattle.question_grids.specs.Ask.{firstNo}
+use Rattle.ask.specs.Ask.{firstNo}
 use Rattle.question_grids.proofs.kernel.grid.grid_no.Statement.{statement}
 use Rattle.question_grids.proofs.kernel.grid.grid_no.Tie as tie
 

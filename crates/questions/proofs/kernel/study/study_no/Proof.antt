@@ -6,8 +6,8 @@ use mir.Syntax.{w64}
 use mir.ValLaws.{toZ-ofZ}
 use native.Mathlib.Omega.{arith}
 use Rattle.list_laws.specs.Lists.{at}
-use Rattle.question_grids.proofs.AskLaws.{group-no, group-yes}
-use Rattle.question_grids.specs.Ask.{Question, firstNo}
+use Rattle.ask.proofs.AskLaws.{group-no, group-yes}
+use Rattle.ask.specs.Ask.{Question, firstNo}
 use Rattle.question_grids.specs.Grids.{gridQuestions, triplesIn}
 use Rattle.questions.specs.Studies.{tripletQuestions}
 use Rattle.questions.proofs.kernel.study.study_no.Statement.{statement}

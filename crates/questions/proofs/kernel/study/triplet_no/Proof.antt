@@ -10,7 +10,7 @@ use native.Mathlib.Omega.{arith}
 use Rattle.list_laws.proofs.BoolLaws.{no-of, yes-of}
 use Rattle.list_laws.specs.Lists.{at}
 use Rattle.questions.proofs.StudyLaws.{counts-say}
-use Rattle.question_grids.specs.Ask.{firstNo}
+use Rattle.ask.specs.Ask.{firstNo}
 use Rattle.questions.specs.Studies.{areStudyFrequencies, tripletsIn}
 use Rattle.questions.proofs.kernel.study.triplet_no.Statement.{statement}
 use Rattle.questions.proofs.kernel.study.triplet_no.Tie as tie

@@ -1,8 +1,8 @@
 -- `sheet_step::kernel::asks::common_no` meets its contract. Assumes nothing.
 use borrow.Author.Needs.{needs}
 use mathlib.Core.Path.{_∙_, _≡_, ap, sym}
-use Rattle.question_grids.proofs.AskLaws.{group-no, group-yes}
-use Rattle.question_grids.specs.Ask.{firstNo}
+use Rattle.ask.proofs.AskLaws.{group-no, group-yes}
+use Rattle.ask.specs.Ask.{firstNo}
 use Rattle.sheet_step.proofs.CountLaws.{counted}
 use Rattle.sheet_step.specs.Steps.{countsOf, sheetQuestions}
 use Rattle.triplet_study.proofs.GivenLaws.{few-counts, given-numbered, sizes-same}

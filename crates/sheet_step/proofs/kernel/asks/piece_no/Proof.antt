@@ -11,7 +11,7 @@ use native.Mathlib.Omega.{arith}
 use Rattle.list_laws.proofs.BoolLaws.{and-left, no-of, yes-of}
 use Rattle.list_laws.proofs.SignedLaws.{below-lt}
 use Rattle.list_laws.specs.Signed.{isBelow}
-use Rattle.question_grids.specs.Ask.{firstNo}
+use Rattle.ask.specs.Ask.{firstNo}
 use Rattle.sheet_step.proofs.CountLaws.{marks-place}
 use Rattle.sheet_step.specs.Marks.{isNotAveraged}
 use Rattle.sheet_step.specs.Steps.{isPiece}

@@ -6,7 +6,7 @@ use mathlib.Core.Bool.{_&&_}
 use mathlib.Core.Path.{_≡_}
 use native.Mathlib.Omega.{arith}
 use Rattle.list_laws.proofs.BoolLaws.{no-of, yes-of}
-use Rattle.question_grids.specs.Ask.{firstNo}
+use Rattle.ask.specs.Ask.{firstNo}
 use Rattle.sheet_step.proofs.CountLaws.{few, pieces-few}
 use Rattle.sheet_step.specs.Steps.{areSheetLengths}
 use Rattle.sheet_step.proofs.kernel.asks.sheet_no.Statement.{statement}

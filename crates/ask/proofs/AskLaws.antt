@@ -4,7 +4,7 @@ use mathlib.Core.Bool.{true, false}
 use mathlib.Core.List.{List, [], _∷_, _++_}
 use Prim.Native.Nat.{ℕ, zero, suc, _<_}
 use native.Mathlib.Omega.{arith}
-use Rattle.question_grids.specs.Ask.{Question, asks, firstNo, afterCall, AllYes, Numbered}
+use Rattle.ask.specs.Ask.{Question, asks, firstNo, afterCall, AllYes, Numbered}
 
 -- ---- 0 exactly when every answer is yes
 

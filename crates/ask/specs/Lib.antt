@@ -1,0 +1,3 @@
+-- The definitions.
+pub mod Ask
+pub mod Answers
