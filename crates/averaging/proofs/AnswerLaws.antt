@@ -1,34 +1,31 @@
 -- What an averaging that no question refuses may go by, and its answer by the number of the first no. Assumes nothing.
 use mathlib.Core.Path.{_≡_, refl, sym, _∙_}
-use mathlib.Core.Bool.{true, _&&_}
+use mathlib.Core.Bool.{true}
 use mathlib.Core.List.{List}
 use Prim.Native.Nat.{ℕ, zero, suc, _*_, _≤_}
 use native.Mathlib.Nat.{mul-assoc}
 use native.Mathlib.Omega.{arith}
 use lib.Dec.{eqb}
-use lib.IntN.{ℤ}
+use lib.IntN.{ℤ, pos}
 use lib.ListN.{length}
 use lib.Signed.{mag}
 use lib.Ieee.{Float}
 use borrow.Author.Tests.{eqb-true}
-use Rattle.list_laws.specs.Signed.{isBetween}
 use Rattle.list_laws.proofs.BoolLaws.{and-left, and-right}
-use Rattle.list_laws.proofs.SignedLaws.{between-high}
 use Rattle.question_values.specs.Averages.{areDegenerateIds}
-use Rattle.question_values.specs.Counts.{isBandCount}
+use Rattle.question_values.specs.Counts.{areCounts}
 use Rattle.question_values.specs.TpTypes.{channelsOf}
 use Rattle.ask.proofs.AskLaws.{all-yes}
 use Rattle.question_values.proofs.AverageLaws.{ids-length}
-use Rattle.questions.proofs.StudyLaws.{band-high}
+use Rattle.question_values.proofs.CountLaws.{bands1-high, points-high}
 use Rattle.averaging.specs.Answers.{flagCount, averagingQuestions, averagingNo, answerOf}
 use Rattle.averaging.specs.declared.AveragingAnswer.the-variants.{Averaged, Refused}
 
 -- ---- sizes
 
 -- question 9's yes bounds both counts
-pub counts-le : (points bands : ℤ) → (isBandCount bands && isBetween 1 1024 points) ≡ true → (mag bands ≤ 64) × (mag points ≤ 1024)
-counts-le points bands e =
-    (band-high bands (and-left (isBandCount bands) (isBetween 1 1024 points) e), between-high 1 1024 points (and-right (isBandCount bands) (isBetween 1 1024 points) e))
+pub counts-le : (points bands : ℤ) → areCounts bands bands points (pos 1) ≡ true → (mag bands ≤ 64) × (mag points ≤ 1024)
+counts-le points bands e = (bands1-high bands bands points (pos 1) e, points-high bands bands points (pos 1) e)
 
 -- ---- what an accepted call goes by
 

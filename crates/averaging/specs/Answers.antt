@@ -4,14 +4,13 @@ use mathlib.Core.Bool.{_&&_}
 use mathlib.Core.List.{List, [], _∷_}
 use Prim.Native.Nat.{ℕ, zero, suc, _*_}
 use lib.Dec.{eqb}
-use lib.IntN.{ℤ}
+use lib.IntN.{ℤ, pos}
 use lib.ListN.{length}
 use lib.Signed.{mag}
 use lib.Ieee.{Float}
-use Rattle.list_laws.specs.Signed.{isBetween}
 use Rattle.ask.specs.Ask.{Question, asks, firstNo, afterCall}
 use Rattle.question_values.specs.Averages.{areDegenerateIds, areWeights}
-use Rattle.question_values.specs.Counts.{isBandCount}
+use Rattle.question_values.specs.Counts.{areCounts}
 use Rattle.question_values.specs.TpTypes.{isTpType, channelsOf}
 use Rattle.averaging_blocks.specs.Weights.{averagedPoints}
 use Rattle.averaging_blocks.specs.Flags.{averagedFlagPoints}
@@ -22,11 +21,11 @@ use Rattle.averaging.specs.declared.AveragingAnswer.the-variants.{Averag
 abbrev pub flagCount : ℤ → ℤ → ℕ
 flagCount points bands = mag points * (mag bands * mag bands)
 
--- questions 8, 9, 12, 17 and 19
+-- questions 8, 9 (of one triplet), 12, 17 and 19
 abbrev pub averagingQuestions : List Float → List ℤ → List ℤ → List ℤ → ℤ → ℤ → ℤ → List Question
 averagingQuestions iw iwz ids1 ids2 points bands type =
     asks 8 (isTpType type)
-    ∷ asks 9 (isBandCount bands && isBetween 1 1024 points)
+    ∷ asks 9 (areCounts bands bands points (pos 1))
     ∷ asks 12 (eqb (length iw) (channelsOf type * flagCount points bands) && eqb (length iwz) (flagCount points bands))
     ∷ asks 17 (areDegenerateIds (mag bands) ids1 && areDegenerateIds (mag bands) ids2)
     ∷ asks 19 (areWeights iw)

@@ -1,11 +1,10 @@
 // The part of triplet_iw.rs that averages integration weights over degenerate sets.
 ghost use mathlib.Core.Path.{_≡_};
 ghost use Rattle.averaging.specs.Answers.{averagingNo, averagingAnswer, weightsAfter, flagsAfter};
-use common::kernel::is_between;
 use common::kernel::magnitude;
 use question_values::kernel::averages::degenerate_ids_ok;
 use question_values::kernel::averages::weights_ok;
-use question_values::kernel::counts::band_count_ok;
+use question_values::kernel::counts::signed_counts_ok;
 use question_values::kernel::tp_type::channels_of;
 use question_values::kernel::tp_type::tp_type_ok;
 
@@ -31,7 +30,7 @@ fn averaging_no(
     if !tp_type_ok(tp_type) {
         return questions::BAD_TP_TYPE;
     }
-    if !(band_count_ok(num_band) & is_between(1, 1024, num_band0)) {
+    if !signed_counts_ok(num_band, num_band, num_band0, 1) {
         return questions::BAD_COUNT;
     }
     let bands = magnitude(num_band);

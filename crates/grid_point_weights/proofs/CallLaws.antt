@@ -1,21 +1,19 @@
 -- From "every answer is yes" to a sound study, and the answer by its number. Assumes nothing.
 use mathlib.Core.Path.{_≡_, refl}
-use mathlib.Core.Bool.{true, _&&_}
+use mathlib.Core.Bool.{true}
 use mathlib.Core.List.{List}
 use Prim.Native.Nat.{ℕ, zero, suc, _*_, _≤_}
 use native.Mathlib.Nat.{mul-le-mul}
 use native.Mathlib.Omega.{arith}
-use borrow.Author.Tests.{leb-true}
-use lib.Dec.{leb}
-use lib.IntN.{ℤ}
+use lib.IntN.{ℤ, pos}
 use lib.Ieee.{Float}
 use lib.ListN.{length}
 use lib.Signed.{mag}
-use Rattle.list_laws.proofs.BoolLaws.{and-left, and-right}
-use Rattle.list_laws.proofs.SignedLaws.{between-low, between-high}
+use Rattle.list_laws.proofs.BoolLaws.{and-left}
 use Rattle.ask.specs.Ask.{firstNo, AllYes, Numbered}
-use Rattle.question_values.specs.Counts.{isBandCount, isPointCount, isTripletCount}
+use Rattle.question_values.specs.Counts.{areCounts}
 use Rattle.question_values.specs.Frequencies.{arePoints}
+use Rattle.question_values.proofs.CountLaws.{bands1-low, bands1-high, points-low, points-high}
 use Rattle.question_grids.specs.Grids.{gridQuestions, triplesIn}
 use Rattle.questions.specs.Irreducible.{areIrreducible}
 use Rattle.questions.proofs.IrreducibleLaws.{frequencies-held, irreducible-length, irreducible-at}
@@ -24,39 +22,24 @@ use Rattle.bzgrid.proofs.CallLaws.{sound-grid}
 use Rattle.tetrahedron_method.specs.declared.WeightFunction.{WeightFunction}
 use Rattle.grid_point_weights.specs.declared.GridPointAnswer.the-variants.{Filled, Refused}
 use Rattle.grid_point_weights.specs.Weights.{study, Sound}
-use Rattle.grid_point_weights.specs.Calls.{areCounts, weightsQuestions, gridPointAnswer}
+use Rattle.grid_point_weights.specs.Calls.{weightsQuestions, gridPointAnswer}
 
-module _ (bands : ℤ) (points gridPoints : ℕ) (e : areCounts bands points gridPoints ≡ true) where
-  two : (isBandCount bands && isPointCount points) ≡ true
-  unfolding areCounts
-  two = and-left (isBandCount bands && isPointCount points) (isTripletCount gridPoints) e
-
-  band-count : isBandCount bands ≡ true
-  band-count = and-left (isBandCount bands) (isPointCount points) two
-
-  point-count : isPointCount points ≡ true
-  point-count = and-right (isBandCount bands) (isPointCount points) two
-
+module _ (bands : ℤ) (points gridPoints : ℕ) (e : areCounts bands bands (pos points) (pos gridPoints) ≡ true) where
   pub bands-some : 1 ≤ mag bands
-  unfolding isBandCount
-  bands-some = between-low 1 64 bands band-count
+  bands-some = bands1-low bands bands (pos points) (pos gridPoints) e
 
-  pub bands-few : mag bands ≤ 64
-  unfolding isBandCount
-  bands-few = between-high 1 64 bands band-count
+  points-some : 1 ≤ points
+  points-some = points-low bands bands (pos points) (pos gridPoints) e
 
-  pub points-some : 1 ≤ points
-  points-some = leb-true 1 points (and-left (leb 1 points) (leb points 1024) point-count)
-
-  pub points-few : points ≤ 1024
-  points-few = leb-true points 1024 (and-right (leb 1 points) (leb points 1024) point-count)
+  points-few : points ≤ 1024
+  points-few = points-high bands bands (pos points) (pos gridPoints) e
 
   -- the entries of one grid point: some, and not many
   pub size-some : 1 ≤ points * mag bands
   size-some = omega (arith, mul-le-mul points-some bands-some)
 
   pub size-few : points * mag bands ≤ 65536
-  size-few = omega (arith, mul-le-mul points-few bands-few)
+  size-few = omega (arith, mul-le-mul points-few (bands1-high bands bands (pos points) (pos gridPoints) e))
 
 pub weights-numbered : (table : List ℤ) (bands : ℤ) (points : List Float) (gridPoints : List ℤ) (p : ℕ) (r : ℤ) (frequencies : List Float) (irreducible : List ℤ) (iw : ℕ)
     → Numbered (weightsQuestions table bands points gridPoints p r frequencies irreducible iw)

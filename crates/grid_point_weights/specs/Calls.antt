@@ -1,30 +1,26 @@
 -- The questions of the weights at grid points, and their answer.
-use mathlib.Core.Bool.{Bool, _&&_}
+use mathlib.Core.Bool.{_&&_}
 use mathlib.Core.List.{List, [], _∷_, _++_}
 use Prim.Native.Nat.{ℕ, zero, suc, _*_}
-use lib.IntN.{ℤ}
+use lib.IntN.{ℤ, pos}
 use lib.Ieee.{Float}
 use lib.ListN.{length}
 use lib.Signed.{mag}
 use Rattle.ask.specs.Ask.{Question, asks}
 use Rattle.question_grids.specs.Grids.{gridQuestions, triplesIn}
 use Rattle.question_grids.specs.Tables.{isTable}
-use Rattle.question_values.specs.Counts.{isBandCount, isPointCount, isTripletCount, isProduct}
+use Rattle.question_values.specs.Counts.{areCounts, isProduct}
 use Rattle.question_grids.specs.Steps.{areGridPoints}
 use Rattle.questions.specs.Irreducible.{areIrreducible}
 use Rattle.question_values.specs.Frequencies.{arePoints}
 use Rattle.grid_point_weights.specs.declared.GridPointAnswer.{GridPointAnswer}
 use Rattle.grid_point_weights.specs.declared.GridPointAnswer.the-variants.{Filled, Refused}
 
--- Question 9: "Are band counts 1 to 64, frequency points 1 to 1,024, .. grid points at most 65,536?"
-unfoldable pub areCounts : ℤ → ℕ → ℕ → Bool
-areCounts bands points gridPoints = (isBandCount bands && isPointCount points) && isTripletCount gridPoints
-
 -- after the grid: 7 the table, 9 the counts, 10 the grid points, 11 the frequencies, the map to them and the points, 12 the buffer
 abbrev pub weightsQuestions : List ℤ → ℤ → List Float → List ℤ → ℕ → ℤ → List Float → List ℤ → ℕ → List Question
 weightsQuestions table bands points gridPoints p r frequencies irreducible iw =
     asks 7 (isTable table)
-    ∷ asks 9 (areCounts bands (length points) (length gridPoints))
+    ∷ asks 9 (areCounts bands bands (pos (length points)) (pos (length gridPoints)))
     ∷ asks 10 (areGridPoints p gridPoints)
     ∷ asks 11 (areIrreducible r (mag bands) p frequencies irreducible && arePoints points)
     ∷ asks 12 (isProduct (length gridPoints) (length points * mag bands) iw)

@@ -1,16 +1,8 @@
 // The questions after those on the grid.
 ghost use mathlib.Core.Path.{_≡_};
 ghost use Rattle.ask.specs.Ask.{firstNo};
-ghost use Rattle.grid_point_weights.specs.Calls.{areCounts, weightsQuestions};
-
-// Question 9: bands, frequency points, grid points.
-fn counts_ok(num_band: i64, points: usize, grid_points: usize) -> bool
-    ensures { λ r. ⌜ r ≡ areCounts «num_band» points «grid_points» ⌝ }
-{
-    (question_values::kernel::counts::band_count_ok(num_band)
-        & question_values::kernel::counts::point_count_ok(points))
-        & question_values::kernel::counts::triplet_count_ok(grid_points)
-}
+ghost use Rattle.grid_point_weights.specs.Calls.{weightsQuestions};
+use question_values::kernel::counts;
 
 // The number of the first question, after those on the grid, that is answered no, or 0.
 pub fn weights_no(
@@ -29,7 +21,12 @@ pub fn weights_no(
     if !question_grids::kernel::tables::table_ok(relative_grid_address) {
         return questions::BAD_TABLE;
     }
-    if !counts_ok(num_band, frequency_points.len(), grid_points.len()) {
+    if !counts::counts_ok(
+        num_band,
+        num_band,
+        frequency_points.len(),
+        grid_points.len(),
+    ) {
         return questions::BAD_COUNT;
     }
     if !question_grids::kernel::steps::grid_points_ok(p, grid_points) {
@@ -43,7 +40,7 @@ pub fn weights_no(
         return questions::BAD_FREQUENCY;
     }
     let size = frequency_points.len() * bands;
-    if !question_values::kernel::counts::length_ok(grid_points.len(), size, iw_len) {
+    if !counts::length_ok(grid_points.len(), size, iw_len) {
         return questions::BAD_LENGTH;
     }
     0

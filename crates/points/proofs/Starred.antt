@@ -16,7 +16,7 @@ use Rattle.averaging_blocks.specs.Weights.{averagedPoints}
 use Rattle.averaging_blocks.specs.Flags.{averagedFlagPoints}
 use Rattle.ask.specs.Ask.{firstNo}
 use Rattle.question_values.specs.Averages.{isDegenerateId, areDegenerateIds, isWeight, areWeights}
-use Rattle.question_values.specs.Counts.{isBandCount, isProduct}
+use Rattle.question_values.specs.Counts.{isBandCount, areCounts, isProduct}
 use Rattle.question_values.specs.Frequencies.{inRange, areInRange}
 use Rattle.question_grids.specs.Grids.{isGridKind, isMesh, areTriples, areAddresses, isMap, isDenseMap, isSparseMap}
 use Rattle.question_grids.specs.Steps.{areSteps, areGridPoints}
@@ -30,5 +30,5 @@ use Rattle.tetrahedron_sort.specs.Sort.{sortedOf, placeOf}
 use Rattle.points.specs.Points.{Every, points}
 
 pub starred : Every points
-unfolding firstNo areInRange inRange allBelow absolute weightOf sumOf rowWeight shareOf orZero branchOf iOf gOf jOf nOf isSmall P.fraction sortedOf placeOf ofBits ofInt lt eq le ne add sub mul div tableAnswer isLattice isLatticeRow isLatticeEntry mainDiagonalOf rowTimes isGridKind isMesh areTriples areAddresses isMap isDenseMap isSparseMap areSteps areGridPoints isProduct isNat isBelow isBetween within meshOf countOf gridOf kindOf neighboursOfAll neighboursOf neighbourOf wantedAddress sparseNeighbour mapOnDoubled denseNeighbour inGroup isAddress gridIndex tabulate rows firstAt isTpType channelsOf isBandCount isDegenerateId areDegenerateIds isNegativeZero isWeight areWeights averagedPoints averagedFlagPoints eachPart
+unfolding firstNo areInRange inRange allBelow absolute weightOf sumOf rowWeight shareOf orZero branchOf iOf gOf jOf nOf isSmall P.fraction sortedOf placeOf ofBits ofInt lt eq le ne add sub mul div tableAnswer isLattice isLatticeRow isLatticeEntry mainDiagonalOf rowTimes isGridKind isMesh areTriples areAddresses isMap isDenseMap isSparseMap areSteps areGridPoints isProduct isNat isBelow isBetween within meshOf countOf gridOf kindOf neighboursOfAll neighboursOf neighbourOf wantedAddress sparseNeighbour mapOnDoubled denseNeighbour inGroup isAddress gridIndex tabulate rows firstAt isTpType channelsOf isBandCount areCounts isDegenerateId areDegenerateIds isNegativeZero isWeight areWeights averagedPoints averagedFlagPoints eachPart
 starred = (refl, (refl, (refl, (refl, (refl, (refl, (refl, (refl, (refl, (refl, (refl, (refl, (refl, (refl, (refl, ((refl, refl), ((refl, refl), ((refl, (refl, refl)), tt))))))))))))))))))

@@ -1,3 +1,4 @@
 -- The laws.
 pub mod AverageLaws
+pub mod CountLaws
 pub mod RowsLaws

@@ -1,5 +1,5 @@
 -- The open count of a triplet.
-use mathlib.Core.Bool.{Bool, _&&_}
+use mathlib.Core.Bool.{Bool}
 use mathlib.Core.List.{List, [], _∷_}
 use Prim.Native.Nat.{ℕ, zero, suc, _+_, _*_}
 use lib.Dec.{eqb}
@@ -7,17 +7,16 @@ use lib.IntN.{ℤ, pos}
 use lib.ListN.{length}
 use lib.Signed.{mag}
 use Rattle.list_laws.specs.Lists.{at, countBelow}
-use Rattle.list_laws.specs.Signed.{eqZ, isBelow, isBetween}
+use Rattle.list_laws.specs.Signed.{eqZ, isBelow}
 use Rattle.ask.specs.Ask.{Question, asks, firstNo}
-use Rattle.question_values.specs.Counts.{isBandCount}
+use Rattle.question_values.specs.Counts.{areCounts}
 use Rattle.sheet_marks.specs.declared.Counts.{Counts}
 use Rattle.sheet_marks.specs.declared.OpenAnswer.{OpenAnswer}
 use Rattle.sheet_marks.specs.declared.OpenAnswer.the-variants.{Open, Refused}
 
--- Question 9: "band counts 1 to 64, frequency points 1 to 1,024, triplets .. at most 65,536 (0 allowed)"
-unfoldable pub areCounts : Counts → Bool
-areCounts c =
-    ((isBandCount (c .«num_band1») && isBandCount (c .«num_band2»)) && isBetween 1 1024 (c .«num_band0»)) && isBetween 0 65536 (c .«num_triplets»)
+-- Question 9, of the counts of a sheet
+abbrev pub areSheetCounts : Counts → Bool
+areSheetCounts c = areCounts (c .«num_band1») (c .«num_band2») (c .«num_band0») (c .«num_triplets»)
 
 -- how many flags a triplet has: one for each point, b1, b2
 unfoldable pub cellsPerTriplet : Counts → ℕ
@@ -30,7 +29,7 @@ cellsOf c = mag (c .«num_triplets») * cellsPerTriplet c
 -- 9 the counts, 12 the flags' length, 14 the triplet
 abbrev pub openQuestions : Counts → ℕ → ℤ → List Question
 openQuestions c flags triplet =
-    asks 9 (areCounts c) ∷ asks 12 (eqb flags (cellsOf c)) ∷ asks 14 (isBelow triplet (mag (c .«num_triplets»))) ∷ []
+    asks 9 (areSheetCounts c) ∷ asks 12 (eqb flags (cellsOf c)) ∷ asks 14 (isBelow triplet (mag (c .«num_triplets»))) ∷ []
 
 -- flag k is 0
 abbrev pub isZeroAt : List ℤ → ℕ → Bool

@@ -5,7 +5,7 @@ ghost use Prim.Native.Nat.{_+_, _*_, _≤_, _<_};
 ghost use lib.ListN.{length};
 ghost use Rattle.list_laws.specs.Lists.{oneIf};
 ghost use Rattle.ask.specs.Ask.{firstNo};
-ghost use Rattle.sheet_marks.specs.OpenCount.{areCounts, cellsPerTriplet, openQuestions, isZeroAt, zerosFrom};
+ghost use Rattle.sheet_marks.specs.OpenCount.{areSheetCounts, cellsPerTriplet, openQuestions, isZeroAt, zerosFrom};
 ghost use Rattle.sheet_marks.specs.Tallies.{refusedWith};
 use crate::Counts;
 use crate::SheetAnswer;
@@ -27,17 +27,19 @@ pub fn refused(number: u64, tally: Tally) -> SheetAnswer
 
 // Question 9, of all four counts.
 fn counts_ok(counts: Counts) -> bool
-    ensures { λ r. ⌜ r ≡ areCounts counts ⌝ }
+    ensures { λ r. ⌜ r ≡ areSheetCounts counts ⌝ }
 {
-    common::kernel::is_between(1, 64, counts.num_band1)
-        & common::kernel::is_between(1, 64, counts.num_band2)
-        & common::kernel::is_between(1, 1024, counts.num_band0)
-        & common::kernel::is_between(0, 65536, counts.num_triplets)
+    question_values::kernel::counts::signed_counts_ok(
+        counts.num_band1,
+        counts.num_band2,
+        counts.num_band0,
+        counts.num_triplets,
+    )
 }
 
 // How many flags one triplet has.
 pub fn cells_of(counts: Counts) -> usize
-    requires { ⌜ areCounts counts ≡ true ⌝ }
+    requires { ⌜ areSheetCounts counts ≡ true ⌝ }
     ensures { λ r. ⌜ (r ≡ cellsPerTriplet counts) × (r ≤ 4194304) ⌝ }
 {
     let points = common::kernel::magnitude(counts.num_band0);

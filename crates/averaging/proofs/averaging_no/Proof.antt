@@ -4,15 +4,15 @@ use mathlib.Core.Bool.{true, _&&_}
 use Prim.Native.Nat.{ℕ, _*_, _≤_}
 use native.Mathlib.Omega.{arith}
 use lib.Dec.{eqb}
+use lib.IntN.{pos}
 use lib.ListN.{length}
 use lib.Signed.{mag}
 use mir.Syntax.{w64}
 use mir.ValLaws.{toZ-ofZ}
-use Rattle.list_laws.specs.Signed.{isBetween}
 use Rattle.list_laws.proofs.BoolLaws.{yes-of, no-of}
 use Rattle.ask.specs.Ask.{firstNo}
 use Rattle.question_values.specs.Averages.{areDegenerateIds}
-use Rattle.question_values.specs.Counts.{isBandCount}
+use Rattle.question_values.specs.Counts.{areCounts}
 use Rattle.question_values.specs.TpTypes.{isTpType, channelsOf}
 use Rattle.averaging.specs.Answers.{flagCount}
 use Rattle.averaging_blocks.proofs.SizeLaws.{square-le, flags-le, weights-le}
@@ -30,28 +30,27 @@ told-8 c = c .tp-type-ok .ensures ∙ ap isTpType (toZ-ofZ w64 (c .before .befor
 yes-8 : (c : tie.Else1) → isTpType (c .before .before .before .args .tp-type) ≡ true
 yes-8 c = yes-of (told-8 (c .before)) (c .if1 .left)
 
-told-9 : (c : tie.After-is-between) → let args = c .before .before .before .before .before .args in
-    (c .before .band-count-ok .result && c .is-between .result) ≡ (isBandCount (args .num-band) && isBetween 1 1024 (args .num-band0))
+told-9 : (c : tie.After-signed-counts-ok) → let args = c .before .before .before .before .args in
+    c .signed-counts-ok .result ≡ areCounts (args .num-band) (args .num-band) (args .num-band0) (pos 1)
 told-9 c =
-    let start = c .before .before .before .before .before in
-    let bands = c .before .band-count-ok .ensures ∙ ap isBandCount (toZ-ofZ w64 (start .args .num-band) (start .fits .num-band)) in
-    let points = c .is-between .ensures ∙ ap (isBetween 1 1024) (toZ-ofZ w64 (start .args .num-band0) (start .fits .num-band0)) in
-    rw (bands, points)
+    let start = c .before .before .before .before in
+    let bands = toZ-ofZ w64 (start .args .num-band) (start .fits .num-band) in
+    c .signed-counts-ok .ensures ∙ (λ i. areCounts (bands i) (bands i) (toZ-ofZ w64 (start .args .num-band0) (start .fits .num-band0) i) (pos 1))
 
-yes-9 : (c : tie.Else2) → let args = c .before .before .before .before .before .before .args in (isBandCount (args .num-band) && isBetween 1 1024 (args .num-band0)) ≡ true
+yes-9 : (c : tie.Else2) → let args = c .before .before .before .before .before .args in areCounts (args .num-band) (args .num-band) (args .num-band0) (pos 1) ≡ true
 yes-9 c = yes-of (told-9 (c .before)) (c .if2 .left)
 
-few : (c : tie.Else2) → let args = c .before .before .before .before .before .before .args in (mag (args .num-band) ≤ 64) × (mag (args .num-band0) ≤ 1024)
-few c = counts-le (c .before .before .before .before .before .before .args .num-band0) (c .before .before .before .before .before .before .args .num-band) (yes-9 c)
+few : (c : tie.Else2) → let args = c .before .before .before .before .before .args in (mag (args .num-band) ≤ 64) × (mag (args .num-band0) ≤ 1024)
+few c = counts-le (c .before .before .before .before .before .args .num-band0) (c .before .before .before .before .before .args .num-band) (yes-9 c)
 
-bands-are : (c : tie.After-magnitude) → c .magnitude .result ≡ mag (c .before .before .before .before .before .before .before .args .num-band)
-bands-are c = c .magnitude .ensures ∙ ap mag (toZ-ofZ w64 (c .before .before .before .before .before .before .before .args .num-band) (c .before .before .before .before .before .before .before .fits .num-band))
+bands-are : (c : tie.After-magnitude) → c .magnitude .result ≡ mag (c .before .before .before .before .before .before .args .num-band)
+bands-are c = c .magnitude .ensures ∙ ap mag (toZ-ofZ w64 (c .before .before .before .before .before .before .args .num-band) (c .before .before .before .before .before .before .fits .num-band))
 
-points-are : (c : tie.After-magnitude2) → c .magnitude2 .result ≡ mag (c .before .before .before .before .before .before .before .before .args .num-band0)
-points-are c = c .magnitude2 .ensures ∙ ap mag (toZ-ofZ w64 (c .before .before .before .before .before .before .before .before .args .num-band0) (c .before .before .before .before .before .before .before .before .fits .num-band0))
+points-are : (c : tie.After-magnitude2) → c .magnitude2 .result ≡ mag (c .before .before .before .before .before .before .before .args .num-band0)
+points-are c = c .magnitude2 .ensures ∙ ap mag (toZ-ofZ w64 (c .before .before .before .before .before .before .before .args .num-band0) (c .before .before .before .before .before .before .before .fits .num-band0))
 
-channels-are : (c : tie.After-channels-of) → c .channels-of .result ≡ channelsOf (c .before .before .before .before .before .before .before .before .before .args .tp-type)
-channels-are c = c .channels-of .ensures ∙ ap channelsOf (toZ-ofZ w64 (c .before .before .before .before .before .before .before .before .before .args .tp-type) (c .before .before .before .before .before .before .before .before .before .fits .tp-type))
+channels-are : (c : tie.After-channels-of) → c .channels-of .result ≡ channelsOf (c .before .before .before .before .before .before .before .before .args .tp-type)
+channels-are c = c .channels-of .ensures ∙ ap channelsOf (toZ-ofZ w64 (c .before .before .before .before .before .before .before .before .args .tp-type) (c .before .before .before .before .before .before .before .before .fits .tp-type))
 
 few-bands : (c : tie.After-magnitude) → c .magnitude .result ≤ 64
 few-bands c = omega (arith, bands-are c, few (c .before))
@@ -60,31 +59,31 @@ few-points : (c : tie.After-magnitude2) → c .magnitude2 .result ≤ 1024
 few-points c = omega (arith, points-are c, few (c .before .before))
 
 few-channels : (c : tie.After-channels-of) → c .channels-of .result ≤ 3
-few-channels c = omega (arith, channels-are c, channels-le (c .before .before .before .before .before .before .before .before .before .args .tp-type))
+few-channels c = omega (arith, channels-are c, channels-le (c .before .before .before .before .before .before .before .before .args .tp-type))
 
-told-12 : (c : tie.After-channels-of) → let args = c .before .before .before .before .before .before .before .before .before .args in
+told-12 : (c : tie.After-channels-of) → let args = c .before .before .before .before .before .before .before .before .args in
     let size = c .before .magnitude2 .result * (c .before .before .magnitude .result * c .before .before .magnitude .result) in
     (eqb (length (args .iw .now)) (c .channels-of .result * size) && eqb (length (args .iw-zero .now)) size)
     ≡ (eqb (length (args .iw .now)) (channelsOf (args .tp-type) * flagCount (args .num-band0) (args .num-band))
     && eqb (length (args .iw-zero .now)) (flagCount (args .num-band0) (args .num-band)))
 told-12 c = rw (channels-are c, points-are (c .before), bands-are (c .before .before))
 
-yes-12 : (c : tie.Else3) → let args = c .before .before .before .before .before .before .before .before .before .before .args in
+yes-12 : (c : tie.Else3) → let args = c .before .before .before .before .before .before .before .before .before .args in
     (eqb (length (args .iw .now)) (channelsOf (args .tp-type) * flagCount (args .num-band0) (args .num-band))
     && eqb (length (args .iw-zero .now)) (flagCount (args .num-band0) (args .num-band))) ≡ true
 yes-12 c = yes-of (told-12 (c .before)) (c .if3 .left)
 
-told-17 : (c : tie.After-degenerate-ids-ok2) → let args = c .before .before .before .before .before .before .before .before .before .before .before .before .args in
+told-17 : (c : tie.After-degenerate-ids-ok2) → let args = c .before .before .before .before .before .before .before .before .before .before .before .args in
     (c .before .degenerate-ids-ok .result && c .degenerate-ids-ok2 .result)
     ≡ (areDegenerateIds (mag (args .num-band)) (args .degenerate-ids1 .now) && areDegenerateIds (mag (args .num-band)) (args .degenerate-ids2 .now))
 told-17 c =
-    let args = c .before .before .before .before .before .before .before .before .before .before .before .before .args in
+    let args = c .before .before .before .before .before .before .before .before .before .before .before .args in
     let same = bands-are (c .before .before .before .before .before) in
     let first = c .before .degenerate-ids-ok .ensures ∙ ap (λ (n : ℕ). areDegenerateIds n (args .degenerate-ids1 .now)) same in
     let second = c .degenerate-ids-ok2 .ensures ∙ ap (λ (n : ℕ). areDegenerateIds n (args .degenerate-ids2 .now)) same in
     rw (first, second)
 
-yes-17 : (c : tie.Else4) → let args = c .before .before .before .before .before .before .before .before .before .before .before .before .before .args in
+yes-17 : (c : tie.Else4) → let args = c .before .before .before .before .before .before .before .before .before .before .before .before .args in
     (areDegenerateIds (mag (args .num-band)) (args .degenerate-ids1 .now) && areDegenerateIds (mag (args .num-band)) (args .degenerate-ids2 .now)) ≡ true
 yes-17 c = yes-of (told-17 (c .before)) (c .if4 .left)
 
@@ -97,15 +96,12 @@ returns : tie.Need-returns
 unfolding firstNo
 returns c = rw (no-of (told-8 (c .before)) (c .if1 .taken))
 
-band-count-ok-requires : tie.Need-band-count-ok-requires
-band-count-ok-requires c κs = search needs
-
-is-between-requires : tie.Need-is-between-requires
-is-between-requires c κs = search needs
+signed-counts-ok-requires : tie.Need-signed-counts-ok-requires
+signed-counts-ok-requires c κs = search needs
 
 returns-2 : tie.Need-returns-2
 unfolding firstNo
-returns-2 c = rw (yes-8 (c .before .before .before), no-of (told-9 (c .before)) (c .if2 .taken))
+returns-2 c = rw (yes-8 (c .before .before), no-of (told-9 (c .before)) (c .if2 .taken))
 
 magnitude-requires : tie.Need-magnitude-requires
 magnitude-requires c κs = search needs
@@ -127,7 +123,7 @@ mul-all c = omega (arith, weights-le (few-channels c) (few-points (c .before)) (
 
 returns-3 : tie.Need-returns-3
 unfolding firstNo
-returns-3 c = rw (yes-8 (c .before .before .before .before .before .before .before), yes-9 (c .before .before .before .before), no-of (told-12 (c .before)) (c .if3 .taken))
+returns-3 c = rw (yes-8 (c .before .before .before .before .before .before), yes-9 (c .before .before .before .before), no-of (told-12 (c .before)) (c .if3 .taken))
 
 degenerate-ids-ok-requires : tie.Need-degenerate-ids-ok-requires
 degenerate-ids-ok-requires c κs = search needs
@@ -137,18 +133,18 @@ degenerate-ids-ok-requires-2 c κs = search needs
 
 returns-4 : tie.Need-returns-4
 unfolding firstNo
-returns-4 c = rw (yes-8 (c .before .before .before .before .before .before .before .before .before .before), yes-9 (c .before .before .before .before .before .before .before), yes-12 (c .before .before .before), no-of (told-17 (c .before)) (c .if4 .taken))
+returns-4 c = rw (yes-8 (c .before .before .before .before .before .before .before .before .before), yes-9 (c .before .before .before .before .before .before .before), yes-12 (c .before .before .before), no-of (told-17 (c .before)) (c .if4 .taken))
 
 weights-ok-requires : tie.Need-weights-ok-requires
 weights-ok-requires c κs = search needs
 
 returns-5 : tie.Need-returns-5
 unfolding firstNo
-returns-5 c = rw (yes-8 (c .before .before .before .before .before .before .before .before .before .before .before .before), yes-9 (c .before .before .before .before .before .before .before .before .before), yes-12 (c .before .before .before .before .before), yes-17 (c .before .before), no-of (c .before .weights-ok .ensures) (c .if5 .taken))
+returns-5 c = rw (yes-8 (c .before .before .before .before .before .before .before .before .before .before .before), yes-9 (c .before .before .before .before .before .before .before .before .before), yes-12 (c .before .before .before .before .before), yes-17 (c .before .before), no-of (c .before .weights-ok .ensures) (c .if5 .taken))
 
 returns-6 : tie.Need-returns-6
 unfolding firstNo
-returns-6 c = rw (yes-8 (c .before .before .before .before .before .before .before .before .before .before .before .before), yes-9 (c .before .before .before .before .before .before .before .before .before), yes-12 (c .before .before .before .before .before), yes-17 (c .before .before), yes-of (c .before .weights-ok .ensures) (c .if5 .left))
+returns-6 c = rw (yes-8 (c .before .before .before .before .before .before .before .before .before .before .before), yes-9 (c .before .before .before .before .before .before .before .before .before), yes-12 (c .before .before .before .before .before), yes-17 (c .before .before), yes-of (c .before .weights-ok .ensures) (c .if5 .left))
 
 pub averaging-no-spec : {M : Type 1} → statement M
 averaging-no-spec =
@@ -156,8 +152,7 @@ averaging-no-spec =
     (tie.spec
     tp-type-ok-requires
     returns
-    band-count-ok-requires
-    is-between-requires
+    signed-counts-ok-requires
     returns-2
     magnitude-requires
     magnitude-requires-2
