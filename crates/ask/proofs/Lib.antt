@@ -1,2 +1,3 @@
 -- The laws.
 pub mod AskLaws
+pub mod AnswerLaws

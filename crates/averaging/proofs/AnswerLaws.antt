@@ -1,8 +1,8 @@
--- What an averaging that no question refuses may go by, and its answer by the number of the first no. Assumes nothing.
-use mathlib.Core.Path.{_≡_, refl, sym, _∙_}
+-- What an averaging that no question refuses may go by. Assumes nothing.
+use mathlib.Core.Path.{_≡_, sym, _∙_}
 use mathlib.Core.Bool.{true}
 use mathlib.Core.List.{List}
-use Prim.Native.Nat.{ℕ, zero, suc, _*_, _≤_}
+use Prim.Native.Nat.{_*_, _≤_}
 use native.Mathlib.Nat.{mul-assoc}
 use native.Mathlib.Omega.{arith}
 use lib.Dec.{eqb}
@@ -18,8 +18,7 @@ use Rattle.question_values.specs.TpTypes.{channelsOf}
 use Rattle.ask.proofs.AskLaws.{all-yes}
 use Rattle.question_values.proofs.AverageLaws.{ids-length}
 use Rattle.question_values.proofs.CountLaws.{bands1-high, points-high}
-use Rattle.averaging.specs.Answers.{flagCount, averagingQuestions, averagingNo, answerOf}
-use Rattle.averaging.specs.declared.AveragingAnswer.the-variants.{Averaged, Refused}
+use Rattle.averaging.specs.Answers.{flagCount, averagingQuestions, averagingNo}
 
 -- ---- sizes
 
@@ -52,13 +51,3 @@ accepted iw iwz ids1 ids2 points bands type e =
       rows = ids-length (mag bands) ids1 (and-left (areDegenerateIds (mag bands) ids1) (areDegenerateIds (mag bands) ids2) ids);
       columns = ids-length (mag bands) ids2 (and-right (areDegenerateIds (mag bands) ids1) (areDegenerateIds (mag bands) ids2) ids);
     }
-
--- ---- the answer
-
-pub answer-refused : (n : ℕ) → (n ≡ 0 → ⊥) → Refused n ≡ answerOf n
-answer-refused zero h = absurd (h refl)
-answer-refused (suc n) h = refl
-
-pub answer-done : (n : ℕ) → n ≡ 0 → Averaged ≡ answerOf n
-answer-done zero e = refl
-answer-done (suc n) e = absurd (omega arith)

@@ -2,20 +2,20 @@
 -- The arguments are those of `average_weights_over_degenerate_sets`: weights, flags, both id lists, the counts of points and bands, the type.
 use mathlib.Core.Bool.{_&&_}
 use mathlib.Core.List.{List, [], _∷_}
-use Prim.Native.Nat.{ℕ, zero, suc, _*_}
+use Prim.Native.Nat.{ℕ, _*_}
 use lib.Dec.{eqb}
 use lib.IntN.{ℤ, pos}
 use lib.ListN.{length}
 use lib.Signed.{mag}
 use lib.Ieee.{Float}
 use Rattle.ask.specs.Ask.{Question, asks, firstNo, afterCall}
+use Rattle.ask.specs.Answers.{answerOf}
+use Rattle.ask.specs.declared.Answer.{Answer}
 use Rattle.question_values.specs.Averages.{areDegenerateIds, areWeights}
 use Rattle.question_values.specs.Counts.{areCounts}
 use Rattle.question_values.specs.TpTypes.{isTpType, channelsOf}
 use Rattle.averaging_blocks.specs.Weights.{averagedPoints}
 use Rattle.averaging_blocks.specs.Flags.{averagedFlagPoints}
-use Rattle.averaging.specs.declared.AveragingAnswer.{AveragingAnswer}
-use Rattle.averaging.specs.declared.AveragingAnswer.the-variants.{Averaged, Refused}
 
 -- how many flags a triplet has: one for each point, b1, b2
 abbrev pub flagCount : ℤ → ℤ → ℕ
@@ -35,13 +35,8 @@ averagingQuestions iw iwz ids1 ids2 points bands type =
 abbrev pub averagingNo : List Float → List ℤ → List ℤ → List ℤ → ℤ → ℤ → ℤ → ℕ
 averagingNo iw iwz ids1 ids2 points bands type = firstNo (averagingQuestions iw iwz ids1 ids2 points bands type)
 
--- `Averaged` where no question says no, otherwise `Refused` with the number of the first
-abbrev pub answerOf : ℕ → AveragingAnswer
-answerOf zero = Averaged
-answerOf (suc n) = Refused (suc n)
-
 -- the answer
-abbrev pub averagingAnswer : List Float → List ℤ → List ℤ → List ℤ → ℤ → ℤ → ℤ → AveragingAnswer
+abbrev pub averagingAnswer : List Float → List ℤ → List ℤ → List ℤ → ℤ → ℤ → ℤ → Answer
 averagingAnswer iw iwz ids1 ids2 points bands type = answerOf (averagingNo iw iwz ids1 ids2 points bands type)
 
 -- the weights afterwards: each point's matrix of each channel is averaged; as they were after a refusal

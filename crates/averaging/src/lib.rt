@@ -1,18 +1,13 @@
 // The part of triplet_iw.rs that averages integration weights over degenerate sets.
 ghost use mathlib.Core.Path.{_≡_};
 ghost use Rattle.averaging.specs.Answers.{averagingNo, averagingAnswer, weightsAfter, flagsAfter};
+pub use ask::Answer;
 use common::kernel::magnitude;
 use question_values::kernel::averages::degenerate_ids_ok;
 use question_values::kernel::averages::weights_ok;
 use question_values::kernel::counts::signed_counts_ok;
 use question_values::kernel::tp_type::channels_of;
 use question_values::kernel::tp_type::tp_type_ok;
-
-// Done, or the number of the first question that is answered no.
-pub enum AveragingAnswer {
-    Averaged,
-    Refused(u64),
-}
 
 // The number of the first question that is answered no, or 0.
 fn averaging_no(
@@ -58,7 +53,7 @@ pub fn average_weights_over_degenerate_sets(
     num_band0: i64,
     num_band: i64,
     tp_type: i64,
-) -> AveragingAnswer
+) -> Answer
     ensures { λ r. ⌜ r ≡ averagingAnswer (now (iw .entry)) (now («iw_zero» .entry))
         (now («degenerate_ids1» .entry)) (now («degenerate_ids2» .entry)) «num_band0» «num_band» «tp_type» ⌝ }
     ensures { λ r. ⌜ now (iw .exit) ≡ weightsAfter (now (iw .entry)) (now («iw_zero» .entry))
@@ -76,7 +71,7 @@ pub fn average_weights_over_degenerate_sets(
         tp_type,
     );
     if no != 0 {
-        return AveragingAnswer::Refused(no);
+        return Answer::Refused(no);
     }
     let bands = magnitude(num_band);
     let points = magnitude(num_band0);
@@ -95,5 +90,5 @@ pub fn average_weights_over_degenerate_sets(
         bands,
         points,
     );
-    AveragingAnswer::Averaged
+    Answer::Done
 }

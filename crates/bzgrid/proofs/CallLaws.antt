@@ -1,8 +1,8 @@
--- From "every answer is yes" to a sound grid, and the answer by its number. Assumes nothing.
-use mathlib.Core.Path.{_≡_, refl}
+-- From "every answer is yes" to a sound grid. Assumes nothing.
+use mathlib.Core.Path.{_≡_}
 use mathlib.Core.Bool.{Bool, true, false, cond}
 use mathlib.Core.List.{List}
-use Prim.Native.Nat.{ℕ, zero, suc}
+use Prim.Native.Nat.{ℕ}
 use native.Mathlib.Omega.{arith}
 use lib.IntN.{ℤ}
 use Rattle.list_laws.specs.Signed.{isNat}
@@ -12,9 +12,7 @@ use Rattle.question_grids.specs.Grids.{gridQuestions, triplesIn, isMap, isSpars
 use Rattle.ask.proofs.AskLaws.{all-yes}
 use Rattle.question_grids.proofs.GridLaws.{mesh-within}
 use Rattle.bzgrid.specs.declared.GridKind.the-variants.{Sparse, Dense}
-use Rattle.bzgrid.specs.declared.NeighbourAnswer.the-variants.{Filled, Refused}
 use Rattle.bzgrid.specs.Neighbours.{kindOf, gridOf, mapFits, SoundGrid}
-use Rattle.bzgrid.specs.Calls.{neighbourAnswer}
 
 fits-by : (b : Bool) (n p : ℕ) (gp-map : List ℤ) → cond b (isSparseMap n p gp-map) (isDenseMap n p gp-map) ≡ true → mapFits (cond b Sparse Dense) n p gp-map ≡ true
 fits-by true n p gp-map e = e
@@ -33,11 +31,3 @@ module _ (kind : ℤ) (diag addresses gp-map : List ℤ) where
         addressed = y .1 .1 .0;
         mapped = fits-by (isNat kind 1) (countOf (meshOf diag)) (triplesIn addresses) gp-map (y .1 .1 .1 .0);
       }
-
-pub filled-is : (n : ℕ) → n ≡ 0 → Filled ≡ neighbourAnswer n
-filled-is zero e = refl
-filled-is (suc n) e = absurd (omega arith)
-
-pub refused-is : (n m : ℕ) → m ≡ n → (n ≡ 0 → ⊥) → Refused n ≡ neighbourAnswer m
-refused-is zero m e h = absurd (h refl)
-refused-is (suc n) m e h = rw e

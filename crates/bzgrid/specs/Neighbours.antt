@@ -1,13 +1,12 @@
--- The neighbours of a grid point, on grids of both kinds.
+-- The grid point that stands for an address, on grids of both kinds.
 use mathlib.Core.Path.{_≡_}
 use mathlib.Core.Bool.{Bool, true, _&&_, cond}
 use mathlib.Core.List.{List}
 use Prim.Native.Nat.{ℕ, _+_, _-_, _*_}
 use lib.Dec.{ltb, eqb}
-use lib.IntN.{ℤ, pos, _+ℤ_}
-use lib.ListN.{length}
+use lib.IntN.{ℤ, _+ℤ_}
 use lib.Signed.{mag}
-use Rattle.list_laws.specs.Lists.{at, firstAt, tabulate, rows}
+use Rattle.list_laws.specs.Lists.{at, firstAt}
 use Rattle.list_laws.specs.Signed.{eqZ, isNat}
 use Rattle.common.specs.declared.Address.{Address}
 use Rattle.common.specs.declared.Mesh.{Mesh}
@@ -65,16 +64,6 @@ moved addresses steps g j i = at addresses (3 * g + i) +ℤ at steps (3 * j + i)
 unfoldable pub wantedAddress : List ℤ → List ℤ → ℕ → ℕ → Address
 wantedAddress addresses steps g j =
     record { x = moved addresses steps g j 0; y = moved addresses steps g j 1; z = moved addresses steps g j 2 }
-
--- the neighbours of point g, one for each step
-unfoldable pub neighboursOf : BzGrid → List ℤ → List ℤ → List ℤ → ℕ → List ℤ
-neighboursOf grid addresses gp-map steps g =
-    tabulate (triplesIn steps) (λ j. pos (neighbourOf grid addresses gp-map (wantedAddress addresses steps g j)))
-
--- the neighbours of each of the points in turn
-unfoldable pub neighboursOfAll : BzGrid → List ℤ → List ℤ → List ℤ → List ℤ → List ℤ
-neighboursOfAll grid addresses gp-map steps points =
-    rows (length points) (λ i. neighboursOf grid addresses gp-map steps (mag (at points i)))
 
 -- question 6 of a map, by the kind
 abbrev pub mapFits : GridKind → ℕ → ℕ → List ℤ → Bool

@@ -1,8 +1,8 @@
--- From "every answer is yes" to a sound study, and the answer by its number. Assumes nothing.
-use mathlib.Core.Path.{_≡_, refl}
+-- From "every answer is yes" to a sound study. Assumes nothing.
+use mathlib.Core.Path.{_≡_}
 use mathlib.Core.Bool.{true}
 use mathlib.Core.List.{List}
-use Prim.Native.Nat.{ℕ, zero, suc, _*_, _≤_}
+use Prim.Native.Nat.{ℕ, _*_, _≤_}
 use native.Mathlib.Nat.{mul-le-mul}
 use native.Mathlib.Omega.{arith}
 use lib.IntN.{ℤ, pos}
@@ -20,9 +20,8 @@ use Rattle.questions.proofs.IrreducibleLaws.{frequencies-held, irreducible-leng
 use Rattle.bzgrid.specs.Neighbours.{gridOf}
 use Rattle.bzgrid.proofs.CallLaws.{sound-grid}
 use Rattle.tetrahedron_method.specs.declared.WeightFunction.{WeightFunction}
-use Rattle.grid_point_weights.specs.declared.GridPointAnswer.the-variants.{Filled, Refused}
 use Rattle.grid_point_weights.specs.Weights.{study, Sound}
-use Rattle.grid_point_weights.specs.Calls.{weightsQuestions, gridPointAnswer}
+use Rattle.grid_point_weights.specs.Calls.{weightsQuestions}
 
 module _ (bands : ℤ) (points gridPoints : ℕ) (e : areCounts bands bands (pos points) (pos gridPoints) ≡ true) where
   pub bands-some : 1 ≤ mag bands
@@ -61,11 +60,3 @@ sound-study kind diag addresses gp-map table bands points gridPoints r frequenci
       held = frequencies-held r (mag bands) (triplesIn addresses) frequencies irreducible q;
       below = irreducible-at r (mag bands) (triplesIn addresses) frequencies irreducible q;
     }
-
-pub filled-is : (n : ℕ) → n ≡ 0 → Filled ≡ gridPointAnswer n
-filled-is zero e = refl
-filled-is (suc n) e = absurd (omega arith)
-
-pub refused-is : (n m : ℕ) → m ≡ n → (n ≡ 0 → ⊥) → Refused n ≡ gridPointAnswer m
-refused-is zero m e h = absurd (h refl)
-refused-is (suc n) m e h = rw e

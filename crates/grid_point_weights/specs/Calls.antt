@@ -1,7 +1,7 @@
--- The questions of the weights at grid points, and their answer.
+-- The questions of the weights at grid points.
 use mathlib.Core.Bool.{_&&_}
 use mathlib.Core.List.{List, [], _∷_, _++_}
-use Prim.Native.Nat.{ℕ, zero, suc, _*_}
+use Prim.Native.Nat.{ℕ, _*_}
 use lib.IntN.{ℤ, pos}
 use lib.Ieee.{Float}
 use lib.ListN.{length}
@@ -13,8 +13,6 @@ use Rattle.question_values.specs.Counts.{areCounts, isProduct}
 use Rattle.question_grids.specs.Steps.{areGridPoints}
 use Rattle.questions.specs.Irreducible.{areIrreducible}
 use Rattle.question_values.specs.Frequencies.{arePoints}
-use Rattle.grid_point_weights.specs.declared.GridPointAnswer.{GridPointAnswer}
-use Rattle.grid_point_weights.specs.declared.GridPointAnswer.the-variants.{Filled, Refused}
 
 -- after the grid: 7 the table, 9 the counts, 10 the grid points, 11 the frequencies, the map to them and the points, 12 the buffer
 abbrev pub weightsQuestions : List ℤ → ℤ → List Float → List ℤ → ℕ → ℤ → List Float → List ℤ → ℕ → List Question
@@ -30,8 +28,3 @@ weightsQuestions table bands points gridPoints p r frequencies irreducible iw =
 abbrev pub gridPointQuestions : ℤ → List ℤ → List ℤ → List ℤ → List ℤ → ℤ → List Float → List ℤ → ℤ → List Float → List ℤ → ℕ → List Question
 gridPointQuestions kind diag addresses gp-map table bands points gridPoints r frequencies irreducible iw =
     gridQuestions kind diag addresses gp-map ++ weightsQuestions table bands points gridPoints (triplesIn addresses) r frequencies irreducible iw
-
--- The answer, by the number of the first no: 0 is filled, any other is the refusal.
-abbrev pub gridPointAnswer : ℕ → GridPointAnswer
-gridPointAnswer zero = Filled
-gridPointAnswer (suc n) = Refused (suc n)

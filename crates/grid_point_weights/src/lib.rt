@@ -4,19 +4,16 @@ ghost use lib.ListN.{length};
 ghost use lib.Signed.{mag};
 ghost use Rattle.bzgrid.specs.Neighbours.{gridOf};
 ghost use Rattle.ask.specs.Ask.{firstNo, afterCall};
+ghost use Rattle.ask.specs.Answers.{answerOf};
 ghost use Rattle.grid_point_weights.specs.Weights.{study, weightsOfAll};
-ghost use Rattle.grid_point_weights.specs.Calls.{gridPointQuestions, gridPointAnswer};
+ghost use Rattle.grid_point_weights.specs.Calls.{gridPointQuestions};
+pub use ask::Answer;
 use tetrahedron_method::WeightFunction;
 
 mod band;
 mod corners;
 mod fill;
 mod questioned;
-
-pub enum GridPointAnswer {
-    Filled,
-    Refused(u64),
-}
 
 // The integration weights of each band at each frequency point, for each of the grid points in turn; num_ir is R, the count of
 // irreducible points. Questions 3, 4, 5, 6, 7, 9, 10, 11, 12.
@@ -34,8 +31,8 @@ pub fn integration_weights_at_grid_points(
     gp_map: &[i64],
     gp2irgp_map: &[i64],
     function: WeightFunction,
-) -> GridPointAnswer
-    ensures { λ r. ⌜ r ≡ gridPointAnswer (firstNo (gridPointQuestions «bz_grid_type» «d_diag» (now (addresses .entry)) (now («gp_map» .entry))
+) -> Answer
+    ensures { λ r. ⌜ r ≡ answerOf (firstNo (gridPointQuestions «bz_grid_type» «d_diag» (now (addresses .entry)) (now («gp_map» .entry))
         (now («relative_grid_address» .entry)) «num_band» (now («frequency_points» .entry)) (now («grid_points» .entry)) «num_ir» (now (frequencies .entry)) (now («gp2irgp_map» .entry)) (length (now (iw .entry))))) ⌝ }
     ensures { λ r. ⌜ now (iw .exit) ≡ afterCall (firstNo (gridPointQuestions «bz_grid_type» «d_diag» (now (addresses .entry)) (now («gp_map» .entry))
         (now («relative_grid_address» .entry)) «num_band» (now («frequency_points» .entry)) (now («grid_points» .entry)) «num_ir» (now (frequencies .entry)) (now («gp2irgp_map» .entry)) (length (now (iw .entry)))))
@@ -44,7 +41,7 @@ pub fn integration_weights_at_grid_points(
 {
     let grid_no = question_grids::kernel::grid::grid_no(bz_grid_type, d_diag, addresses, gp_map);
     if grid_no != 0 {
-        return GridPointAnswer::Refused(grid_no);
+        return Answer::Refused(grid_no);
     }
     let no = questioned::weights_no(
         relative_grid_address,
@@ -58,7 +55,7 @@ pub fn integration_weights_at_grid_points(
         iw.len(),
     );
     if no != 0 {
-        return GridPointAnswer::Refused(no);
+        return Answer::Refused(no);
     }
     let grid = bzgrid::kernel::grid_of(bz_grid_type, d_diag);
     let bands = common::kernel::magnitude(num_band);
@@ -75,5 +72,5 @@ pub fn integration_weights_at_grid_points(
         frequency_points,
         function,
     );
-    GridPointAnswer::Filled
+    Answer::Done
 }

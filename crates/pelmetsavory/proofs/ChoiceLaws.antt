@@ -6,25 +6,25 @@ use Prim.Native.Nat.{ℕ}
 use native.Mathlib.Omega.{arith}
 use lib.Ieee.{Float}
 use lib.IntN.{ℤ, pos}
-use lib.ListN.{replicate}
-use Rattle.ieee_laws.specs.Zeros.{zeroF}
-use Rattle.common.specs.Matrix.{isLattice, isVector, matvecOf, matvecAnswer}
+use Rattle.lattice.specs.Matrix.{matvecOf, matvecQuestions, matvecAnswer}
 use Rattle.common.specs.Mesh.{meshOf}
-use Rattle.common.specs.declared.MatvecAnswer.{MatvecAnswer}
+use Rattle.lattice.specs.declared.MatvecAnswer.{MatvecAnswer}
 use Rattle.grgrid.specs.Index.{addressOf, gridIndex, indexAnswer}
 use Rattle.grgrid.specs.declared.IndexAnswer.the-variants as index
 use Rattle.ask.specs.Ask.{asks, firstNo, afterCall}
 use Rattle.question_grids.specs.Grids.{isMesh}
 use Rattle.question_values.specs.TpTypes.{isTpType}
-use Rattle.ask.proofs.AskLaws.{after-done, after-refused}
+use Rattle.ask.specs.Answers.{answerNumber}
+use Rattle.ask.proofs.AskLaws.{after-done, kept}
+use Rattle.ask.proofs.AnswerLaws.{number-is}
 use Rattle.tetrahedron_tables.specs.Tables.{tableOf, flat}
 use Rattle.relative_grid_address.specs.Diagonal.{mainDiagonalOf}
-use Rattle.relative_grid_address.specs.Answer.{tableAnswer}
+use Rattle.relative_grid_address.specs.Answer.{latticeQuestions, tableAnswer}
 use Rattle.relative_grid_address.specs.declared.TableAnswer.{TableAnswer}
 use Rattle.triplet_channels.specs.Types.{tpTypeOf, tpTypeAnswer}
 use Rattle.triplet_channels.specs.declared.TpType.{TpType}
 use Rattle.triplet_channels.specs.declared.TpTypeAnswer.the-variants as type
-use Rattle.pelmetsavory.specs.Calls.{indexQuestions, latticeQuestions, matvecQuestions, typeQuestions}
+use Rattle.pelmetsavory.specs.Calls.{indexQuestions, typeQuestions}
 
 -- ---- the grid index
 
@@ -70,59 +70,46 @@ module _ (z : ℤ) (f : TpType → ℕ) (old : ℕ) where
 
 -- ---- the choice of a table
 
-table-in : (b : Bool) (i : ℕ) (new zeros : List ℤ) (t : TableAnswer)
-    → t ≡ cond b (record { refused = 0; index = i; table = new }) (record { refused = 2; index = 0; table = zeros })
-    → (t .refused ≡ firstNo (asks 2 b ∷ [])) × (t .refused ≡ 0 → (t .table ≡ new) × (t .index ≡ i))
-unfolding firstNo
-table-in true i new zeros t h = (ap (λ (x : TableAnswer). x .refused) h, λ e. (ap (λ (x : TableAnswer). x .table) h, ap (λ (x : TableAnswer). x .index) h))
-table-in false i new zeros t h =
-    let n : t .refused ≡ 2 = ap (λ (x : TableAnswer). x .refused) h in
-    (n, λ e. absurd (omega (arith, n, e)))
+module _ (a : List (List Float)) (t : TableAnswer) (h : t ≡ tableAnswer a) (no : ℕ) (told : no ≡ answerNumber (t .answer)) (old : List ℤ) (oldIndex : ℕ) where
+  abbrev first : ℕ
+  first = firstNo (latticeQuestions a)
 
-module _ (a : List (List Float)) (t : TableAnswer) (h : t ≡ tableAnswer a) (old : List ℤ) (oldIndex : ℕ) where
-  table-of : (t .refused ≡ firstNo (latticeQuestions a)) × (t .refused ≡ 0 → (t .table ≡ flat (tableOf (mainDiagonalOf a))) × (t .index ≡ mainDiagonalOf a))
+  abbrev chosen : List ℤ
+  chosen = flat (tableOf (mainDiagonalOf a))
+
+  table-no : no ≡ first
   unfolding tableAnswer
-  table-of = table-in (isLattice a) (mainDiagonalOf a) (flat (tableOf (mainDiagonalOf a))) (replicate 288 (pos 0)) t h
+  table-no = told ∙ ap (λ (x : TableAnswer). answerNumber (x .answer)) h ∙ number-is first
 
-  pub table-refused : (t .refused ≡ 0 → ⊥)
-      → (t .refused ≡ firstNo (latticeQuestions a))
-      × ((old ≡ afterCall (firstNo (latticeQuestions a)) (flat (tableOf (mainDiagonalOf a))) old)
-      × (oldIndex ≡ afterCall (firstNo (latticeQuestions a)) (mainDiagonalOf a) oldIndex))
-  table-refused n =
-      let k : firstNo (latticeQuestions a) ≡ 0 → ⊥ = λ e. n (table-of .0 ∙ e) in
-      (table-of .0, (after-refused _ _ old k, after-refused _ _ oldIndex k))
+  pub table-refused : (no ≡ 0 → ⊥) → (no ≡ first) × ((old ≡ afterCall first chosen old) × (oldIndex ≡ afterCall first (mainDiagonalOf a) oldIndex))
+  table-refused n = (table-no, (kept no first _ _ (sym table-no) n, kept no first _ _ (sym table-no) n))
 
-  pub table-done : t .refused ≡ 0
-      → (0 ≡ firstNo (latticeQuestions a))
-      × ((t .table ≡ afterCall (firstNo (latticeQuestions a)) (flat (tableOf (mainDiagonalOf a))) old)
-      × (t .index ≡ afterCall (firstNo (latticeQuestions a)) (mainDiagonalOf a) oldIndex))
+  pub table-done : no ≡ 0 → (0 ≡ first) × ((t .table ≡ afterCall first chosen old) × (t .index ≡ afterCall first (mainDiagonalOf a) oldIndex))
+  unfolding tableAnswer
   table-done e =
-      let k : firstNo (latticeQuestions a) ≡ 0 = sym (table-of .0) ∙ e in
-      (sym k, (table-of .1 e .0 ∙ after-done _ _ old k, table-of .1 e .1 ∙ after-done _ _ oldIndex k))
+      let k : first ≡ 0 = sym table-no ∙ e in (
+        sym k,
+        (
+          ap (λ (x : TableAnswer). x .table) h ∙ sym (after-done first _ _ k) ∙ after-done first _ _ k,
+          ap (λ (x : TableAnswer). x .index) h ∙ sym (after-done first _ _ k) ∙ after-done first _ _ k,
+        ),
+      )
 
 -- ---- a lattice times a vector
 
-matvec-in : (b d : Bool) (new zeros : List Float) (t : MatvecAnswer)
-    → t ≡ cond b (cond d (record { refused = 0; vector = new }) (record { refused = 7; vector = zeros })) (record { refused = 2; vector = zeros })
-    → (t .refused ≡ firstNo (asks 2 b ∷ asks 7 d ∷ [])) × (t .refused ≡ 0 → t .vector ≡ new)
-unfolding firstNo
-matvec-in true true new zeros t h = (ap (λ (x : MatvecAnswer). x .refused) h, λ e. ap (λ (x : MatvecAnswer). x .vector) h)
-matvec-in true false new zeros t h =
-    let n : t .refused ≡ 7 = ap (λ (x : MatvecAnswer). x .refused) h in
-    (n, λ e. absurd (omega (arith, n, e)))
-matvec-in false d new zeros t h =
-    let n : t .refused ≡ 2 = ap (λ (x : MatvecAnswer). x .refused) h in
-    (n, λ e. absurd (omega (arith, n, e)))
+module _ (a : List (List Float)) (b : List ℤ) (t : MatvecAnswer) (h : t ≡ matvecAnswer a b) (no : ℕ) (told : no ≡ answerNumber (t .answer)) (old : List Float) where
+  abbrev first-two : ℕ
+  first-two = firstNo (matvecQuestions a b)
 
-module _ (a : List (List Float)) (b : List ℤ) (t : MatvecAnswer) (h : t ≡ matvecAnswer a b) (old : List Float) where
-  matvec-of : (t .refused ≡ firstNo (matvecQuestions a b)) × (t .refused ≡ 0 → t .vector ≡ matvecOf a b)
+  matvec-no : no ≡ first-two
   unfolding matvecAnswer
-  matvec-of = matvec-in (isLattice a) (isVector b) (matvecOf a b) (zeroF ∷ zeroF ∷ zeroF ∷ []) t h
+  matvec-no = told ∙ ap (λ (x : MatvecAnswer). answerNumber (x .answer)) h ∙ number-is first-two
 
-  pub matvec-refused : (t .refused ≡ 0 → ⊥) → (t .refused ≡ firstNo (matvecQuestions a b)) × (old ≡ afterCall (firstNo (matvecQuestions a b)) (matvecOf a b) old)
-  matvec-refused n = (matvec-of .0, after-refused _ _ old (λ e. n (matvec-of .0 ∙ e)))
+  pub matvec-refused : (no ≡ 0 → ⊥) → (no ≡ first-two) × (old ≡ afterCall first-two (matvecOf a b) old)
+  matvec-refused n = (matvec-no, kept no first-two _ _ (sym matvec-no) n)
 
-  pub matvec-done : t .refused ≡ 0 → (0 ≡ firstNo (matvecQuestions a b)) × (t .vector ≡ afterCall (firstNo (matvecQuestions a b)) (matvecOf a b) old)
+  pub matvec-done : no ≡ 0 → (0 ≡ first-two) × (t .vector ≡ afterCall first-two (matvecOf a b) old)
+  unfolding matvecAnswer
   matvec-done e =
-      let k : firstNo (matvecQuestions a b) ≡ 0 = sym (matvec-of .0) ∙ e in
-      (sym k, matvec-of .1 e ∙ after-done _ _ old k)
+      let k : first-two ≡ 0 = sym matvec-no ∙ e in
+      (sym k, ap (λ (x : MatvecAnswer). x .vector) h ∙ sym (after-done first-two _ _ k) ∙ after-done first-two _ _ k)

@@ -5,18 +5,6 @@ use Prim.Native.Nat.{ℕ, zero, suc}
 use native.Mathlib.Omega.{arith}
 use lib.Ieee.{Float}
 use Rattle.ask.specs.Ask.{afterCall}
-use Rattle.averaging.specs.Answers.{answerOf}
-use Rattle.averaging.specs.declared.AveragingAnswer.{AveragingAnswer}
-use Rattle.averaging.specs.declared.AveragingAnswer.the-variants as averaging
-use Rattle.bzgrid.specs.Calls.{neighbourAnswer}
-use Rattle.bzgrid.specs.declared.NeighbourAnswer.{NeighbourAnswer}
-use Rattle.bzgrid.specs.declared.NeighbourAnswer.the-variants as neighbour
-use Rattle.grid_point_weights.specs.Calls.{gridPointAnswer}
-use Rattle.grid_point_weights.specs.declared.GridPointAnswer.{GridPointAnswer}
-use Rattle.grid_point_weights.specs.declared.GridPointAnswer.the-variants as grid-point
-use Rattle.triplet_addresses.specs.Copies.{copyAnswer}
-use Rattle.triplet_addresses.specs.declared.CopyAnswer.{CopyAnswer}
-use Rattle.triplet_addresses.specs.declared.CopyAnswer.the-variants as copy
 use Rattle.triplet_addresses.specs.Normal.{isNAnswer}
 use Rattle.triplet_addresses.specs.declared.IsNAnswer.the-variants as is-n
 use Rattle.triplet_iw.specs.Calls.{weightsAnswer}
@@ -36,38 +24,6 @@ weightsNumber (weights.Refused k) = k
 pub weights-status : (v : ℕ) (a b : WeightsAnswer) → a ≡ weightsAnswer v → a ≡ b → weightsNumber b ≡ v
 weights-status zero a b h e = ap weightsNumber (sym e ∙ h)
 weights-status (suc v) a b h e = ap weightsNumber (sym e ∙ h)
-
-abbrev averagingNumber : AveragingAnswer → ℕ
-averagingNumber averaging.Averaged = 0
-averagingNumber (averaging.Refused k) = k
-
-pub averaging-status : (v : ℕ) (a b : AveragingAnswer) → a ≡ answerOf v → a ≡ b → averagingNumber b ≡ v
-averaging-status zero a b h e = ap averagingNumber (sym e ∙ h)
-averaging-status (suc v) a b h e = ap averagingNumber (sym e ∙ h)
-
-abbrev gridPointNumber : GridPointAnswer → ℕ
-gridPointNumber grid-point.Filled = 0
-gridPointNumber (grid-point.Refused k) = k
-
-pub grid-point-status : (v : ℕ) (a b : GridPointAnswer) → a ≡ gridPointAnswer v → a ≡ b → gridPointNumber b ≡ v
-grid-point-status zero a b h e = ap gridPointNumber (sym e ∙ h)
-grid-point-status (suc v) a b h e = ap gridPointNumber (sym e ∙ h)
-
-abbrev copyNumber : CopyAnswer → ℕ
-copyNumber copy.Filled = 0
-copyNumber (copy.Refused k) = k
-
-pub copy-status : (v : ℕ) (a b : CopyAnswer) → a ≡ copyAnswer v → a ≡ b → copyNumber b ≡ v
-copy-status zero a b h e = ap copyNumber (sym e ∙ h)
-copy-status (suc v) a b h e = ap copyNumber (sym e ∙ h)
-
-abbrev neighbourNumber : NeighbourAnswer → ℕ
-neighbourNumber neighbour.Filled = 0
-neighbourNumber (neighbour.Refused k) = k
-
-pub neighbour-status : (v : ℕ) (a b : NeighbourAnswer) → a ≡ neighbourAnswer v → a ≡ b → neighbourNumber b ≡ v
-neighbour-status zero a b h e = ap neighbourNumber (sym e ∙ h)
-neighbour-status (suc v) a b h e = ap neighbourNumber (sym e ∙ h)
 
 -- ---- answers that hold a value
 

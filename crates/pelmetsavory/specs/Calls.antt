@@ -7,7 +7,6 @@ use denote.Ref.{now}
 use lib.Dec.{eqb}
 use lib.Ieee.{Float}
 use lib.IntN.{ℤ}
-use Rattle.common.specs.Matrix.{isLattice, isVector}
 use Rattle.ask.specs.Ask.{Question, asks}
 use Rattle.question_grids.specs.Grids.{isMesh}
 use Rattle.question_values.specs.TpTypes.{isTpType}
@@ -28,14 +27,6 @@ oneOf b = cond b 1 0
 -- the grid index: "Is each mesh number .. (the grid index alone: 1 to 256, its address any)? No: 4."
 abbrev pub indexQuestions : List ℤ → List Question
 indexQuestions diag = asks 4 (isMesh 256 diag) ∷ []
-
--- the choice of a table: "Are lattice entries finite, magnitude at most 2^30? No: 2."
-abbrev pub latticeQuestions : List (List Float) → List Question
-latticeQuestions a = asks 2 (isLattice a) ∷ []
-
--- `matvec_di`: 2 the lattice; "its vector falls under question 7's ±4,096"
-abbrev pub matvecQuestions : List (List Float) → List ℤ → List Question
-matvecQuestions a b = asks 2 (isLattice a) ∷ asks 7 (isVector b) ∷ []
 
 -- "Is the type 2, 3 or 4? No: 8"
 abbrev pub typeQuestions : ℤ → List Question

@@ -3,16 +3,17 @@ ghost use mathlib.Core.Path.{_≡_};
 ghost use lib.ListN.{length};
 ghost use lib.IntN.{pos};
 ghost use lib.Signed.{mag};
-ghost use Rattle.common.specs.Matrix.{matvecOf};
+ghost use Rattle.lattice.specs.Matrix.{matvecOf, matvecQuestions};
 ghost use Rattle.common.specs.Mesh.{meshOf};
 ghost use Rattle.grgrid.specs.Index.{addressOf, gridIndex};
 ghost use Rattle.ask.specs.Ask.{firstNo, afterCall};
-ghost use Rattle.bzgrid.specs.Neighbours.{gridOf, neighboursOf, neighboursOfAll};
-ghost use Rattle.bzgrid.specs.Calls.{pointQuestions, manyQuestions};
-ghost use Rattle.pelmetsavory.specs.Calls.{indexQuestions, matvecQuestions};
+ghost use Rattle.bzgrid.specs.Neighbours.{gridOf};
+ghost use Rattle.neighbours.specs.Lists.{neighboursOf, neighboursOfAll};
+ghost use Rattle.neighbours.specs.Calls.{pointQuestions, manyQuestions};
+ghost use Rattle.pelmetsavory.specs.Calls.{indexQuestions};
 use crate::Grid;
 use crate::Triple;
-use bzgrid::NeighbourAnswer;
+use ask::kernel::number_of;
 use grgrid::IndexAnswer;
 
 // The neighbours of one grid point. Questions 3 to 7, 10, 12.
@@ -32,7 +33,7 @@ pub extern "C" fn pelmetsavory_fill_neighboring_grid_points(
 {
     let bz_grid_type = grid.bz_grid_type;
     let d_diag = grid.d_diag;
-    match bzgrid::fill_neighboring_grid_points(
+    let answer = neighbours::fill_neighboring_grid_points(
         out,
         grid_point,
         relative_grid_address,
@@ -40,10 +41,8 @@ pub extern "C" fn pelmetsavory_fill_neighboring_grid_points(
         d_diag,
         addresses,
         gp_map,
-    ) {
-        NeighbourAnswer::Filled => 0,
-        NeighbourAnswer::Refused(number) => number,
-    }
+    );
+    number_of(answer)
 }
 
 // The neighbours of many grid points, those of each in turn. Questions 3 to 7, 9, 10, 12.
@@ -63,7 +62,7 @@ pub extern "C" fn pelmetsavory_neighboring_grid_points_many(
 {
     let bz_grid_type = grid.bz_grid_type;
     let d_diag = grid.d_diag;
-    match bzgrid::neighboring_grid_points_many(
+    let answer = neighbours::neighboring_grid_points_many(
         out,
         grid_points,
         relative_grid_address,
@@ -71,10 +70,8 @@ pub extern "C" fn pelmetsavory_neighboring_grid_points_many(
         d_diag,
         addresses,
         gp_map,
-    ) {
-        NeighbourAnswer::Filled => 0,
-        NeighbourAnswer::Refused(number) => number,
-    }
+    );
+    number_of(answer)
 }
 
 // The grid index of an address, behind `index`. Question 4, with mesh numbers from 1 to 256.
@@ -111,12 +108,13 @@ pub extern "C" fn pelmetsavory_matvec_di(
 {
     let matrix = *a;
     let vector = b.numbers;
-    let answer = common::matvec_di(matrix, vector);
-    let no = answer.refused;
+    let done = lattice::matvec_di(matrix, vector);
+    let answer = done.answer;
+    let no = number_of(answer);
     if no != 0 {
         return no;
     }
-    let times = answer.vector;
+    let times = done.vector;
     *product = times;
     0
 }

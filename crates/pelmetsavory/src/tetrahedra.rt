@@ -5,17 +5,17 @@ ghost use lib.ListN.{length};
 ghost use lib.Signed.{mag};
 ghost use Rattle.tetrahedron_tables.specs.Tables.{tableOf, flat};
 ghost use Rattle.relative_grid_address.specs.Diagonal.{mainDiagonalOf};
-ghost use Rattle.relative_grid_address.specs.Answer.{allTables};
+ghost use Rattle.relative_grid_address.specs.Answer.{allTables, latticeQuestions};
 ghost use Rattle.tetrahedron_method.specs.Answer.{weightQuestions};
 ghost use Rattle.tetrahedron_method.specs.Weight.{weightOf};
 ghost use Rattle.ask.specs.Ask.{firstNo, afterCall};
 ghost use Rattle.bzgrid.specs.Neighbours.{gridOf};
 ghost use Rattle.grid_point_weights.specs.Weights.{study, weightsOfAll};
 ghost use Rattle.grid_point_weights.specs.Calls.{gridPointQuestions};
-ghost use Rattle.pelmetsavory.specs.Calls.{functionOf, latticeQuestions};
+ghost use Rattle.pelmetsavory.specs.Calls.{functionOf};
 use crate::Grid;
 use crate::choice;
-use grid_point_weights::GridPointAnswer;
+use ask::kernel::number_of;
 use tetrahedron_method::WeightAnswer;
 
 // The weights of each band at each frequency point, for each grid point; `letter` 'I' (73) asks for the density's weight, any other byte for
@@ -43,7 +43,7 @@ pub extern "C" fn pelmetsavory_integration_weights_at_grid_points(
     let bz_grid_type = grid.bz_grid_type;
     let d_diag = grid.d_diag;
     let function = choice::function_of(letter);
-    match grid_point_weights::integration_weights_at_grid_points(
+    let answer = grid_point_weights::integration_weights_at_grid_points(
         iw,
         frequency_points,
         relative_grid_address,
@@ -57,10 +57,8 @@ pub extern "C" fn pelmetsavory_integration_weights_at_grid_points(
         gp_map,
         gp2irgp_map,
         function,
-    ) {
-        GridPointAnswer::Filled => 0,
-        GridPointAnswer::Refused(number) => number,
-    }
+    );
+    number_of(answer)
 }
 
 // The table whose main diagonal is shortest, the first on a tie, and its number behind `index`. The columns of `rec_lattice` are the edges of
@@ -78,14 +76,15 @@ pub extern "C" fn pelmetsavory_relative_grid_address(
     ensures { λ r. ⌜ now (index .exit) ≡ afterCall (firstNo (latticeQuestions (now («rec_lattice» .entry)))) (mainDiagonalOf (now («rec_lattice» .entry))) (now (index .entry)) ⌝ }
 {
     let lattice = *rec_lattice;
-    let answer = relative_grid_address::relative_grid_address(lattice);
-    let no = answer.refused;
+    let done = relative_grid_address::relative_grid_address(lattice);
+    let answer = done.answer;
+    let no = number_of(answer);
     if no != 0 {
         return no;
     }
-    let chosen = answer.table;
+    let chosen = done.table;
     *table = chosen;
-    *index = answer.index;
+    *index = done.index;
     0
 }
 

@@ -10,9 +10,8 @@ ghost use Rattle.triplet_addresses.specs.Copies.{copyQuestions, bothCopies};
 ghost use Rattle.pelmetsavory.specs.Calls.{CalledFill, oneOf, typeQuestions};
 use crate::Triple;
 use crate::choice;
-use averaging::AveragingAnswer;
+use ask::kernel::number_of;
 use sheet::Shape;
-use triplet_addresses::CopyAnswer;
 use triplet_addresses::IsNAnswer;
 use triplet_channels::TpType;
 use triplet_channels::TpTypeAnswer;
@@ -105,7 +104,7 @@ pub extern "C" fn pelmetsavory_average_weights_over_degenerate_sets(
     ensures { λ r. ⌜ now («iw_zero» .exit) ≡ flagsAfter (now (iw .entry)) (now («iw_zero» .entry))
         (now («degenerate_ids1» .entry)) (now («degenerate_ids2» .entry)) «num_band0» «num_band» «tp_type» ⌝ }
 {
-    match averaging::average_weights_over_degenerate_sets(
+    let answer = averaging::average_weights_over_degenerate_sets(
         iw,
         iw_zero,
         degenerate_ids1,
@@ -113,10 +112,8 @@ pub extern "C" fn pelmetsavory_average_weights_over_degenerate_sets(
         num_band0,
         num_band,
         tp_type,
-    ) {
-        AveragingAnswer::Averaged => 0,
-        AveragingAnswer::Refused(number) => number,
-    }
+    );
+    number_of(answer)
 }
 
 // Whether the three addresses of a triplet add to zero: 1 or 0, behind `normal`. Questions 5 (without the count) and 10.
@@ -151,10 +148,8 @@ pub extern "C" fn pelmetsavory_set_relative_grid_address(
     ensures { λ r. ⌜ now (out .exit) ≡ afterCall (firstNo (copyQuestions (now («relative_grid_address» .entry)) «tp_type» (length (now (out .entry)))))
         (bothCopies «tp_type» (now («relative_grid_address» .entry))) (now (out .entry)) ⌝ }
 {
-    match triplet_addresses::set_relative_grid_address(out, relative_grid_address, tp_type) {
-        CopyAnswer::Filled => 0,
-        CopyAnswer::Refused(number) => number,
-    }
+    let answer = triplet_addresses::set_relative_grid_address(out, relative_grid_address, tp_type);
+    number_of(answer)
 }
 
 // How many weights a triplet of a type has at a point of a band pair, behind `channels`. Question 8.

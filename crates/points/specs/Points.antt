@@ -7,13 +7,14 @@ use lib.ListN.{length}
 use lib.Ieee.{Float, binary64, ofBits}
 use Rattle.ieee_laws.specs.Zeros.{zeroF}
 use Rattle.ask.specs.Ask.{firstNo}
-use Rattle.bzgrid.specs.Calls.{manyQuestions, neighbourAnswer}
-use Rattle.bzgrid.specs.Neighbours.{gridOf, neighboursOfAll}
-use Rattle.bzgrid.specs.declared.NeighbourAnswer.the-variants.{Filled}
+use Rattle.ask.specs.Answers.{answerOf}
+use Rattle.ask.specs.declared.Answer.the-variants.{Done}
+use Rattle.bzgrid.specs.Neighbours.{gridOf}
+use Rattle.neighbours.specs.Calls.{manyQuestions}
+use Rattle.neighbours.specs.Lists.{neighboursOfAll}
 use Rattle.relative_grid_address.specs.Answer.{tableAnswer}
 use Rattle.tetrahedron_tables.specs.Tables.{tableOf, flat}
 use Rattle.averaging.specs.Answers.{averagingAnswer, weightsAfter, flagsAfter}
-use Rattle.averaging.specs.declared.AveragingAnswer.the-variants.{Averaged}
 use Rattle.tetrahedron_fractions.specs.Binary64.{one, three, four}
 use Rattle.tetrahedron_fractions.specs.Branch.{values}
 use Rattle.tetrahedron_method.specs.Answer.{integrationWeightAnswer}
@@ -76,12 +77,12 @@ pub data Point : Type 0 where
 abbrev pub Claim : Point → Type 0
 Claim (weighs u r w x) = integrationWeightAnswer w (equalRows r 24) u ≡ Weight x
 Claim (stands r p) = sortOf r .place ≡ p
-Claim (picks l n) = tableAnswer l ≡ record { refused = 0; index = n; table = flat (tableOf n) }
+Claim (picks l n) = tableAnswer l ≡ record { answer = Done; index = n; table = flat (tableOf n) }
 Claim (leads kind mesh addresses gp-map steps from to) =
-    (neighbourAnswer (firstNo (manyQuestions kind mesh addresses gp-map steps from (length to))) ≡ Filled)
+    (answerOf (firstNo (manyQuestions kind mesh addresses gp-map steps from (length to))) ≡ Done)
     × (neighboursOfAll (gridOf kind mesh) addresses gp-map steps from ≡ to)
 Claim (averages bands ids1 ids2 w w′ z z′) =
-    (averagingAnswer w z ids1 ids2 (pos 1) bands (pos 4) ≡ Averaged)
+    (averagingAnswer w z ids1 ids2 (pos 1) bands (pos 4) ≡ Done)
     × ((weightsAfter w z ids1 ids2 (pos 1) bands (pos 4) ≡ w′) × (flagsAfter w z ids1 ids2 (pos 1) bands (pos 4) ≡ z′))
 
 -- all points of a list hold

@@ -16,7 +16,9 @@ use Rattle.list_laws.proofs.BoolLaws.{lt-or-le, lt-eq-gt, and-both}
 use Rattle.list_laws.proofs.SizeLaws.{size-sum, size-product}
 use Rattle.ieee_laws.specs.Whole.{Whole}
 use Rattle.ieee_laws.proofs.WholeLaws.{whole-of, whole-minus-zero, whole-mul, whole-add, whole-lt, whole-square, nat-add, whole-magnitude}
-use Rattle.common.specs.Matrix.{rowAt, rowTimes, matvecOf, isLattice, isLatticeRow, isLatticeEntry}
+use Rattle.ask.specs.Ask.{firstNo}
+use Rattle.ask.specs.declared.Answer.the-variants.{Done}
+use Rattle.lattice.specs.Matrix.{rowAt, rowTimes, matvecOf, isLattice, isLatticeRow, isLatticeEntry}
 use Rattle.relative_grid_address.specs.Diagonal.{mainDiagonals, normSquared, lengthOf, leastUpTo, mainDiagonalOf}
 use Rattle.relative_grid_address.specs.Answer.{tableAnswer}
 use Rattle.relative_grid_address.specs.Whole.{UpTo20, IsWhole, IsLatticeOf, component, squaredLength, square, FirstShortest}
@@ -167,6 +169,6 @@ module _ (a : List (List Float)) (l : ℕ → ℕ → ℤ) (entries : IsLatticeO
       row i h = and-both (and-both (entry-accepted i 0 h (omega arith)) (entry-accepted i 1 h (omega arith))) (entry-accepted i 2 h (omega arith))
 
   -- what the entry answers for it
-  pub whole-answer : (tableAnswer a .refused ≡ 0) × FirstShortest 4 (squaredLength l) (tableAnswer a .index)
-  unfolding tableAnswer
+  pub whole-answer : (tableAnswer a .answer ≡ Done) × FirstShortest 4 (squaredLength l) (tableAnswer a .index)
+  unfolding tableAnswer firstNo
   whole-answer = rw whole-accepted (refl, shortest-picked)

@@ -1,21 +1,27 @@
 -- What the two entries answer.
-use mathlib.Core.Bool.{cond}
-use mathlib.Core.List.{List}
+use mathlib.Core.List.{List, [], _∷_}
 use lib.IntN.{ℤ, pos}
 use lib.ListN.{replicate}
 use lib.Ieee.{Float}
 use Rattle.list_laws.specs.Lists.{rows}
-use Rattle.common.specs.Matrix.{isLattice}
+use Rattle.ask.specs.Ask.{Question, asks, firstNo, afterCall}
+use Rattle.ask.specs.Answers.{answerOf}
+use Rattle.lattice.specs.Matrix.{isLattice}
 use Rattle.tetrahedron_tables.specs.Tables.{tableOf, flat}
 use Rattle.relative_grid_address.specs.Diagonal.{mainDiagonalOf}
 use Rattle.relative_grid_address.specs.declared.TableAnswer.{TableAnswer}
 
--- Refused with 2 for the lattice, beside zeros; otherwise the table of the shortest main diagonal and its number.
+-- The question of the choice of a table: "Are lattice entries finite, magnitude at most 2^30? No: 2."
+abbrev pub latticeQuestions : List (List Float) → List Question
+latticeQuestions a = asks 2 (isLattice a) ∷ []
+
+-- The answer with the table of the shortest main diagonal and its number, or with zeros.
 unfoldable pub tableAnswer : List (List Float) → TableAnswer
-tableAnswer a =
-    cond (isLattice a)
-    (record { refused = 0; index = mainDiagonalOf a; table = flat (tableOf (mainDiagonalOf a)) })
-    (record { refused = 2; index = 0; table = replicate 288 (pos 0) })
+tableAnswer a = record {
+  answer = answerOf (firstNo (latticeQuestions a));
+  index = afterCall (firstNo (latticeQuestions a)) (mainDiagonalOf a) 0;
+  table = afterCall (firstNo (latticeQuestions a)) (flat (tableOf (mainDiagonalOf a))) (replicate 288 (pos 0));
+}
 
 -- the four tables, one after the other
 unfoldable pub allTables : List ℤ

@@ -1,12 +1,13 @@
 // The choice of the neighbour table: the one whose main diagonal is shortest in the reciprocal lattice.
 ghost use mathlib.Core.Path.{_≡_};
 ghost use Rattle.relative_grid_address.specs.Answer.{tableAnswer, allTables};
+pub use ask::Answer;
 
 mod diagonal;
 
-// The table's 288 numbers and its number, or the number of the question that refuses it beside zeros.
+// The answer, and beside it the table's number and its 288 numbers, zeros beside a refusal.
 pub struct TableAnswer {
-    pub refused: u64,
+    pub answer: Answer,
     pub index: usize,
     pub table: [i64; 288],
 }
@@ -16,9 +17,9 @@ pub fn relative_grid_address(rec_lattice: [[f64; 3]; 3]) -> TableAnswer
     ensures { λ r. ⌜ r ≡ tableAnswer «rec_lattice» ⌝ }
 {
     let mut table = [0i64; 288];
-    if !common::kernel::lattice_ok(rec_lattice) {
+    if !lattice::kernel::lattice_ok(rec_lattice) {
         return TableAnswer {
-            refused: common::BAD_LATTICE,
+            answer: Answer::Refused(common::BAD_LATTICE),
             index: 0,
             table,
         };
@@ -26,7 +27,7 @@ pub fn relative_grid_address(rec_lattice: [[f64; 3]; 3]) -> TableAnswer
     let index = diagonal::get_main_diagonal(rec_lattice);
     tetrahedron_tables::kernel::copy_table(index, &mut table);
     TableAnswer {
-        refused: 0,
+        answer: Answer::Done,
         index,
         table,
     }

@@ -1,7 +1,7 @@
 // Triplets: whether their addresses add to zero, both copies of the neighbour table, and the weights of all triplets.
 ghost use Rattle.triplet_study.specs.Lent.{studyIn};
 ghost use Rattle.triplet_iw.specs.Calls.{DidFill};
-pub use triplet_addresses::CopyAnswer;
+pub use ask::Answer;
 pub use triplet_addresses::IsNAnswer;
 pub use triplet_addresses::is_n;
 pub use triplet_addresses::set_relative_grid_address;

@@ -2,7 +2,7 @@
 use mathlib.Core.Path.{_≡_, refl}
 use mathlib.Core.Bool.{Bool, true, false}
 use mathlib.Core.List.{List, append-nil}
-use Prim.Native.Nat.{ℕ, zero, suc, _-_, _*_, _≤_}
+use Prim.Native.Nat.{zero, suc, _-_, _*_, _≤_}
 use native.Mathlib.Omega.{arith}
 use borrow.Author.Tests.{leb-true}
 use borrow.Rule.Slice.PartMut.{putMid}
@@ -14,8 +14,7 @@ use mir.Val.{SFits}
 use Rattle.list_laws.specs.Lists.{at, tabulate}
 use Rattle.list_laws.specs.Signed.{within}
 use Rattle.list_laws.proofs.FillLaws.{length-tabulate, tabulate-at}
-use Rattle.triplet_addresses.specs.declared.CopyAnswer.the-variants.{Filled, Refused}
-use Rattle.triplet_addresses.specs.Copies.{copyOf, copiesOf, copyAnswer}
+use Rattle.triplet_addresses.specs.Copies.{copyOf, copiesOf}
 
 pub neg-fits : (z : ℤ) → within 4096 z ≡ true → SFits w64 (negℤ z)
 unfolding within
@@ -38,11 +37,3 @@ copies-are table l negated ys zs h e f =
     let rest : List ℤ = drop (length table - 0) (drop 0 l) in
     let short : length rest ≤ length l - length table = omega (arith, length-drop (length table - 0) (drop 0 l)) in
     rw (e, f, copy-plain table, take-at table rest (length table) refl, drop-at table rest (length table) refl, drop-of-length-le rest short, append-nil)
-
-pub filled-is : (n : ℕ) → n ≡ 0 → Filled ≡ copyAnswer n
-filled-is zero e = refl
-filled-is (suc n) e = absurd (omega arith)
-
-pub refused-is : (n m : ℕ) → m ≡ n → (n ≡ 0 → ⊥) → Refused n ≡ copyAnswer m
-refused-is zero m e h = absurd (h refl)
-refused-is (suc n) m e h = rw e

@@ -1,7 +1,7 @@
 -- Both copies of the neighbour table, for the second and for the third point of a triplet.
 use mathlib.Core.Bool.{Bool, _||_, cond}
 use mathlib.Core.List.{List, [], _∷_, _++_}
-use Prim.Native.Nat.{ℕ, zero, suc}
+use Prim.Native.Nat.{ℕ}
 use lib.IntN.{ℤ, negℤ}
 use lib.ListN.{length}
 use Rattle.list_laws.specs.Lists.{at, tabulate}
@@ -10,8 +10,6 @@ use Rattle.ask.specs.Ask.{Question, asks}
 use Rattle.question_values.specs.Counts.{isProduct}
 use Rattle.question_grids.specs.Tables.{isTable}
 use Rattle.question_values.specs.TpTypes.{isTpType}
-use Rattle.triplet_addresses.specs.declared.CopyAnswer.{CopyAnswer}
-use Rattle.triplet_addresses.specs.declared.CopyAnswer.the-variants.{Filled, Refused}
 
 -- "For triplet types 2 and 3 the second copy is negated; for 4 it is not."
 unfoldable pub isNegated : ℤ → Bool
@@ -36,8 +34,3 @@ bothCopies t table = copiesOf (isNegated t) table
 -- The questions of `set_relative_grid_address`: 7 the table, 8 the type, 12 the buffer.
 abbrev pub copyQuestions : List ℤ → ℤ → ℕ → List Question
 copyQuestions table t out = asks 7 (isTable table) ∷ asks 8 (isTpType t) ∷ asks 12 (isProduct 2 (length table) out) ∷ []
-
--- The answer of `set_relative_grid_address`, by the number of the first no: 0 is filled, any other is the refusal.
-abbrev pub copyAnswer : ℕ → CopyAnswer
-copyAnswer zero = Filled
-copyAnswer (suc n) = Refused (suc n)

@@ -2,8 +2,10 @@
 ghost use mathlib.Core.Path.{_≡_};
 ghost use lib.ListN.{length};
 ghost use Rattle.ask.specs.Ask.{firstNo, afterCall};
+ghost use Rattle.ask.specs.Answers.{answerOf};
 ghost use Rattle.triplet_addresses.specs.Normal.{isNQuestions, isNAnswer, isNormal};
-ghost use Rattle.triplet_addresses.specs.Copies.{copyQuestions, copyAnswer, bothCopies};
+ghost use Rattle.triplet_addresses.specs.Copies.{copyQuestions, bothCopies};
+pub use ask::Answer;
 
 mod copies;
 mod normal;
@@ -26,26 +28,21 @@ pub fn is_n(triplet: [i64; 3], bz_grid_addresses: &[i64]) -> IsNAnswer
     IsNAnswer::Normal(normal::is_normal(triplet, bz_grid_addresses))
 }
 
-pub enum CopyAnswer {
-    Filled,
-    Refused(u64),
-}
-
 // The neighbour table for the second and for the third point of a triplet, one copy after the other. Questions 7, 8, 12.
 pub fn set_relative_grid_address(
     out: &mut [i64],
     relative_grid_address: &[i64],
     tp_type: i64,
-) -> CopyAnswer
-    ensures { λ r. ⌜ r ≡ copyAnswer (firstNo (copyQuestions (now («relative_grid_address» .entry)) «tp_type» (length (now (out .entry))))) ⌝ }
+) -> Answer
+    ensures { λ r. ⌜ r ≡ answerOf (firstNo (copyQuestions (now («relative_grid_address» .entry)) «tp_type» (length (now (out .entry))))) ⌝ }
     ensures { λ r. ⌜ now (out .exit) ≡ afterCall (firstNo (copyQuestions (now («relative_grid_address» .entry)) «tp_type» (length (now (out .entry)))))
         (bothCopies «tp_type» (now («relative_grid_address» .entry)))
         (now (out .entry)) ⌝ }
 {
     let no = copies::copy_no(relative_grid_address, tp_type, out.len());
     if no != 0 {
-        return CopyAnswer::Refused(no);
+        return Answer::Refused(no);
     }
     copies::fill_copies(out, relative_grid_address, copies::is_negated(tp_type));
-    CopyAnswer::Filled
+    Answer::Done
 }

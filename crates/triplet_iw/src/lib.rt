@@ -1,7 +1,7 @@
 // Integration weights of triplets.
 ghost use Rattle.triplet_study.specs.Lent.{studyOfOne};
 ghost use Rattle.triplet_iw.specs.Calls.{DidFill};
-pub use averaging::AveragingAnswer;
+pub use ask::Answer;
 pub use averaging::average_weights_over_degenerate_sets;
 pub use triplet_channels::TpType;
 pub use triplet_channels::TpTypeAnswer;

@@ -7,7 +7,7 @@
 ghost use mathlib.Core.Path.{_≡_};
 ghost use Prim.Native.Nat.{_≤_, _<_};
 ghost use lib.ListN.{length};
-use averaging::AveragingAnswer;
+use ask::kernel::number_of;
 use common::kernel::magnitude;
 use replay_input::kernel as input;
 use replay_input::kernel::Cursor;
@@ -179,13 +179,6 @@ fn flag_runs_are(flags: &[i8], lengths: &[i64], runs: &[i64]) -> bool {
         r += 1;
     }
     at == flags.len()
-}
-
-fn number_of(answer: AveragingAnswer) -> u64 {
-    match answer {
-        AveragingAnswer::Averaged => 0,
-        AveragingAnswer::Refused(number) => number,
-    }
 }
 
 // Where the parts of a record on one buffer start.

@@ -10,7 +10,7 @@
 // Refusal 0 is an accepted call. Each block has its own grids.
 ghost use mathlib.Core.Path.{_≡_};
 ghost use lib.ListN.{length};
-use bzgrid::NeighbourAnswer;
+use ask::Answer;
 use grgrid::IndexAnswer;
 use replay_input::kernel as input;
 use replay_input::kernel::Cursor;
@@ -65,16 +65,16 @@ fn index_case(text: &[u8], c: Cursor) -> Judged {
 }
 
 // An accepted call filled the buffer with the stored numbers; a refused one gave its number and left the buffer as it was.
-fn buffer_agrees(answer: NeighbourAnswer, refusal: u64, out: &[i64], stored: &[i64]) -> bool {
+fn buffer_agrees(answer: Answer, refusal: u64, out: &[i64], stored: &[i64]) -> bool {
     match answer {
-        NeighbourAnswer::Filled => {
+        Answer::Done => {
             if refusal == 0 {
                 compare::same(out, stored)
             } else {
                 false
             }
         }
-        NeighbourAnswer::Refused(number) => {
+        Answer::Refused(number) => {
             if (0 < number) & (number == refusal) {
                 stamps::is_stamped(out)
             } else {
@@ -96,7 +96,7 @@ fn one_agrees(
     stored: &[i64],
 ) -> bool {
     stamps::stamp(out);
-    let answer = bzgrid::fill_neighboring_grid_points(
+    let answer = neighbours::fill_neighboring_grid_points(
         out,
         point,
         steps,
@@ -159,7 +159,7 @@ fn many_agrees(
     stored: &[i64],
 ) -> bool {
     stamps::stamp(out);
-    let answer = bzgrid::neighboring_grid_points_many(
+    let answer = neighbours::neighboring_grid_points_many(
         out,
         points,
         steps,
@@ -211,16 +211,16 @@ fn many_case(
     }
 }
 
-fn repeated_agrees(answer: NeighbourAnswer, refusal: u64, out: &[i64], stored: i64) -> bool {
+fn repeated_agrees(answer: Answer, refusal: u64, out: &[i64], stored: i64) -> bool {
     match answer {
-        NeighbourAnswer::Filled => {
+        Answer::Done => {
             if refusal == 0 {
                 compare::all_are(out, stored)
             } else {
                 false
             }
         }
-        NeighbourAnswer::Refused(_) => buffer_agrees(answer, refusal, out, out),
+        Answer::Refused(_) => buffer_agrees(answer, refusal, out, out),
     }
 }
 
@@ -238,7 +238,7 @@ fn crowd_agrees(
 ) -> bool {
     repeat(points, point);
     stamps::stamp(out);
-    let answer = bzgrid::neighboring_grid_points_many(
+    let answer = neighbours::neighboring_grid_points_many(
         out,
         points,
         steps,

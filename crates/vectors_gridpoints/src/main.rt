@@ -11,7 +11,7 @@
 // Refusal 0 is an accepted call. Each block has its own grids and studies.
 ghost use mathlib.Core.Path.{_≡_};
 ghost use lib.ListN.{length};
-use grid_point_weights::GridPointAnswer;
+use ask::Answer;
 use replay_input::kernel as input;
 use replay_input::kernel::Cursor;
 use replay_input::kernel::compare;
@@ -20,7 +20,6 @@ use replay_input::kernel::report::Count;
 use replay_input::kernel::report::Judged;
 use replay_input::kernel::stamps;
 use tetrahedron_method::WeightFunction;
-use triplet_addresses::CopyAnswer;
 use triplet_addresses::IsNAnswer;
 
 fn numbers() -> [i64; 4200]
@@ -93,16 +92,16 @@ fn function_of(n: u64) -> WeightFunction {
 }
 
 // An accepted call filled the buffer with the stored weights; a refused one gave its number and left the buffer as it was.
-fn weights_agree(answer: GridPointAnswer, refusal: u64, iw: &[f64], stored: &[f64]) -> bool {
+fn weights_agree(answer: Answer, refusal: u64, iw: &[f64], stored: &[f64]) -> bool {
     match answer {
-        GridPointAnswer::Filled => {
+        Answer::Done => {
             if refusal == 0 {
                 same_reals(iw, stored)
             } else {
                 false
             }
         }
-        GridPointAnswer::Refused(number) => {
+        Answer::Refused(number) => {
             if (0 < number) & (number == refusal) {
                 stamps::is_marked(iw)
             } else {
@@ -113,16 +112,16 @@ fn weights_agree(answer: GridPointAnswer, refusal: u64, iw: &[f64], stored: &[f6
 }
 
 // The same where every weight is the stored one.
-fn equal_weights_agree(answer: GridPointAnswer, refusal: u64, iw: &[f64], stored: f64) -> bool {
+fn equal_weights_agree(answer: Answer, refusal: u64, iw: &[f64], stored: f64) -> bool {
     match answer {
-        GridPointAnswer::Filled => {
+        Answer::Done => {
             if refusal == 0 {
                 all_real(iw, stored)
             } else {
                 false
             }
         }
-        GridPointAnswer::Refused(_) => weights_agree(answer, refusal, iw, iw),
+        Answer::Refused(_) => weights_agree(answer, refusal, iw, iw),
     }
 }
 
@@ -416,16 +415,16 @@ fn normal_case(text: &[u8], c: Cursor) -> Judged {
     }
 }
 
-fn copies_agree(answer: CopyAnswer, refusal: u64, out: &[i64], stored: &[i64]) -> bool {
+fn copies_agree(answer: Answer, refusal: u64, out: &[i64], stored: &[i64]) -> bool {
     match answer {
-        CopyAnswer::Filled => {
+        Answer::Done => {
             if refusal == 0 {
                 compare::same(out, stored)
             } else {
                 false
             }
         }
-        CopyAnswer::Refused(number) => {
+        Answer::Refused(number) => {
             if (0 < number) & (number == refusal) {
                 stamps::is_stamped(out)
             } else {

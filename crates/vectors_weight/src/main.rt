@@ -15,7 +15,8 @@
 // 7 and 8, where the weight over 24 equal rows, or the sum of those of the four vertices in turn, lies from the least to the greatest.
 ghost use mathlib.Core.Path.{_≡_};
 ghost use lib.ListN.{length};
-use common::MatvecAnswer;
+use ask::kernel::number_of;
+use lattice::MatvecAnswer;
 use relative_grid_address::TableAnswer;
 use replay_input::kernel as input;
 use replay_input::kernel::Cursor;
@@ -196,7 +197,8 @@ fn is_table(table: &[i64], number: u64) -> bool {
 
 fn table_agrees(answer: TableAnswer, refusal: u64, number: u64) -> bool {
     let table = answer.table;
-    if answer.refused != refusal {
+    let told = answer.answer;
+    if number_of(told) != refusal {
         return false;
     }
     if answer.index as u64 != number {
@@ -266,7 +268,8 @@ fn tables_case(text: &[u8], c: Cursor) -> Judged {
 // A refused product is three zeros.
 fn product_agrees(answer: MatvecAnswer, refusal: u64, x: f64, y: f64, z: f64) -> bool {
     let v = answer.vector;
-    (answer.refused == refusal)
+    let told = answer.answer;
+    (number_of(told) == refusal)
         & compare::same_bits(v[0], x)
         & compare::same_bits(v[1], y)
         & compare::same_bits(v[2], z)
@@ -284,7 +287,7 @@ fn product_case(text: &[u8], c: Cursor) -> Judged {
     let b = lattice.second;
     let d = lattice.third;
     let v = vector.value;
-    let answer = common::matvec_di(
+    let answer = lattice::matvec_di(
         [[a[0], a[1], a[2]], [b[0], b[1], b[2]], [d[0], d[1], d[2]]],
         v,
     );

@@ -6,14 +6,14 @@ use lib.Signed.{mag}
 use mir.Syntax.{w64}
 use mir.ValLaws.{toZ-ofZ}
 use Rattle.question_values.specs.TpTypes.{channelsOf}
-use Rattle.ask.proofs.AskLaws.{after-done, after-refused}
+use Rattle.ask.proofs.AskLaws.{after-done, kept}
+use Rattle.ask.proofs.AnswerLaws.{done-is, refused-is}
 use Rattle.averaging.specs.Answers.{averagingNo}
 use Rattle.averaging_blocks.specs.Weights.{averagedPoints}
 use Rattle.averaging_blocks.specs.Flags.{averagedFlagPoints}
-use Rattle.averaging.specs.declared.AveragingAnswer.the-variants.{Refused}
 use Rattle.averaging_blocks.proofs.SizeLaws.{points-le}
 use Rattle.questions.proofs.StudyLaws.{channels-le}
-use Rattle.averaging.proofs.AnswerLaws.{Accepted, accepted, answer-refused, answer-done}
+use Rattle.averaging.proofs.AnswerLaws.{Accepted, accepted}
 use borrow.Author.Needs.{needs}
 use Rattle.averaging.proofs.average_weights_over_degenerate_sets.Statement.{statement}
 use Rattle.averaging.proofs.average_weights_over_degenerate_sets.Tie as tie
@@ -61,11 +61,8 @@ same-length-2 c = search needs
 
 returns : tie.Need-returns
 returns c =
-    let args = c .before .before .before .before .before .args in
-    let no = averagingNo (args .iw .now) (args .iw-zero .now) (args .degenerate-ids1 .now) (args .degenerate-ids2 .now) (args .num-band0) (args .num-band) (args .tp-type) in
-    let e = no-is (c .before) in
-    let refused : no ≡ 0 → ⊥ = λ z. c .if1 .taken (e ∙ z) in
-    (ap Refused e ∙ answer-refused no refused, (after-refused no _ _ refused, after-refused no _ _ refused))
+    let e = sym (no-is (c .before)) in
+    (refused-is _ _ e (c .if1 .taken), (kept _ _ _ _ e (c .if1 .taken), kept _ _ _ _ e (c .if1 .taken)))
 
 magnitude-requires : tie.Need-magnitude-requires
 magnitude-requires c κs = search needs
@@ -107,7 +104,7 @@ returns-2 c =
     let b = bands-are (c .before .before .before .before .before .before .before .before .before) in
     let p = points-are (c .before .before .before .before .before .before .before .before) in
     let k = channels-are (c .before .before .before .before .before .before .before) in (
-      answer-done no e,
+      done-is no e,
       (
         c .before .before .before .before .before .average-points .ensures
             ∙ (λ i. averagedPoints (b i) (args .degenerate-ids1 .now) (args .degenerate-ids2 .now) (k i * p i) (args .iw .now))

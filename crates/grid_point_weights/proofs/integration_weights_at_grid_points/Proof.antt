@@ -8,7 +8,9 @@ use mathlib.Core.Path.{_∙_, _≡_, sym}
 use mir.Syntax.{w64}
 use mir.ValLaws.{toZ-ofZ}
 use Rattle.bzgrid.proofs.CallLaws.{grid-numbered}
-use Rattle.grid_point_weights.proofs.CallLaws.{filled-is, refused-is, sound-study, weights-numbered}
+use Rattle.bzgrid.specs.Neighbours.{gridOf}
+use Rattle.grid_point_weights.proofs.CallLaws.{sound-study, weights-numbered}
+use Rattle.ask.proofs.AnswerLaws.{done-is, refused-is}
 use Rattle.grid_point_weights.specs.Calls.{weightsQuestions}
 use Rattle.list_laws.specs.Lists.{at}
 use Rattle.ask.proofs.AskLaws.{after-done, all-yes, group-no, group-yes, kept}
@@ -22,21 +24,69 @@ abbrev grids : tie.Start → List Question
 grids s = gridQuestions (s .args .bz-grid-type) (s .args .d-diag) (s .args .addresses .now) (s .args .gp-map .now)
 
 abbrev others : tie.Start → List Question
-others s = weightsQuestions (s .args .relative-grid-address .now) (s .args .num-band) (s .args .frequency-points .now) (s .args .grid-points .now) (triplesIn (s .args .addresses .now)) (s .args .num-ir) (s .args .frequencies .now) (s .args .gp2irgp-map .now) (length (s .args .iw .now))
+others s =
+    weightsQuestions (s .args .relative-grid-address .now) (s .args .num-band) (s .args .frequency-points .now) (s .args .grid-points .now) (triplesIn (s .args .addresses .now)) (s .args .num-ir)
+    (s .args .frequencies .now) (s .args .gp2irgp-map .now) (length (s .args .iw .now))
+
+-- ---- what each callee tells of the arguments
+
+grid-told : (c : tie.After-grid-no) → c .grid-no .result ≡ firstNo (grids (c .before .before .before .before))
+grid-told c =
+    let start = c .before .before .before .before in
+    rw (toZ-ofZ w64 (start .args .bz-grid-type) (start .fits .bz-grid-type)) at (c .grid-no .ensures)
+
+grid-yes : (c : tie.Else1) → firstNo (grids (c .before .before .before .before .before)) ≡ 0
+grid-yes c = sym (grid-told (c .before)) ∙ c .if1 .left
+
+others-told : (c : tie.After-weights-no) → c .weights-no .result ≡ firstNo (others (c .before .before .before .before .before .before))
+others-told c =
+    let start = c .before .before .before .before .before .before in
+    rw (toZ-ofZ w64 (start .args .num-band) (start .fits .num-band), toZ-ofZ w64 (start .args .num-ir) (start .fits .num-ir)) at (c .weights-no .ensures)
+
+-- all questions in a row
+told : (c : tie.After-weights-no) → firstNo (grids (c .before .before .before .before .before .before) ++ others (c .before .before .before .before .before .before)) ≡ c .weights-no .result
+told c =
+    let start = c .before .before .before .before .before .before in
+    let args = start .args in
+    group-yes (grids start) (others start) (grid-numbered (args .bz-grid-type) (args .d-diag) (args .addresses .now) (args .gp-map .now)) (grid-yes (c .before)) ∙ sym (others-told c)
+
+others-yes : (c : tie.Else2) → AllYes (others (c .before .before .before .before .before .before .before))
+others-yes c =
+    let args = c .before .before .before .before .before .before .before .args in
+    let numbered =
+    weights-numbered (args .relative-grid-address .now) (args .num-band) (args .frequency-points .now) (args .grid-points .now) (triplesIn (args .addresses .now)) (args .num-ir)
+    (args .frequencies .now) (args .gp2irgp-map .now) (length (args .iw .now)) in
+    all-yes (others (c .before .before .before .before .before .before .before)) numbered (sym (others-told (c .before)) ∙ c .if2 .left)
+
+grid-is : (c : tie.After-grid-of) → c .grid-of .result ≡ gridOf (c .before .before .before .before .before .before .before .before .args .bz-grid-type) (c .before .before .before .before .before .before .before .before .args .d-diag)
+grid-is c =
+    let start = c .before .before .before .before .before .before .before .before in
+    rw (toZ-ofZ w64 (start .args .bz-grid-type) (start .fits .bz-grid-type)) at (c .grid-of .ensures)
+
+bands-are : (c : tie.After-magnitude) → c .magnitude .result ≡ mag (c .before .before .before .before .before .before .before .before .before .args .num-band)
+bands-are c =
+    let start = c .before .before .before .before .before .before .before .before .before in
+    rw (toZ-ofZ w64 (start .args .num-band) (start .fits .num-band)) at (c .magnitude .ensures)
+
+-- ---- the needs
 
 grid-no-requires : tie.Need-grid-no-requires
 grid-no-requires c κs = search needs
 
 returns : tie.Need-returns
 returns c =
-    let s : _ = c .before .before .before .before .before in let bn : _ = toZ-ofZ w64 (c .before .before .before .before .before .args .num-band) (c .before .before .before .before .before .fits .num-band) in let br : _ = toZ-ofZ w64 (c .before .before .before .before .before .args .num-ir) (c .before .before .before .before .before .fits .num-ir) in let b : _ = toZ-ofZ w64 (s .args .bz-grid-type) (s .fits .bz-grid-type) in let gp : c .before .grid-no .result ≡ firstNo (grids s) = rw b at (c .before .grid-no .ensures) in let e : firstNo (grids s ++ others s) ≡ c .before .grid-no .result = group-no (grids s) (others s) (λ z. c .if1 .taken (gp ∙ z)) ∙ sym gp in (refused-is _ _ e (c .if1 .taken), kept _ _ _ _ e (c .if1 .taken))
+    let start = c .before .before .before .before .before in
+    let g = grid-told (c .before) in
+    let e = group-no (grids start) (others start) (λ z. c .if1 .taken (g ∙ z)) ∙ sym g in
+    (refused-is _ _ e (c .if1 .taken), kept _ _ _ _ e (c .if1 .taken))
 
 weights-no-requires : tie.Need-weights-no-requires
 weights-no-requires c κs = search needs
 
 returns-2 : tie.Need-returns-2
 returns-2 c =
-    let s : _ = c .before .before .before .before .before .before .before in let bn : _ = toZ-ofZ w64 (c .before .before .before .before .before .before .before .args .num-band) (c .before .before .before .before .before .before .before .fits .num-band) in let br : _ = toZ-ofZ w64 (c .before .before .before .before .before .before .before .args .num-ir) (c .before .before .before .before .before .before .before .fits .num-ir) in let b : _ = toZ-ofZ w64 (s .args .bz-grid-type) (s .fits .bz-grid-type) in let gp : c .before .before .before .grid-no .result ≡ firstNo (grids s) = rw b at (c .before .before .before .grid-no .ensures) in let z : firstNo (grids s) ≡ 0 = sym gp ∙ c .before .before .if1 .left in let n : c .before .weights-no .result ≡ firstNo (others s) = rw (bn, br) at (c .before .weights-no .ensures) in let e : firstNo (grids s ++ others s) ≡ c .before .weights-no .result = group-yes (grids s) (others s) (grid-numbered (s .args .bz-grid-type) (s .args .d-diag) (s .args .addresses .now) (s .args .gp-map .now)) z ∙ sym n in (refused-is _ _ e (c .if2 .taken), kept _ _ _ _ e (c .if2 .taken))
+    let e = told (c .before) in
+    (refused-is _ _ e (c .if2 .taken), kept _ _ _ _ e (c .if2 .taken))
 
 grid-of-requires : tie.Need-grid-of-requires
 grid-of-requires c κs = search needs
@@ -46,15 +96,23 @@ magnitude-requires c κs = search needs
 
 fill-all-requires : tie.Need-fill-all-requires
 fill-all-requires c κs =
-    let s : _ = c .before .before .before .before .before .before .before .before .before .before in let bn : _ = toZ-ofZ w64 (c .before .before .before .before .before .before .before .before .before .before .args .num-band) (c .before .before .before .before .before .before .before .before .before .before .fits .num-band) in let br : _ = toZ-ofZ w64 (c .before .before .before .before .before .before .before .before .before .before .args .num-ir) (c .before .before .before .before .before .before .before .before .before .before .fits .num-ir) in let b : _ = toZ-ofZ w64 (s .args .bz-grid-type) (s .fits .bz-grid-type) in let gp : c .before .before .before .before .before .before .grid-no .result ≡ firstNo (grids s) = rw b at (c .before .before .before .before .before .before .grid-no .ensures) in let z : firstNo (grids s) ≡ 0 = sym gp ∙ c .before .before .before .before .before .if1 .left in let n : c .before .before .before .before .weights-no .result ≡ firstNo (others s) = rw (bn, br) at (c .before .before .before .before .weights-no .ensures) in let y : AllYes (others s) = all-yes (others s) (weights-numbered (s .args .relative-grid-address .now) (s .args .num-band) (s .args .frequency-points .now) (s .args .grid-points .now) (triplesIn (s .args .addresses .now)) (s .args .num-ir) (s .args .frequencies .now) (s .args .gp2irgp-map .now) (length (s .args .iw .now))) (sym n ∙ c .before .before .before .if2 .left) in rw (rw b at (c .before .before .grid-of .ensures), rw bn at (c .before .magnitude .ensures)) (sound-study (s .args .bz-grid-type) (s .args .d-diag) (s .args .addresses .now) (s .args .gp-map .now) (s .args .relative-grid-address .now) (s .args .num-band) (s .args .frequency-points .now) (s .args .grid-points .now) (s .args .num-ir) (s .args .frequencies .now) (s .args .gp2irgp-map .now) (length (s .args .iw .now)) (s .args .function) z y, (y .1 .1 .0, product-yes (length (s .args .grid-points .now)) (length (s .args .frequency-points .now) * mag (s .args .num-band)) (length (s .args .iw .now)) (y .1 .1 .1 .1 .0)))
+    let asked = c .before .before .before in
+    let args = asked .before .before .before .before .before .before .before .args in
+    let y = others-yes asked in
+    let sound =
+    sound-study (args .bz-grid-type) (args .d-diag) (args .addresses .now) (args .gp-map .now) (args .relative-grid-address .now) (args .num-band) (args .frequency-points .now)
+    (args .grid-points .now) (args .num-ir) (args .frequencies .now) (args .gp2irgp-map .now) (length (args .iw .now)) (args .function) (grid-yes (asked .before .before)) y in
+    let fits = product-yes (length (args .grid-points .now)) (length (args .frequency-points .now) * mag (args .num-band)) (length (args .iw .now)) (y .1 .1 .1 .1 .0) in
+    rw (grid-is (c .before .before), bands-are (c .before)) (sound, (y .1 .1 .0, fits))
 
 same-length : tie.Need-same-length
-same-length c =
-    search needs
+same-length c = search needs
 
 returns-3 : tie.Need-returns-3
 returns-3 c =
-    let s : _ = c .before .before .before .before .before .before .before .before .before .before .before .before .before in let bn : _ = toZ-ofZ w64 (c .before .before .before .before .before .before .before .before .before .before .before .before .before .args .num-band) (c .before .before .before .before .before .before .before .before .before .before .before .before .before .fits .num-band) in let br : _ = toZ-ofZ w64 (c .before .before .before .before .before .before .before .before .before .before .before .before .before .args .num-ir) (c .before .before .before .before .before .before .before .before .before .before .before .before .before .fits .num-ir) in let b : _ = toZ-ofZ w64 (s .args .bz-grid-type) (s .fits .bz-grid-type) in let gp : c .before .before .before .before .before .before .before .before .before .grid-no .result ≡ firstNo (grids s) = rw b at (c .before .before .before .before .before .before .before .before .before .grid-no .ensures) in let z : firstNo (grids s) ≡ 0 = sym gp ∙ c .before .before .before .before .before .before .before .before .if1 .left in let n : c .before .before .before .before .before .before .before .weights-no .result ≡ firstNo (others s) = rw (bn, br) at (c .before .before .before .before .before .before .before .weights-no .ensures) in let e : firstNo (grids s ++ others s) ≡ 0 = group-yes (grids s) (others s) (grid-numbered (s .args .bz-grid-type) (s .args .d-diag) (s .args .addresses .now) (s .args .gp-map .now)) z ∙ sym n ∙ c .before .before .before .before .before .before .if2 .left in (filled-is _ e, rw (rw b at (c .before .before .before .before .before .grid-of .ensures), rw bn at (c .before .before .before .before .magnitude .ensures)) at (c .before .before .fill-all .ensures) ∙ after-done _ _ _ e)
+    let asked = c .before .before .before .before .before .before in
+    let e = told (asked .before) ∙ asked .if2 .left in
+    (done-is _ e, rw (grid-is (c .before .before .before .before .before), bands-are (c .before .before .before .before)) at (c .before .before .fill-all .ensures) ∙ after-done _ _ _ e)
 
 pub integration-weights-at-grid-points-spec : {M : Type 1} → statement M
 integration-weights-at-grid-points-spec =

@@ -1,6 +1,7 @@
 -- Question 2, and then the table of the diagonal that is picked. Assumes nothing.
 use mathlib.Core.Path.{refl}
 use Rattle.list_laws.proofs.BoolLaws.{yes-of, no-of}
+use Rattle.ask.specs.Ask.{firstNo}
 use Rattle.relative_grid_address.specs.Answer.{tableAnswer}
 use Rattle.relative_grid_address.proofs.DiagonalLaws.{main-diagonal-lt}
 use borrow.Author.Needs.{needs}
@@ -11,7 +12,7 @@ lattice-ok-requires : tie.Need-lattice-ok-requires
 lattice-ok-requires c κs = search needs
 
 returns : tie.Need-returns
-unfolding tableAnswer
+unfolding tableAnswer firstNo
 returns c = rw (no-of (c .before .lattice-ok .ensures) (c .if1 .taken))
 
 get-main-diagonal-requires : tie.Need-get-main-diagonal-requires
@@ -25,7 +26,7 @@ copy-table-requires c κs =
     (rw (c .before .get-main-diagonal .ensures) (main-diagonal-lt (c .before .before .before .before .args .rec-lattice)), refl)
 
 returns-2 : tie.Need-returns-2
-unfolding tableAnswer
+unfolding tableAnswer firstNo
 returns-2 c =
     let e : _ = c .before .before .before .before in
     rw (yes-of (e .before .lattice-ok .ensures) (e .if1 .left), c .before .copy-table .ensures, c .before .before .before .get-main-diagonal .ensures)

@@ -11,7 +11,7 @@ use Rattle.ask.proofs.AskLaws.{after-done, all-yes, kept}
 use Rattle.question_grids.proofs.StepLaws.{product-yes}
 use Rattle.question_grids.proofs.TableLaws.{table-triples}
 use Rattle.ask.specs.Ask.{AllYes, Question, firstNo}
-use Rattle.triplet_addresses.proofs.CopyLaws.{filled-is, refused-is}
+use Rattle.ask.proofs.AnswerLaws.{done-is, refused-is}
 use Rattle.triplet_addresses.specs.Copies.{copyQuestions}
 use Rattle.triplet_addresses.proofs.set_relative_grid_address.Statement.{statement}
 use Rattle.triplet_addresses.proofs.set_relative_grid_address.Tie as tie
@@ -38,7 +38,7 @@ same-length c = search needs
 
 returns-2 : tie.Need-returns-2
 returns-2 c =
-    let s : _ = c .before .before .before .before .before .before in let b : _ = toZ-ofZ w64 (c .before .before .before .before .before .before .args .tp-type) (c .before .before .before .before .before .before .fits .tp-type) in let n : c .before .before .before .before .before .copy-no .result ≡ firstNo (asked s) = rw b at (c .before .before .before .before .before .copy-no .ensures) in let e : firstNo (asked s) ≡ 0 = sym n ∙ c .before .before .before .before .if1 .left in (filled-is _ e, rw (rw b at (c .before .before .is-negated .ensures)) at (c .before .fill-copies .ensures) ∙ after-done _ _ _ e)
+    let s : _ = c .before .before .before .before .before .before in let b : _ = toZ-ofZ w64 (c .before .before .before .before .before .before .args .tp-type) (c .before .before .before .before .before .before .fits .tp-type) in let n : c .before .before .before .before .before .copy-no .result ≡ firstNo (asked s) = rw b at (c .before .before .before .before .before .copy-no .ensures) in let e : firstNo (asked s) ≡ 0 = sym n ∙ c .before .before .before .before .if1 .left in (done-is _ e, rw (rw b at (c .before .before .is-negated .ensures)) at (c .before .fill-copies .ensures) ∙ after-done _ _ _ e)
 
 pub set-relative-grid-address-spec : {M : Type 1} → statement M
 set-relative-grid-address-spec =

@@ -7,13 +7,20 @@ use Rattle.pelmetsavory.proofs.grids.pelmetsavory_matvec_di.Tie as tie
 matvec-di-requires : tie.Need-matvec-di-requires
 matvec-di-requires c κs = search needs
 
+number-of-requires : tie.Need-number-of-requires
+number-of-requires c κs = search needs
+
 returns : tie.Need-returns
-returns c =
-    matvec-refused _ _ _ (c .before .matvec-di .ensures) _ (c .if1 .taken)
+returns c = matvec-refused _ _ _ (c .before .before .matvec-di .ensures) _ (c .before .number-of .ensures) _ (c .if1 .taken)
 
 returns-2 : tie.Need-returns-2
-returns-2 c =
-    matvec-done _ _ _ (c .before .before .matvec-di .ensures) _ (c .before .if1 .left)
+returns-2 c = matvec-done _ _ _ (c .before .before .before .matvec-di .ensures) _ (c .before .before .number-of .ensures) _ (c .before .if1 .left)
 
 pub pelmetsavory-matvec-di-spec : {M : Type 1} → statement M
-pelmetsavory-matvec-di-spec = tie.close (tie.spec matvec-di-requires returns returns-2)
+pelmetsavory-matvec-di-spec =
+    tie.close
+    (tie.spec
+    matvec-di-requires
+    number-of-requires
+    returns
+    returns-2)

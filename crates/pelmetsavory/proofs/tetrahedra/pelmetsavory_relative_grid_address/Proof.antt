@@ -7,14 +7,20 @@ use Rattle.pelmetsavory.proofs.tetrahedra.pelmetsavory_relative_grid_ad
 relative-grid-address-requires : tie.Need-relative-grid-address-requires
 relative-grid-address-requires c κs = search needs
 
+number-of-requires : tie.Need-number-of-requires
+number-of-requires c κs = search needs
+
 returns : tie.Need-returns
-returns c =
-    table-refused _ _ (c .before .relative-grid-address .ensures) _ _ (c .if1 .taken)
+returns c = table-refused _ _ (c .before .before .relative-grid-address .ensures) _ (c .before .number-of .ensures) _ _ (c .if1 .taken)
 
 returns-2 : tie.Need-returns-2
-returns-2 c =
-    table-done _ _ (c .before .before .relative-grid-address .ensures) _ _ (c .before .if1 .left)
+returns-2 c = table-done _ _ (c .before .before .before .relative-grid-address .ensures) _ (c .before .before .number-of .ensures) _ _ (c .before .if1 .left)
 
 pub pelmetsavory-relative-grid-address-spec : {M : Type 1} → statement M
 pelmetsavory-relative-grid-address-spec =
-    tie.close (tie.spec relative-grid-address-requires returns returns-2)
+    tie.close
+    (tie.spec
+    relative-grid-address-requires
+    number-of-requires
+    returns
+    returns-2)

@@ -1,8 +1,10 @@
 -- `pelmetsavory::triplets::pelmetsavory_average_weights_over_degenerate_sets` meets its contract: the answer as a status. Assumes nothing.
 use borrow.Author.Needs.{needs}
+use mathlib.Core.Path.{_∙_, ap}
 use mir.Syntax.{w64}
 use mir.ValLaws.{toZ-ofZ}
-use Rattle.pelmetsavory.proofs.StatusLaws.{averaging-status}
+use Rattle.ask.proofs.AnswerLaws.{number-is}
+use Rattle.ask.specs.Answers.{answerNumber}
 use Rattle.pelmetsavory.proofs.triplets.pelmetsavory_average_weights_over_degenerate_sets.Statement.{statement}
 use Rattle.pelmetsavory.proofs.triplets.pelmetsavory_average_weights_over_degenerate_sets.Tie as tie
 
@@ -10,11 +12,8 @@ average-weights-over-degenerate-sets-requires :
     tie.Need-average-weights-over-degenerate-sets-requires
 average-weights-over-degenerate-sets-requires c κs = search needs
 
-enum-told : tie.Need-enum-told
-enum-told c = search needs
-
-enum-known-number : tie.Need-enum-known-number
-enum-known-number c = search needs
+number-of-requires : tie.Need-number-of-requires
+number-of-requires c κs = search needs
 
 same-length : tie.Need-same-length
 same-length c = search needs
@@ -24,28 +23,19 @@ same-length-2 c = search needs
 
 returns : tie.Need-returns
 returns c =
-    let e : _ = rw (toZ-ofZ w64 (c .before .before .before .before .before .before .before .before .before .args .num-band0) (c .before .before .before .before .before .before .before .before .before .fits .num-band0), toZ-ofZ w64 (c .before .before .before .before .before .before .before .before .before .args .num-band) (c .before .before .before .before .before .before .before .before .before .fits .num-band), toZ-ofZ w64 (c .before .before .before .before .before .before .before .before .before .args .tp-type) (c .before .before .before .before .before .before .before .before .before .fits .tp-type)) at (c .before .before .before .before .before .average-weights-over-degenerate-sets .ensures) in (averaging-status _ _ _ (e .0) (c .enum-told .given .1), e .1)
-
-same-length-3 : tie.Need-same-length-3
-same-length-3 c = search needs
-
-same-length-4 : tie.Need-same-length-4
-same-length-4 c = search needs
-
-returns-2 : tie.Need-returns-2
-returns-2 c =
-    let e : _ = rw (toZ-ofZ w64 (c .before .before .before .before .before .before .before .before .before .before .args .num-band0) (c .before .before .before .before .before .before .before .before .before .before .fits .num-band0), toZ-ofZ w64 (c .before .before .before .before .before .before .before .before .before .before .args .num-band) (c .before .before .before .before .before .before .before .before .before .before .fits .num-band), toZ-ofZ w64 (c .before .before .before .before .before .before .before .before .before .before .args .tp-type) (c .before .before .before .before .before .before .before .before .before .before .fits .tp-type)) at (c .before .before .before .before .before .before .average-weights-over-degenerate-sets .ensures) in (averaging-status _ _ _ (e .0) (c .before .number .given .1), e .1)
+    let start = c .before .before .before .before .before .before .before .before in
+    let points = toZ-ofZ w64 (start .args .num-band0) (start .fits .num-band0) in
+    let bands = toZ-ofZ w64 (start .args .num-band) (start .fits .num-band) in
+    let type = toZ-ofZ w64 (start .args .tp-type) (start .fits .tp-type) in
+    let e : _ = rw (points, bands, type) at (c .before .before .before .before .average-weights-over-degenerate-sets .ensures) in
+    (c .number-of .ensures ∙ ap answerNumber (e .0) ∙ number-is _, e .1)
 
 pub pelmetsavory-average-weights-over-degenerate-sets-spec : {M : Type 1} → statement M
 pelmetsavory-average-weights-over-degenerate-sets-spec =
     tie.close
     (tie.spec
     average-weights-over-degenerate-sets-requires
-    enum-told
-    enum-known-number
+    number-of-requires
     same-length
     same-length-2
-    returns
-    same-length-3
-    same-length-4
-    returns-2)
+    returns)
