@@ -1,5 +1,5 @@
 -- `listing::kernel::put_line` meets its contract. Assumes nothing.
-use Prim.Native.Nat.{_%_, _/_}
+use Prim.Native.Nat.{ℕ, _%_, _/_}
 use borrow.Author.Needs.{needs}
 use lib.ListN.{length}
 use native.Mathlib.Omega.{arith}
@@ -55,7 +55,15 @@ same-length c = search needs
 returns : tie.Need-returns
 unfolding lineOf
 returns c =
-    let g : _ = rw (c .before .before .before .before .before .before .before .flag-at .ensures) at (c .before .before .before .before .before .before .put-front .ensures) in wrote-both (c .before .before .before .before .before .before .before .before .before .before .before .args .at) (frontOf (c .before .before .before .before .before .before .before .before .before .before .before .args .e / c .before .before .before .before .before .before .before .before .before .before .before .args .bands2 / c .before .before .before .before .before .before .before .before .before .before .before .args .bands1 / c .before .before .before .before .before .before .before .before .before .before .before .args .points) (c .before .before .before .before .before .before .before .before .before .before .before .args .e / c .before .before .before .before .before .before .before .before .before .before .before .args .bands2 / c .before .before .before .before .before .before .before .before .before .before .before .args .bands1 % c .before .before .before .before .before .before .before .before .before .before .before .args .points) (c .before .before .before .before .before .before .before .before .before .before .before .args .e / c .before .before .before .before .before .before .before .before .before .before .before .args .bands2 % c .before .before .before .before .before .before .before .before .before .before .before .args .bands1) (c .before .before .before .before .before .before .before .before .before .before .before .args .e % c .before .before .before .before .before .before .before .before .before .before .before .args .bands2) (flagAt (c .before .before .before .before .before .before .before .before .before .before .before .args .flags .now) (c .before .before .before .before .before .before .before .before .before .before .before .args .e))) (weightsOf (c .before .before .before .before .before .before .before .before .before .before .before .args .weights .now) (length (c .before .before .before .before .before .before .before .before .before .before .before .args .flags .now)) (c .before .before .before .before .before .before .before .before .before .before .before .args .e) (c .before .before .before .before .before .before .before .before .before .before .before .args .channels)) (c .before .before .before .before .before .before .before .before .before .before .before .args .out .now) _ _ _ _ (g .0) (g .1) (c .before .before .put-weights .ensures .0) (c .before .before .put-weights .ensures .1) (c .before .before .before .before .before .before .before .before .before .before .before .pre .1)
+    let s : _ = c .before .before .before .before .before .before .before .before .before .before .before in
+    let a : _ = s .args in
+    let row : ℕ = a .e / a .bands2 / a .bands1 in
+    let g : _ = rw (c .before .before .before .before .before .before .before .flag-at .ensures) at (c .before .before .before .before .before .before .put-front .ensures) in
+    let w : _ = c .before .before .put-weights .ensures in
+    wrote-both (a .at)
+    (frontOf (row / a .points) (row % a .points) (a .e / a .bands2 % a .bands1) (a .e % a .bands2) (flagAt (a .flags .now) (a .e)))
+    (weightsOf (a .weights .now) (length (a .flags .now)) (a .e) (a .channels))
+    (a .out .now) _ _ _ _ (g .0) (g .1) (w .0) (w .1) (s .pre .1)
 
 pub put-line-spec : {M : Type 1} → statement M
 put-line-spec =
