@@ -17,7 +17,7 @@ use Rattle.listing.specs.Listings.{refusalOf}
 use Rattle.study_head.specs.declared.Head.{Head}
 use Rattle.study.specs.declared.StudyRead.{StudyRead}
 use Rattle.study.specs.declared.StudyRead.the-variants as S
-use Rattle.study.specs.Studies.{Study, Holds, holds, holdsNone, studyIn}
+use Rattle.study.specs.Studies.{StudyText, Holds, holds, holdsNone, studyIn}
 use Rattle.study.specs.Told.{toldStudy}
 use Rattle.study_print.proofs.StudyOnlyLaws.{PrintedOnly, printed-only}
 use Rattle.study_print.proofs.LengthLaws.{Small, study-small}
@@ -57,7 +57,7 @@ none-held text r x₁ x₂ x₃ x₄ x₅ x₆ e g = rw (e, g)
 -- a text that holds one
 module _ (text : List ℕ) (r : StudyRead) (x₁ x₂ : List ℤ) (x₃ x₄ x₅ : List ℕ) (x₆ : List ℤ) (h : Head) (a m i j k t : ℕ)
     (e : studyIn text ≡ toldStudy r x₁ x₂ x₃ x₄ x₅ x₆) (g : r ≡ S.Read h a m i j k t) where
-  abbrev held : Study
+  abbrev held : StudyText
   held = record { head = h; addresses = take a x₁; gp-map = take m x₂; f1 = take i x₃; f2 = take j x₄; points = take k x₅; triplets = take t x₆ }
 
   holds-it : studyIn text ≡ holds held
@@ -101,7 +101,7 @@ answer-within r text old new e g = omega (arith, e, ap length g, length-append (
 
 -- ---- how long an answer can be
 
-module _ (s : Study) (w : Small s) where
+module _ (s : StudyText) (w : Small s) where
   by-number : (n : ℕ) → firstNo (questionsOf (askedOf s)) ≡ n → length (answerBy n (listingFor (studyOf (askedOf s)))) ≤ 118617
   by-number zero e = listing-room (askedOf s) e (omega (arith, length-floats (s .points), w .points)) (w .triplets)
   by-number (suc n) e = omega (arith, refusal-short (suc n))
