@@ -80,8 +80,8 @@ loop-again c =
     let b : _ = c .before .before .put-bits in
     let g : _ = spelled (c .before .before .before .before) in
     let w : _ = piece-next (weight s) (s .args .at) (s .args .out .now) (l .out) _ (l .c) (s .args .channels) (l .p) _ (c .before .before .before .before .before .before .before .loop-test .taken) (l .inv .2) (l .inv .3)
-        (b .ensures .0 ∙ ap (λ (x : List ℕ). l .p + length x) g)
-        (b .ensures .1 ∙ ap (λ (x : List ℕ). written (l .p) x (l .out)) g) (s .pre .2) in
+    (b .ensures .0 ∙ ap (λ (x : List ℕ). l .p + length x) g)
+    (b .ensures .1 ∙ ap (λ (x : List ℕ). written (l .p) x (l .out)) g) (s .pre .2) in
     (omega arith, b .kept .0 ∙ l .inv .1, w .0, w .1)
 
 same-length : tie.Need-same-length Inv-loop μ-loop

@@ -96,7 +96,7 @@ loop-again c =
       simp length-set (l .inv .1),
       take-set-le (a .at) (l .out) (a .at + l .i) n (omega arith) ∙ l .inv .2,
       row-more wholeField (a .line .now) (a .p) (a .count) (l .out) (a .at) (l .from) (l .i) (l .inv .3) (omega arith) (omega arith) (cut .result) (cut .ensures .0) n
-      (rw (toZ-ofZ {w = w64} {z = z .0 .0} (search needs)) (ap wholeGot (sym (z .1) ∙ c .before .before .before .parse-whole .ensures))) (omega arith),
+          (rw (toZ-ofZ {w = w64} {z = z .0 .0} (search needs)) (ap wholeGot (sym (z .1) ∙ c .before .before .before .parse-whole .ensures))) (omega arith),
     )
 
 same-length-3 : tie.Need-same-length-3 Inv-loop μ-loop
