@@ -1,5 +1,5 @@
 -- The study that a text holds: a text is cut into lines, a line into fields, and the lines are read section by section.
-use mathlib.Core.Bool.{Bool, cond, _&&_}
+use mathlib.Core.Bool.{cond, _&&_}
 use mathlib.Core.List.{List, [], _∷_}
 use Prim.Native.Nat.{ℕ}
 use lib.Dec.{leb, eqb}

@@ -1,7 +1,7 @@
 -- `sections::kernel::parse_line` meets its contract. Assumes nothing.
 use Prim.Native.Nat.{ℕ}
 use mathlib.Core.Path.{_≡_, refl, sym, ap, _∙_}
-use mathlib.Core.Bool.{Bool, true, false}
+use mathlib.Core.Bool.{Bool}
 use native.Mathlib.Omega.{arith}
 use lib.ListN.{take, drop}
 use lib.Seq.{length-take-le}
@@ -10,11 +10,6 @@ use Rattle.sections.proofs.LineLaws.{kind-other, kind-is}
 use borrow.Author.Needs.{needs}
 use Rattle.sections.proofs.kernel.parse_line.Statement.{statement}
 use Rattle.sections.proofs.kernel.parse_line.Tie as tie
-use Rattle.sections.proofs.kernel.parse_line.Reads as reads
-use Rattle.sections.proofs.kernel.parse_line.Lts as lts
-use Rattle.check.proofs.same.Reads as same-reads
-use Rattle.text.proofs.kernel.cut.Reads as cut-reads
-use Rattle.sections.proofs.kernel.parse_wholes.Reads as parse-wholes-reads
 
 cut-requires : tie.Need-cut-requires
 cut-requires c κs = search needs

@@ -1,5 +1,5 @@
 -- `sections::kernel::parse_rows` meets its contract. Assumes nothing.
-use Prim.Native.Nat.{ℕ, _+_, _-_, _≤_}
+use Prim.Native.Nat.{_-_, _≤_}
 use mathlib.Core.Path.{_≡_, refl, sym, ap, _∙_}
 use native.Mathlib.Omega.{arith}
 use mathlib.Core.List.{List}
@@ -13,10 +13,6 @@ use Rattle.sections.specs.Lines.{wholeField, is, joined, rows, read, tol
 use Rattle.sections.proofs.LineLaws.{row-bytes, joined-nil, rows-end, rows-other, rows-broken, rows-row}
 use Rattle.sections.proofs.kernel.parse_rows.Statement.{statement}
 use Rattle.sections.proofs.kernel.parse_rows.Tie as tie
-use Rattle.sections.proofs.kernel.parse_rows.Reads as reads
-use Rattle.sections.proofs.kernel.parse_rows.Lts as lts
-use Rattle.text.proofs.kernel.cut.Reads as cut-reads
-use Rattle.sections.proofs.kernel.parse_line.Reads as parse-line-reads
 
 abbrev Inv-loop : tie.InvT-loop
 Inv-loop text from tag n out₀ at₀ k₀ out at k =

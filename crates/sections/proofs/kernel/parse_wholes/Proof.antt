@@ -1,25 +1,20 @@
 -- `sections::kernel::parse_wholes` meets its contract. Assumes nothing.
-use Prim.Native.Nat.{suc, _+_, _-_, _≤_}
+use Prim.Native.Nat.{_+_, _-_, _≤_}
 use mathlib.Core.Path.{_≡_, refl, sym, ap, _∙_}
-use mathlib.Core.List.{_∷_, []}
 use native.Mathlib.Nat.{sub-zero}
 use mir.Syntax.{w64}
 use mir.Val.{toZ, ofZ}
 use mir.Facts.{toZ-ofZ}
 use native.Mathlib.Omega.{arith}
 use lib.IntN.{ℤ}
-use lib.ListN.{length, take, drop, set, length-set}
+use lib.ListN.{length, take, drop, length-set}
 use lib.Seq.{take-set-le}
 use borrow.Author.Needs.{needs}
 use Rattle.text.specs.Pieces.{splitFrom}
-use Rattle.sections.specs.Lines.{values, wholeField, wholeGot, front, told}
+use Rattle.sections.specs.Lines.{values, wholeField, wholeGot, front}
 use Rattle.sections.proofs.RowLaws.{front-nil, row-short, row-bad, row-more, row-end}
 use Rattle.sections.proofs.kernel.parse_wholes.Statement.{statement}
 use Rattle.sections.proofs.kernel.parse_wholes.Tie as tie
-use Rattle.sections.proofs.kernel.parse_wholes.Reads as reads
-use Rattle.sections.proofs.kernel.parse_wholes.Lts as lts
-use Rattle.text.proofs.kernel.cut.Reads as cut-reads
-use Rattle.text.proofs.kernel.parse_whole.Reads as parse-whole-reads
 
 abbrev Inv-loop : tie.InvT-loop
 Inv-loop line p count out₀ at from₀ i₀ out from i =
