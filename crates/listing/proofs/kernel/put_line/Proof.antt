@@ -43,11 +43,15 @@ flag-at-requires c κs =
 
 put-front-requires : tie.Need-put-front-requires
 put-front-requires c κs =
-    rw (c .flag-at .ensures) (omega (arith, line-length (c .before .before .before .before .args .points) (c .before .before .before .before .args .bands1) (c .before .before .before .before .args .bands2) (c .before .before .before .before .args .channels) (c .before .before .before .before .args .weights .now) (c .before .before .before .before .args .flags .now) (c .before .before .before .before .args .e), c .before .before .before .before .pre .1))
+    let s : _ = c .before .before .before .before in
+    rw (c .flag-at .ensures) (omega (arith, line-length (s .args .points) (s .args .bands1) (s .args .bands2) (s .args .channels) (s .args .weights .now) (s .args .flags .now) (s .args .e), s .pre .1))
 
 put-weights-requires : tie.Need-put-weights-requires
 put-weights-requires c κs =
-    let g : _ = rw (c .before .before .before .before .flag-at .ensures) at (c .before .before .before .put-front .ensures .0) in (c .before .before .before .before .before .before .before .before .pre .0 .3, c .before .before .before .before .before .before .before .before .pre .0 .4, omega (arith, g, c .before .before .before .put-front .kept .0, line-length (c .before .before .before .before .before .before .before .before .args .points) (c .before .before .before .before .before .before .before .before .args .bands1) (c .before .before .before .before .before .before .before .before .args .bands2) (c .before .before .before .before .before .before .before .before .args .channels) (c .before .before .before .before .before .before .before .before .args .weights .now) (c .before .before .before .before .before .before .before .before .args .flags .now) (c .before .before .before .before .before .before .before .before .args .e), c .before .before .before .before .before .before .before .before .pre .1))
+    let s : _ = c .before .before .before .before .before .before .before .before in
+    let p : _ = c .before .before .before .put-front in
+    let g : _ = rw (c .before .before .before .before .flag-at .ensures) at (p .ensures .0) in
+    (s .pre .0 .3, s .pre .0 .4, omega (arith, g, p .kept .0, line-length (s .args .points) (s .args .bands1) (s .args .bands2) (s .args .channels) (s .args .weights .now) (s .args .flags .now) (s .args .e), s .pre .1))
 
 same-length : tie.Need-same-length
 same-length c = search needs

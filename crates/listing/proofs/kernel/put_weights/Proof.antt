@@ -31,7 +31,9 @@ spelled c = rw (c .before .bits-of .ensures, c .weight-end .ensures)
 
 loop-holds : tie.Need-loop-holds Inv-loop μ-loop
 loop-holds c =
-    let n : _ = none-written (weightOf (c .before .before .args .weights .now) (c .before .before .args .total) (c .before .before .args .e) (c .before .before .args .channels)) (c .before .before .args .at) (c .before .before .args .out .now) (omega (arith, c .before .before .pre .2)) in (omega arith, refl, n .0, n .1)
+    let s : _ = c .before .before in
+    let n : _ = none-written (weight s) (s .args .at) (s .args .out .now) (omega (arith, s .pre .2)) in
+    (omega arith, refl, n .0, n .1)
 
 mul-bits-of : tie.Need-mul-bits-of Inv-loop μ-loop
 mul-bits-of c =
@@ -91,7 +93,11 @@ same-length c =
 returns : tie.Need-returns Inv-loop μ-loop
 unfolding weightsOf
 returns c =
-    let k : c .before .loop .c ≡ c .before .before .before .before .args .channels = omega arith in (c .before .loop .inv .2 ∙ ap (λ (n : ℕ). c .before .before .before .before .args .at + length (rows n (weightOf (c .before .before .before .before .args .weights .now) (c .before .before .before .before .args .total) (c .before .before .before .before .args .e) (c .before .before .before .before .args .channels)))) k, c .before .loop .inv .3 ∙ ap (λ (n : ℕ). written (c .before .before .before .before .args .at) (rows n (weightOf (c .before .before .before .before .args .weights .now) (c .before .before .before .before .args .total) (c .before .before .before .before .args .e) (c .before .before .before .before .args .channels))) (c .before .before .before .before .args .out .now)) k)
+    let s : _ = c .before .before .before .before in
+    let a : _ = s .args in
+    let l : _ = c .before .loop in
+    let k : l .c ≡ a .channels = omega arith in
+    (l .inv .2 ∙ ap (λ (n : ℕ). a .at + length (rows n (weight s))) k, l .inv .3 ∙ ap (λ (n : ℕ). written (a .at) (rows n (weight s)) (a .out .now)) k)
 
 pub put-weights-spec : {M : Type 1} → statement M
 put-weights-spec =

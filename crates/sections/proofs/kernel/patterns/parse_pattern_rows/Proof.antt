@@ -65,15 +65,15 @@ loop-again : tie.Need-loop-again Inv-loop μ-loop
 loop-again c =
     let a : _ = c .before .before .before .before .before .before .before .before .before .before .before .before .before .args in
     let l : _ = c .before .before .before .before .before .before .before .before .before .loop in
-    let e : _ = c .before .before .before .before .before .before .before .cut .result in
+    let cut : _ = c .before .before .before .before .before .before .before .cut in
     let p : _ = c .before .before .before .before .parse-pattern-line in
     let values : List ℕ = take (a .n) (drop (l .k) (p .last .1 .1 .1 .0)) in
     let row : _ = p .ensures .0 ∙ ap (λ (r : Line). toldLine r values) (c .enum-told .given .1) in
-    let line : List ℕ = take (e - l .at) (drop (l .at) (a .text .now)) in
+    let line : List ℕ = take (cut .result - l .at) (drop (l .at) (a .text .now)) in
     let bytes : a .n ≤ length line = row-bytes patternField (a .tag .now) (a .n) line values row in (
-      omega (arith, bytes, length-take-le (e - l .at) (drop (l .at) (a .text .now)) (omega (arith, length-drop (l .at) (a .text .now)))),
+      omega (arith, bytes, length-take-le (cut .result - l .at) (drop (l .at) (a .text .now)) (omega (arith, length-drop (l .at) (a .text .now)))),
       p .kept .1 .1 .1 .0 ∙ l .inv .1,
-      rows-row patternField (a .text .now) (a .from) (a .tag .now) (a .n) (l .out) (l .at) (l .k) (l .inv .2) (omega arith) e (c .before .before .before .before .before .before .before .cut .ensures .0) (p .last .1 .1 .1 .0) (p .ensures .1) row,
+      rows-row patternField (a .text .now) (a .from) (a .tag .now) (a .n) (l .out) (l .at) (l .k) (l .inv .2) (omega arith) (cut .result) (cut .ensures .0) (p .last .1 .1 .1 .0) (p .ensures .1) row,
     )
 
 enum-told-2 : tie.Need-enum-told-2 Inv-loop μ-loop
@@ -90,7 +90,13 @@ same-length c =
 
 returns : tie.Need-returns Inv-loop μ-loop
 returns c =
-    rows-broken patternField (c .before .before .before .before .before .before .before .before .before .before .before .before .before .args .text .now) (c .before .before .before .before .before .before .before .before .before .before .before .before .before .args .from) (c .before .before .before .before .before .before .before .before .before .before .before .before .before .args .tag .now) (c .before .before .before .before .before .before .before .before .before .before .before .before .before .args .n) (c .before .before .before .before .before .before .before .before .before .loop .out) (c .before .before .before .before .before .before .before .before .before .loop .at) (c .before .before .before .before .before .before .before .before .before .loop .k) (c .before .before .before .before .before .before .before .before .before .loop .inv .2) (omega arith) (c .before .before .before .before .before .before .before .cut .result) (c .before .before .before .before .before .before .before .cut .ensures .0) (c .before .before .before .before .parse-pattern-line .ensures .0 ∙ ap (λ (r : Line). toldLine r (take (c .before .before .before .before .before .before .before .before .before .before .before .before .before .args .n) (drop (c .before .before .before .before .before .before .before .before .before .loop .k) (c .before .before .before .before .parse-pattern-line .last .1 .1 .1 .0)))) (c .enum-told3 .given .1))
+    let a : _ = c .before .before .before .before .before .before .before .before .before .before .before .before .before .args in
+    let l : _ = c .before .before .before .before .before .before .before .before .before .loop in
+    let cut : _ = c .before .before .before .before .before .before .before .cut in
+    let p : _ = c .before .before .before .before .parse-pattern-line in
+    let values : List ℕ = take (a .n) (drop (l .k) (p .last .1 .1 .1 .0)) in
+    rows-broken patternField (a .text .now) (a .from) (a .tag .now) (a .n) (l .out) (l .at) (l .k) (l .inv .2) (omega arith) (cut .result) (cut .ensures .0)
+    (p .ensures .0 ∙ ap (λ (r : Line). toldLine r values) (c .enum-told3 .given .1))
 
 same-length-2 : tie.Need-same-length-2 Inv-loop μ-loop
 same-length-2 c =
