@@ -3,7 +3,6 @@ use Prim.Native.Nat.{ℕ, _%_, _/_}
 use borrow.Author.Needs.{needs}
 use lib.ListN.{length}
 use native.Mathlib.Omega.{arith}
-use Rattle.list_laws.specs.Lists.{at}
 use Rattle.listing.proofs.ListingLaws.{line-length}
 use Rattle.listing.specs.Listings.{flagAt, frontOf, lineOf, weightsOf}
 use Rattle.writing.proofs.WrittenLaws.{wrote-both}

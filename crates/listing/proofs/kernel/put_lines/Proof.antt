@@ -4,7 +4,7 @@ use lib.ListN.{length}
 use mathlib.Core.List.{List}
 use mathlib.Core.Path.{_∙_, _≡_, ap, refl}
 use native.Mathlib.Omega.{arith}
-use Rattle.list_laws.specs.Lists.{at, rows}
+use Rattle.list_laws.specs.Lists.{rows}
 use Rattle.listing.proofs.ListingLaws.{none-written, piece-next, piece-room}
 use Rattle.listing.specs.Listings.{lineOf, linesOf}
 use Rattle.writing.specs.Written.{written}

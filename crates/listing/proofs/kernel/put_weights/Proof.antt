@@ -5,7 +5,7 @@ use lib.ListN.{length}
 use mathlib.Core.List.{List, [], _++_, _∷_}
 use mathlib.Core.Path.{_∙_, _≡_, ap, refl}
 use native.Mathlib.Omega.{arith}
-use Rattle.list_laws.specs.Lists.{at, rows}
+use Rattle.list_laws.specs.Lists.{rows}
 use Rattle.listing.proofs.ListingLaws.{none-written, piece-next, piece-room, weight-below}
 use Rattle.listing.specs.Listings.{weightOf, weightsOf}
 use Rattle.text.specs.Spelled.{hexadecimal}
