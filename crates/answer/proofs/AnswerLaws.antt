@@ -1,10 +1,8 @@
 -- The answer by its number. Assumes nothing.
 use mathlib.Core.Path.{_≡_, refl}
 use mathlib.Core.Bool.{true, false}
-use mathlib.Core.List.{List}
 use Prim.Native.Nat.{ℕ, zero, suc, _+_, _≤_, _<_}
 use native.Mathlib.Omega.{arith}
-use lib.Ieee.{Float}
 use lib.IntN.{ℤ}
 use lib.ListN.{length}
 use lib.Signed.{mag}
@@ -15,8 +13,7 @@ use Rattle.questions.specs.Studies.{tripletsIn}
 use Rattle.study_counts.specs.Counts.{fewWeights}
 use Rattle.listing.specs.Listings.{refusalOf}
 use Rattle.listing_length.proofs.ListingLengthLaws.{refusal-short}
-use Rattle.triplet_study.specs.declared.Shape.{Shape}
-use Rattle.triplet_study.specs.Given.{Given, given, givenQuestions, studyOf}
+use Rattle.triplet_study.specs.Given.{Given, givenQuestions, studyOf}
 use Rattle.answer_weights.specs.Asked.{questionsOf}
 use Rattle.answer_weights.specs.Answers.{listingFor, answerTo}
 
@@ -44,8 +41,3 @@ module _ (g : Given) where
   pub answer-listed : (n : ℕ) → n ≡ firstNo (questionsOf g) → n ≡ 0 → listingFor (studyOf g) ≡ answerTo g
   unfolding answerTo
   answer-listed n e h = rw (← e, h)
-
--- the same study by the values that the call makes
-pub answer-same : (shape shape′ : Shape) (addresses gp-map steps steps′ : List ℤ) (f1 f2 points : List Float) (triplets : List ℤ) → shape ≡ shape′ → steps ≡ steps′
-    → answerTo (given shape addresses gp-map steps f1 f2 points triplets) ≡ answerTo (given shape′ addresses gp-map steps′ f1 f2 points triplets)
-answer-same shape shape′ addresses gp-map steps steps′ f1 f2 points triplets e k = rw (e, k)

@@ -18,7 +18,7 @@ use Rattle.triplet_study.specs.declared.Shape.{Shape}
 use Rattle.triplet_study.specs.Given.{Given}
 use Rattle.answer_weights.specs.Asked.{questionsOf}
 use Rattle.study_counts.specs.Counts.{fewWeights}
-use Rattle.study.specs.Studies.{Study}
+use Rattle.study.specs.Studies.{StudyText}
 use Rattle.answer.specs.Texts.{askedOf}
 use Rattle.answer.proofs.AnswerLaws.{diagonal-lt}
 
@@ -31,7 +31,7 @@ built-in (suc (suc (suc zero))) h = refl
 built-in (suc (suc (suc (suc d)))) h = absurd (omega (arith, h))
 
 -- of a text's study, whose `diag` is 0 to 3, the first no is never 7
-pub never-seven : (s : Study) → isBetween 0 3 (s .head .diag) ≡ true → firstNo (questionsOf (askedOf s)) ≡ 7 → ⊥
+pub never-seven : (s : StudyText) → isBetween 0 3 (s .head .diag) ≡ true → firstNo (questionsOf (askedOf s)) ≡ 7 → ⊥
 unfolding firstNo
 never-seven s d e =
     let g : Given = askedOf s in

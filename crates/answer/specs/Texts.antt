@@ -13,7 +13,7 @@ use Rattle.triplet_study.specs.Given.{Given, given}
 use Rattle.triplet_study.specs.Lent.{Lent}
 use Rattle.listing.specs.Listings.{refusalOf}
 use Rattle.study_head.specs.declared.Head.{Head}
-use Rattle.study.specs.Studies.{Study, Holds, holds, holdsNone, studyIn}
+use Rattle.study.specs.Studies.{StudyText, Holds, holds, holdsNone, studyIn}
 use Rattle.answer_weights.specs.Answers.{answerTo}
 
 -- "floats as 16 hexadecimal digits of their bits": the floats of bit patterns
@@ -39,7 +39,7 @@ askedIn h addresses gp-map frequencies1 frequencies2 points triplets =
     asked h (now (addresses .entry)) (now (gp-map .entry)) (now (frequencies1 .entry)) (now (frequencies2 .entry)) (now (points .entry)) (now (triplets .entry))
 
 -- a study of a text with its floats as numbers
-abbrev pub askedOf : Study → Given
+abbrev pub askedOf : StudyText → Given
 askedOf s = asked (s .head) (s .addresses) (s .gp-map) (floatsOf (s .f1)) (floatsOf (s .f2)) (floatsOf (s .points)) (s .triplets)
 
 -- the answer by what a text holds; a text that is too long or not well formed is refused with 1

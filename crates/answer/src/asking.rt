@@ -7,7 +7,6 @@ ghost use Rattle.list_laws.specs.Signed.{isBetween};
 ghost use Rattle.ask.specs.Ask.{firstNo};
 ghost use Rattle.study_counts.specs.Counts.{fewWeights};
 ghost use Rattle.triplet_study.specs.Lent.{studyIn};
-ghost use Rattle.writing.specs.Written.{written};
 ghost use Rattle.answer_weights.specs.Asked.{questionsOf};
 ghost use Rattle.answer_weights.specs.Answers.{answerTo, Wrote};
 ghost use Rattle.answer.specs.Texts.{askedIn, shapeOf, tableFor};

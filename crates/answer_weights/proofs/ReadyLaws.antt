@@ -1,6 +1,6 @@
 -- A study whose questions are answered yes has few weights, its buffers fit, and its listing has room. Assumes nothing.
 use mathlib.Core.Path.{_≡_, refl, ap, _∙_}
-use mathlib.Core.Bool.{Bool, true, _&&_}
+use mathlib.Core.Bool.{true, _&&_}
 use Prim.Native.Nat.{ℕ, _*_, _/_, _≤_}
 use native.Mathlib.Nat.{mul-le-mul-right}
 use native.Mathlib.Omega.{arith}
@@ -8,10 +8,9 @@ use borrow.Author.Tests.{leb-true}
 use lib.ListN.{length}
 use lib.Signed.{mag}
 use Rattle.list_laws.specs.Lists.{tabulate}
-use Rattle.list_laws.proofs.BoolLaws.{and-left, and-right, and-both}
+use Rattle.list_laws.proofs.BoolLaws.{and-both}
 use Rattle.list_laws.proofs.FillLaws.{length-tabulate}
 use Rattle.ask.specs.Ask.{firstNo, AllYes}
-use Rattle.question_values.specs.Counts.{isBandCount, isPointCount, isTripletCount}
 use Rattle.questions.specs.Studies.{tripletsIn, areStudyCounts}
 use Rattle.question_values.specs.TpTypes.{isTpType, channelsOf}
 use Rattle.ask.proofs.AskLaws.{all-yes}
@@ -25,7 +24,7 @@ use Rattle.triplet_study.specs.Given.{Given, givenQuestions, studyOf, sizesBy}
 use Rattle.triplet_study.proofs.GivenLaws.{given-numbered, sizes-same, given-ready}
 use Rattle.triplet_iw.specs.Whole.{allWeights, allFlags}
 use Rattle.listing_length.proofs.ListingLengthLaws.{listing-longest}
-use Rattle.study_counts.specs.Counts.{weightCount, isCounted, fewWeights}
+use Rattle.study_counts.specs.Counts.{weightCount, fewWeights}
 use Rattle.answer_weights.specs.Asked.{questionsOf}
 use Rattle.answer_weights.specs.Answers.{listingFor}
 
@@ -47,18 +46,9 @@ module _ (g : Given) (yes : firstNo (questionsOf g) ≡ 0) where
   unfolding firstNo
   further = rw few at yes
 
-  counted : isCounted (g .shape .«tp_type») (g .shape .«num_band1») (g .shape .«num_band2») (length (g .points)) (tripletsIn (g .triplets)) ≡ true
-  unfolding isCounted areStudyCounts
-  counted =
-      let p : Bool = isBandCount (g .shape .«num_band1») in
-      let q : Bool = isBandCount (g .shape .«num_band2») in
-      let r : Bool = isPointCount (length (g .points)) in
-      let s : Bool = isTripletCount (tripletsIn (g .triplets)) in
-      let y8 : isTpType (g .shape .«tp_type») ≡ true = all .1 .1 .1 .1 .1 .1 .0 in
-      let y9 : (((p && q) && r) && s) ≡ true = all .1 .1 .1 .1 .1 .1 .1 .0 in
-      let pqr : ((p && q) && r) ≡ true = and-left ((p && q) && r) s y9 in
-      let pq : (p && q) ≡ true = and-left (p && q) r pqr in
-      and-both y8 (and-both (and-left p q pq) (and-both (and-right p q pq) (and-both (and-right (p && q) r pqr) (and-right ((p && q) && r) s y9))))
+  -- 8 and 9 say yes
+  counted : (isTpType (g .shape .«tp_type») && areStudyCounts (g .shape .«num_band1») (g .shape .«num_band2») (length (g .points)) (tripletsIn (g .triplets))) ≡ true
+  counted = and-both (all .1 .1 .1 .1 .1 .1 .0) (all .1 .1 .1 .1 .1 .1 .1 .0)
 
   few-counted : weightCount (g .shape .«tp_type») (g .shape .«num_band1») (g .shape .«num_band2») (length (g .points)) (tripletsIn (g .triplets)) ≤ 4096
   unfolding fewWeights

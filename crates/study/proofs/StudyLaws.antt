@@ -1,22 +1,18 @@
 -- The parts of a study, by what each section is. Assumes nothing.
 use mathlib.Core.Path.{_≡_, refl, ap, _∙_}
 use mathlib.Core.Bool.{true, false}
-use mathlib.Core.List.{List, [], _∷_}
-use Prim.Native.Nat.{ℕ, suc, _+_, _-_, _≤_, _<_}
+use mathlib.Core.List.{List}
+use Prim.Native.Nat.{ℕ, suc, _+_, _≤_, _<_}
 use native.Mathlib.Omega.{arith}
-use lib.Dec.{eqb}
 use lib.IntN.{ℤ}
-use lib.ListN.{length, getD, take, drop}
-use lib.Seq.{take-all}
+use lib.ListN.{length, drop}
 use borrow.Author.Tests.{le-leb, lt-leb, ne-eqb}
-use Rattle.list_laws.specs.Lists.{at}
-use Rattle.list_laws.specs.Signed.{isBetween}
 use Rattle.text.specs.Pieces.{index, ended}
 use Rattle.text.proofs.FieldLaws.{drop-past}
 use Rattle.text.proofs.PieceLaws.{ended-step}
-use Rattle.sections.specs.Lines.{read, wrong, once, rows, wholeField, patternField}
+use Rattle.sections.specs.Lines.{read, wrong, rows, wholeField, patternField}
 use Rattle.study_head.specs.declared.Head.{Head}
-use Rattle.study_head.specs.Heads.{gridTag, diagTag, typeTag, bandsTag, headFrom, headPart, endsLine}
+use Rattle.study_head.specs.Heads.{headPart, endsLine}
 use Rattle.study.specs.Studies.{addrTag, mapTag, f1Tag, f2Tag, pointTag, tripletTag, gridPart, floatsPart, holds, holdsNone, whole, studyOfLines, studyIn}
 
 -- ---- addresses and map

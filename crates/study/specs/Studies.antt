@@ -1,5 +1,5 @@
 -- The study that a text holds: a text is cut into lines, a line into fields, and the lines are read section by section.
-use mathlib.Core.Bool.{Bool, cond, _&&_}
+use mathlib.Core.Bool.{cond, _&&_}
 use mathlib.Core.List.{List, [], _∷_}
 use Prim.Native.Nat.{ℕ}
 use lib.Dec.{leb, eqb}
@@ -50,7 +50,7 @@ floatsPart ls =
     (λ points ls₃. read (f1, f2, points) ls₃)))
 
 -- a study as its text tells it: floats by their bits, triples one after another
-pub record Study : Type 0 where
+pub record StudyText : Type 0 where
   pub head : Head
   pub addresses : List ℤ
   pub gp-map : List ℤ
@@ -61,11 +61,11 @@ pub record Study : Type 0 where
 
 -- the study of a text, or that the text holds none
 pub data Holds : Type 0 where
-  holds : Study → Holds
+  holds : StudyText → Holds
   holdsNone : Holds
 
 -- a study where no line is left
-unfoldable pub whole : Part Study → Holds
+unfoldable pub whole : Part StudyText → Holds
 whole wrong = holdsNone
 whole (read s ls) = cond (eqb (length ls) 0) (holds s) holdsNone
 

@@ -4,19 +4,14 @@ use Prim.Native.Nat.{ℕ, _*_}
 use lib.Dec.{leb}
 use lib.IntN.{ℤ}
 use lib.Signed.{mag}
-use Rattle.question_values.specs.Counts.{isBandCount, isPointCount, isTripletCount}
 use Rattle.question_values.specs.TpTypes.{isTpType, channelsOf}
+use Rattle.questions.specs.Studies.{areStudyCounts}
 
 -- the number of weights, "channels counted"
 unfoldable pub weightCount : ℤ → ℤ → ℤ → ℕ → ℕ → ℕ
 weightCount type bands1 bands2 points triplets = channelsOf type * triplets * points * (mag bands1 * mag bands2)
 
--- 8 and 9 say yes
-unfoldable pub isCounted : ℤ → ℤ → ℤ → ℕ → ℕ → Bool
-isCounted type bands1 bands2 points triplets =
-    isTpType type && (isBandCount bands1 && (isBandCount bands2 && (isPointCount points && isTripletCount triplets)))
-
 -- Question 1: "at most 4,096 weights, channels counted (this count is not tested where 8 or 9 says no)"
 unfoldable pub fewWeights : ℤ → ℤ → ℤ → ℕ → ℕ → Bool
 fewWeights type bands1 bands2 points triplets =
-    cond (isCounted type bands1 bands2 points triplets) (leb (weightCount type bands1 bands2 points triplets) 4096) true
+    cond (isTpType type && areStudyCounts bands1 bands2 points triplets) (leb (weightCount type bands1 bands2 points triplets) 4096) true

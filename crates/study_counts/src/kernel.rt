@@ -15,16 +15,7 @@ pub fn weight_count_ok(
     if !question_values::kernel::tp_type::tp_type_ok(tp_type) {
         return true;
     }
-    if !question_values::kernel::counts::band_count_ok(num_band1) {
-        return true;
-    }
-    if !question_values::kernel::counts::band_count_ok(num_band2) {
-        return true;
-    }
-    if !question_values::kernel::counts::point_count_ok(points) {
-        return true;
-    }
-    if !question_values::kernel::counts::triplet_count_ok(triplets) {
+    if !questions::kernel::study::study_counts_ok(num_band1, num_band2, points, triplets) {
         return true;
     }
     let channels = question_values::kernel::tp_type::channels_of(tp_type);

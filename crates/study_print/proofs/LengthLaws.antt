@@ -11,7 +11,7 @@ use lib.ListN.{length, take, drop, length-append, length-drop}
 use lib.Seq.{length-take-le}
 use Rattle.text.specs.Spelled.{places, signed, hexadecimal}
 use Rattle.text.proofs.SpelledLaws.{length-decimal, length-hexadecimal}
-use Rattle.study.specs.Studies.{Study, addrTag, mapTag, f1Tag, f2Tag, pointTag, tripletTag}
+use Rattle.study.specs.Studies.{StudyText, addrTag, mapTag, f1Tag, f2Tag, pointTag, tripletTag}
 use Rattle.study_print.specs.Printed.{fields, line, section, textOf, headLines, studyLines, printed, Printable}
 
 places-some : (f n : ℕ) → 1 ≤ places f n
@@ -64,7 +64,7 @@ module _ {A : Type 0} (spell : A → List ℕ) (least : ℕ) (low : (v : A) → 
       )
 
 -- how many numbers a study has at most
-pub record Small (s : Study) : Type 0 where
+pub record Small (s : StudyText) : Type 0 where
   pub addresses : length (s .addresses) ≤ 16384
   pub gp-map : length (s .gp-map) ≤ 16384
   pub f1 : length (s .f1) ≤ 16384
@@ -72,7 +72,7 @@ pub record Small (s : Study) : Type 0 where
   pub points : length (s .points) ≤ 712
   pub triplets : length (s .triplets) / 3 ≤ 1170
 
-module _ (s : Study) where
+module _ (s : StudyText) where
   addresses-bytes : length (s .addresses) ≡ length (s .addresses) / 3 * 3 → length (s .addresses) / 3 * 11 ≤ length (textOf (section signed addrTag 3 (length (s .addresses) / 3) (s .addresses)))
   addresses-bytes e = section-bytes signed 1 signed-some addrTag 3 (length (s .addresses) / 3) (s .addresses) e
 

@@ -16,7 +16,7 @@ use Rattle.text.specs.Pieces.{ended}
 use Rattle.text.specs.Spelled.{signed, hexadecimal}
 use Rattle.sections.specs.Lines.{Got, Part, read, wrong, andThen, rows, once, wholeField, patternField}
 use Rattle.study_head.specs.declared.Head.{Head}
-use Rattle.study.specs.Studies.{Study, holds, holdsNone, whole, studyIn, studyOfLines, gridPart, floatsPart, addrTag, mapTag, f1Tag, f2Tag, pointTag, tripletTag}
+use Rattle.study.specs.Studies.{StudyText, holds, holdsNone, whole, studyIn, studyOfLines, gridPart, floatsPart, addrTag, mapTag, f1Tag, f2Tag, pointTag, tripletTag}
 use Rattle.study_head.specs.Heads.{endsLine, headPart, headFrom, gridTag, diagTag, typeTag, bandsTag}
 use Rattle.study_print.specs.Printed.{line, section, textOf, headLines, studyLines, printed, Each, Signed64, Pattern64, Printable}
 use Rattle.study_print.proofs.StudyTextLaws.{read-printed}
@@ -195,7 +195,7 @@ floats-only f ls rest e =
 
 -- ---- the study
 
-whole-only : (p : Part Study) (s : Study) → whole p ≡ holds s → p ≡ read s []
+whole-only : (p : Part StudyText) (s : StudyText) → whole p ≡ holds s → p ≡ read s []
 unfolding whole
 whole-only wrong s e = absurd (let q : _≡_ {A = ℕ} 0 1 = cc in omega arith)
 whole-only (read t []) s e = cc
@@ -204,7 +204,7 @@ whole-only (read t (l ∷ ls)) s e =
     absurd (let q : _≡_ {A = ℕ} 0 1 = cc in omega arith)
 
 -- all of `Printable` but the bound on the length
-record LinesOnly (s : Study) (ls : List (List ℕ)) : Type 0 where
+record LinesOnly (s : StudyText) (ls : List (List ℕ)) : Type 0 where
   pub left : List (List ℕ)
   pub lines : ls ≡ studyLines s
   pub head : HeadOnly (s .head) ls left
@@ -218,21 +218,21 @@ record LinesOnly (s : Study) (ls : List (List ℕ)) : Type 0 where
   pub whole-triplets : length (s .triplets) ≡ length (s .triplets) / 3 * 3
 
 -- part after part
-in-order : (s : Study) (l₀ l₁ l₂ l₃ l₄ l₅ l₆ : List (List ℕ)) → l₀ ≡ headLines (s .head) ++ l₁ → l₁ ≡ section signed addrTag 3 (length (s .addresses) / 3) (s .addresses) ++ l₂ → l₂ ≡ section signed mapTag 1 (length (s .gp-map)) (s .gp-map) ++ l₃
+in-order : (s : StudyText) (l₀ l₁ l₂ l₃ l₄ l₅ l₆ : List (List ℕ)) → l₀ ≡ headLines (s .head) ++ l₁ → l₁ ≡ section signed addrTag 3 (length (s .addresses) / 3) (s .addresses) ++ l₂ → l₂ ≡ section signed mapTag 1 (length (s .gp-map)) (s .gp-map) ++ l₃
     → l₃ ≡ section hexadecimal f1Tag 1 (length (s .f1)) (s .f1) ++ l₄ → l₄ ≡ section hexadecimal f2Tag 1 (length (s .f2)) (s .f2) ++ l₅ → l₅ ≡ section hexadecimal pointTag 1 (length (s .points)) (s .points) ++ l₆
     → l₆ ≡ section signed tripletTag 3 (length (s .triplets) / 3) (s .triplets) ++ [] → l₀ ≡ studyLines s
 unfolding studyLines
 in-order s l₀ l₁ l₂ l₃ l₄ l₅ l₆ a b c d e f g =
     rw (a, b, c, d, e, f, g, append-nil (section signed tripletTag 3 (length (s .triplets) / 3) (s .triplets)))
 
-study-lines : (s : Study) (ls : List (List ℕ)) → studyOfLines ls ≡ holds s → LinesOnly s ls
+study-lines : (s : StudyText) (ls : List (List ℕ)) → studyOfLines ls ≡ holds s → LinesOnly s ls
 unfolding studyOfLines
 study-lines s ls e =
     let h : _ = went (headPart ls) _ s [] (whole-only _ s e) in
     let g : _ = went (gridPart (h .left)) _ s [] (h .second) in
     let f : _ = went (floatsPart (g .left)) _ s [] (g .second) in
     let t : _ = went (rows wholeField tripletTag 3 (f .left)) _ s [] (f .second) in
-    let r : Study = record { head = h .value; addresses = g .value .0; gp-map = g .value .1; f1 = f .value .0; f2 = f .value .1; points = f .value .2; triplets = t .value } in
+    let r : StudyText = record { head = h .value; addresses = g .value .0; gp-map = g .value .1; f1 = f .value .0; f2 = f .value .1; points = f .value .2; triplets = t .value } in
     let z : read r (t .left) ≡ read s [] = t .second in
     let v : r ≡ s = cc in
     let w : t .left ≡ [] = cc in
@@ -240,7 +240,7 @@ study-lines s ls e =
     let go : GridOnly (g .value .0) (g .value .1) (h .left) (g .left) = grid-only (g .value) (h .left) (g .left) (g .first) in
     let fo : FloatsOnly (f .value .0) (f .value .1) (f .value .2) (g .left) (f .left) = floats-only (f .value) (g .left) (f .left) (f .first) in
     let to : WholeSection tripletTag (f .left) (t .value) [] = triples tripletTag (f .left) (t .value) [] (t .first ∙ ap (read (t .value)) w) in
-    subst (λ (x : Study). LinesOnly x ls) v
+    subst (λ (x : StudyText). LinesOnly x ls) v
     (record {
       left = h .left;
       lines = in-order r ls (h .left) (go .left) (g .left) (fo .left₁) (fo .left₂) (f .left) (ho .lines) (go .addresses .lines) (go .gp-map .lines) (fo .first .lines) (fo .second .lines) (fo .pointed .lines) (to .lines);
@@ -256,11 +256,11 @@ study-lines s ls e =
     })
 
 -- the text is the study's, and the study can be printed
-pub record PrintedOnly (text : List ℕ) (s : Study) : Type 0 where
+pub record PrintedOnly (text : List ℕ) (s : StudyText) : Type 0 where
   pub text-is : text ≡ printed s
   pub printable : Printable s
 
-module _ (text : List ℕ) (s : Study) (l : length text ≤ 16384) (n : endsLine text ≡ true) (w : LinesOnly s (ended 10 text)) where
+module _ (text : List ℕ) (s : StudyText) (l : length text ≤ 16384) (n : endsLine text ≡ true) (w : LinesOnly s (ended 10 text)) where
   spelled : text ≡ printed s
   unfolding printed endsLine
   spelled = sym (lines-only text (λ h. eqb-true (getD text (length text - 1) 0) 10 n)) ∙ ap textOf (w .lines)
@@ -287,7 +287,7 @@ module _ (text : List ℕ) (s : Study) (l : length text ≤ 16384) (n : endsLine
   }
 
 -- reading and printing give the text back
-pub printed-only : (text : List ℕ) (s : Study) → studyIn text ≡ holds s → PrintedOnly text s
+pub printed-only : (text : List ℕ) (s : StudyText) → studyIn text ≡ holds s → PrintedOnly text s
 unfolding studyIn
 printed-only text s e = go (leb (length text) 16384) (endsLine text) refl refl e
   where
@@ -297,5 +297,5 @@ printed-only text s e = go (leb (length text) 16384) (endsLine text) refl refl e
     go false b p q e = absurd (let q : _≡_ {A = ℕ} 0 1 = cc in omega arith)
 
 -- a text is well formed exactly when it is the printing of a study, and the study is then the one that it holds
-pub exactly-printed : (text : List ℕ) (s : Study) → (studyIn text ≡ holds s → PrintedOnly text s) × (PrintedOnly text s → studyIn text ≡ holds s)
+pub exactly-printed : (text : List ℕ) (s : StudyText) → (studyIn text ≡ holds s → PrintedOnly text s) × (PrintedOnly text s → studyIn text ≡ holds s)
 exactly-printed text s = (printed-only text s, λ p. ap studyIn (p .text-is) ∙ read-printed s (p .printable))

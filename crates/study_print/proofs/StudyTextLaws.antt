@@ -12,7 +12,7 @@ use borrow.Author.Tests.{eq-eqb}
 use Rattle.text.specs.Pieces.{ended, same}
 use Rattle.text.specs.Spelled.{signed, hexadecimal}
 use Rattle.sections.specs.Lines.{Got, read, rows, wholeField, patternField}
-use Rattle.study.specs.Studies.{Study, holds, studyIn, gridPart, floatsPart, addrTag, mapTag, f1Tag, f2Tag, pointTag, tripletTag}
+use Rattle.study.specs.Studies.{StudyText, holds, studyIn, gridPart, floatsPart, addrTag, mapTag, f1Tag, f2Tag, pointTag, tripletTag}
 use Rattle.study_head.specs.Heads.{endsLine, headPart, headFrom, gridTag, diagTag, typeTag, bandsTag}
 use Rattle.study_head.proofs.HeadLaws.{head-read}
 use Rattle.study.proofs.StudyLaws.{grid-read, floats-read, study-read}
@@ -31,7 +31,7 @@ all-patterns (v ∷ vs) w = (spells-pattern v (w .0), all-patterns vs (w .1))
 singles : {A : Type 0} (vs : List A) → length vs ≡ length vs * 1
 singles vs = sym (mul-one (length vs))
 
-module _ (s : Study) (p : Printable s) where
+module _ (s : StudyText) (p : Printable s) where
   abbrev r₅ : List (List ℕ)
   r₅ = section hexadecimal pointTag 1 (length (s .points)) (s .points) ++ section signed tripletTag 3 (length (s .triplets) / 3) (s .triplets)
 

@@ -9,7 +9,7 @@ use lib.Signed.{mag}
 use Rattle.list_laws.specs.Signed.{isBetween}
 use Rattle.text.specs.Spelled.{signed, hexadecimal}
 use Rattle.study_head.specs.declared.Head.{Head}
-use Rattle.study.specs.Studies.{Study, addrTag, mapTag, f1Tag, f2Tag, pointTag, tripletTag}
+use Rattle.study.specs.Studies.{StudyText, addrTag, mapTag, f1Tag, f2Tag, pointTag, tripletTag}
 use Rattle.study_head.specs.Heads.{gridTag, diagTag, typeTag, bandsTag}
 
 -- values as fields, "one tab between fields": a tab before each
@@ -41,7 +41,7 @@ headLines h =
     ∷ []
 
 -- the lines of a study
-unfoldable pub studyLines : Study → List (List ℕ)
+unfoldable pub studyLines : StudyText → List (List ℕ)
 studyLines s =
     headLines (s .head)
     ++ (section signed addrTag 3 (length (s .addresses) / 3) (s .addresses)
@@ -52,7 +52,7 @@ studyLines s =
     ++ section signed tripletTag 3 (length (s .triplets) / 3) (s .triplets))))))
 
 -- the text of a study
-unfoldable pub printed : Study → List ℕ
+unfoldable pub printed : StudyText → List ℕ
 printed s = textOf (studyLines s)
 
 -- a property of each value of a list
@@ -69,7 +69,7 @@ abbrev pub Pattern64 : ℕ → Type 0
 Pattern64 n = n < 2 ^ 64
 
 -- a study that a text can hold: numbers of 64 bits, whole triples, `diag` 0 to 3, at most 16,384 bytes
-pub record Printable (s : Study) : Type 0 where
+pub record Printable (s : StudyText) : Type 0 where
   pub grid-fits : Each Signed64 (s .head .«bz_grid_type» ∷ s .head .d0 ∷ s .head .d1 ∷ s .head .d2 ∷ [])
   pub diag-fits : Each Signed64 (s .head .diag ∷ [])
   pub type-fits : Each Signed64 (s .head .«tp_type» ∷ [])

@@ -3,10 +3,31 @@ use borrow.Author.Needs.{needs}
 use lib.Seq.{length-take-le}
 use mathlib.Core.Path.{sym}
 use native.Mathlib.Omega.{arith}
-use Rattle.answer.proofs.HeldLaws.{answered-from, answered-so, held-answer, held-ready, none-held, within}
+use Rattle.answer.proofs.HeldLaws.{Held, answered-from, answered-so, held, none-held}
 use Rattle.listing_length.proofs.ListingLengthLaws.{refusal-short}
 use Rattle.answer.proofs.answer.Statement.{statement}
 use Rattle.answer.proofs.answer.Tie as tie
+
+-- ---- what was read of the text
+
+-- the numbers lie within the buffers, and their answer is the text's
+abbrev Known : tie.After-h → Type 0
+Known c =
+    let n : _ = c .h .given .0 in
+    let x : _ = c .before .before .before .before .before .before .before .before .read-study .last .1 in
+    Held (c .before .before .before .before .before .before .before .before .before .before .before .before .before .before .before .before .before .before .before .before .before .before .args .text .now) (x .0) (x .1 .0) (x .1 .1 .0) (x .1 .1 .1 .0) (x .1 .1 .1 .1 .0) (x .1 .1 .1 .1 .1 .0) (n .0) (n .1 .0) (n .1 .1 .0) (n .1 .1 .1 .0) (n .1 .1 .1 .1 .0) (n .1 .1 .1 .1 .1 .0) (n .1 .1 .1 .1 .1 .1 .0)
+
+known : (c : tie.After-h) → Known c
+known c =
+    let n : _ = c .h .given .0 in
+    let r : _ = c .before .before .before .before .before .before .before .before .read-study in
+    let x : _ = r .last .1 in
+    let k : _ = r .kept .1 in
+    held (c .before .before .before .before .before .before .before .before .before .before .before .before .before .before .before .before .before .before .before .before .before .before .args .text .now) (x .0) (x .1 .0) (x .1 .1 .0) (x .1 .1 .1 .0) (x .1 .1 .1 .1 .0) (x .1 .1 .1 .1 .1 .0) (n .0) (n .1 .0) (n .1 .1 .0) (n .1 .1 .1 .0) (n .1 .1 .1 .1 .0) (n .1 .1 .1 .1 .1 .0) (n .1 .1 .1 .1 .1 .1 .0) (r .result) (r .ensures) (c .h .given .1)
+    (omega (arith, c .before .before .before .before .before .before .before .before .before .before .before .before .before .before .before .before .before .before .before .before .triples .ensures, k .0)) (omega (arith, c .before .before .before .before .before .before .before .before .before .before .before .before .before .before .before .before .before .before .before .numbers .ensures, k .1 .0)) (omega (arith, c .before .before .before .before .before .before .before .before .before .before .before .before .before .before .before .before .before .before .patterns .ensures, k .1 .1 .0))
+    (omega (arith, c .before .before .before .before .before .before .before .before .before .before .before .before .before .before .before .before .before .patterns2 .ensures, k .1 .1 .1 .0)) (omega (arith, c .before .before .before .before .before .before .before .before .before .before .before .before .before .before .before .before .patterns3 .ensures, k .1 .1 .1 .1 .0)) (omega (arith, c .before .before .before .before .before .before .before .before .before .before .before .before .before .before .before .triples2 .ensures, k .1 .1 .1 .1 .1 .0))
+
+-- ---- the facts that the checker asks for
 
 triples-requires : tie.Need-triples-requires
 triples-requires c κs = search needs
@@ -59,63 +80,67 @@ put-refusal-requires c κs =
 
 returns : tie.Need-returns
 returns c =
-    let s : _ = c .before .before .before .before .before .before .before .before .before .before .before .before .before .before .before .before .before .before .before .before .before .before .before .before in let p : _ = c .put-refusal in answered-from _ _ _ _ _ (p .ensures .0) (p .ensures .1) (none-held (s .args .text .now) (c .before .before .before .before .before .before .before .before .before .before .read-study .result) (c .before .before .before .before .before .before .before .before .before .before .read-study .last .1 .0) (c .before .before .before .before .before .before .before .before .before .before .read-study .last .1 .1 .0) (c .before .before .before .before .before .before .before .before .before .before .read-study .last .1 .1 .1 .0) (c .before .before .before .before .before .before .before .before .before .before .read-study .last .1 .1 .1 .1 .0) (c .before .before .before .before .before .before .before .before .before .before .read-study .last .1 .1 .1 .1 .1 .0) (c .before .before .before .before .before .before .before .before .before .before .read-study .last .1 .1 .1 .1 .1 .1 .0) (c .before .before .before .before .before .before .before .before .before .before .read-study .ensures) (c .before .before .enum-told .given .1))
+    let r : _ = c .before .before .before .before .before .before .before .before .before .before .read-study in
+    let x : _ = r .last .1 in
+    let p : _ = c .put-refusal .ensures in
+    answered-from _ _ _ _ _ (p .0) (p .1) (none-held (c .before .before .before .before .before .before .before .before .before .before .before .before .before .before .before .before .before .before .before .before .before .before .before .before .args .text .now) (x .0) (x .1 .0) (x .1 .1 .0) (x .1 .1 .1 .0) (x .1 .1 .1 .1 .0) (x .1 .1 .1 .1 .1 .0) (r .result) (r .ensures) (c .before .before .enum-told .given .1))
 
 array-share-prefix-addresses : tie.Need-array-share-prefix-addresses
 array-share-prefix-addresses c =
-    let s : _ = c .before .before .before .before .before .before .before .before .before .before .before .before .before .before .before .before .before .before .before .before .before .before .before .before in let w : _ = within (s .args .text .now) (c .before .before .before .before .before .before .before .before .before .before .read-study .result) (c .before .before .before .before .before .before .before .before .before .before .read-study .last .1 .0) (c .before .before .before .before .before .before .before .before .before .before .read-study .last .1 .1 .0) (c .before .before .before .before .before .before .before .before .before .before .read-study .last .1 .1 .1 .0) (c .before .before .before .before .before .before .before .before .before .before .read-study .last .1 .1 .1 .1 .0) (c .before .before .before .before .before .before .before .before .before .before .read-study .last .1 .1 .1 .1 .1 .0) (c .before .before .before .before .before .before .before .before .before .before .read-study .last .1 .1 .1 .1 .1 .1 .0) (c .before .before .h .given .0 .0) (c .before .before .h .given .0 .1 .0) (c .before .before .h .given .0 .1 .1 .0) (c .before .before .h .given .0 .1 .1 .1 .0) (c .before .before .h .given .0 .1 .1 .1 .1 .0) (c .before .before .h .given .0 .1 .1 .1 .1 .1 .0) (c .before .before .h .given .0 .1 .1 .1 .1 .1 .1 .0) (c .before .before .before .before .before .before .before .before .before .before .read-study .ensures) (c .before .before .h .given .1) (omega (arith, c .before .before .before .before .before .before .before .before .before .before .before .before .before .before .before .before .before .before .before .before .before .before .triples .ensures, c .before .before .before .before .before .before .before .before .before .before .read-study .kept .1 .0)) (omega (arith, c .before .before .before .before .before .before .before .before .before .before .before .before .before .before .before .before .before .before .before .before .before .numbers .ensures, c .before .before .before .before .before .before .before .before .before .before .read-study .kept .1 .1 .0)) (omega (arith, c .before .before .before .before .before .before .before .before .before .before .before .before .before .before .before .before .before .before .before .before .patterns .ensures, c .before .before .before .before .before .before .before .before .before .before .read-study .kept .1 .1 .1 .0)) (omega (arith, c .before .before .before .before .before .before .before .before .before .before .before .before .before .before .before .before .before .before .before .patterns2 .ensures, c .before .before .before .before .before .before .before .before .before .before .read-study .kept .1 .1 .1 .1 .0)) (omega (arith, c .before .before .before .before .before .before .before .before .before .before .before .before .before .before .before .before .before .before .patterns3 .ensures, c .before .before .before .before .before .before .before .before .before .before .read-study .kept .1 .1 .1 .1 .1 .0)) (omega (arith, c .before .before .before .before .before .before .before .before .before .before .before .before .before .before .before .before .before .triples2 .ensures, c .before .before .before .before .before .before .before .before .before .before .read-study .kept .1 .1 .1 .1 .1 .1 .0)) in w .addresses
+    known (c .before .before) .addresses
 
 slice-aggregate-put-held : tie.Need-slice-aggregate-put-held
 slice-aggregate-put-held c =
-    let s : _ = c .before .before .before .before .before .before .before .before .before .before .before .before .before .before .before .before .before .before .before .before .before .before .before .before .before in let w : _ = within (s .args .text .now) (c .before .before .before .before .before .before .before .before .before .before .before .read-study .result) (c .before .before .before .before .before .before .before .before .before .before .before .read-study .last .1 .0) (c .before .before .before .before .before .before .before .before .before .before .before .read-study .last .1 .1 .0) (c .before .before .before .before .before .before .before .before .before .before .before .read-study .last .1 .1 .1 .0) (c .before .before .before .before .before .before .before .before .before .before .before .read-study .last .1 .1 .1 .1 .0) (c .before .before .before .before .before .before .before .before .before .before .before .read-study .last .1 .1 .1 .1 .1 .0) (c .before .before .before .before .before .before .before .before .before .before .before .read-study .last .1 .1 .1 .1 .1 .1 .0) (c .before .before .before .h .given .0 .0) (c .before .before .before .h .given .0 .1 .0) (c .before .before .before .h .given .0 .1 .1 .0) (c .before .before .before .h .given .0 .1 .1 .1 .0) (c .before .before .before .h .given .0 .1 .1 .1 .1 .0) (c .before .before .before .h .given .0 .1 .1 .1 .1 .1 .0) (c .before .before .before .h .given .0 .1 .1 .1 .1 .1 .1 .0) (c .before .before .before .before .before .before .before .before .before .before .before .read-study .ensures) (c .before .before .before .h .given .1) (omega (arith, c .before .before .before .before .before .before .before .before .before .before .before .before .before .before .before .before .before .before .before .before .before .before .before .triples .ensures, c .before .before .before .before .before .before .before .before .before .before .before .read-study .kept .1 .0)) (omega (arith, c .before .before .before .before .before .before .before .before .before .before .before .before .before .before .before .before .before .before .before .before .before .before .numbers .ensures, c .before .before .before .before .before .before .before .before .before .before .before .read-study .kept .1 .1 .0)) (omega (arith, c .before .before .before .before .before .before .before .before .before .before .before .before .before .before .before .before .before .before .before .before .before .patterns .ensures, c .before .before .before .before .before .before .before .before .before .before .before .read-study .kept .1 .1 .1 .0)) (omega (arith, c .before .before .before .before .before .before .before .before .before .before .before .before .before .before .before .before .before .before .before .before .patterns2 .ensures, c .before .before .before .before .before .before .before .before .before .before .before .read-study .kept .1 .1 .1 .1 .0)) (omega (arith, c .before .before .before .before .before .before .before .before .before .before .before .before .before .before .before .before .before .before .before .patterns3 .ensures, c .before .before .before .before .before .before .before .before .before .before .before .read-study .kept .1 .1 .1 .1 .1 .0)) (omega (arith, c .before .before .before .before .before .before .before .before .before .before .before .before .before .before .before .before .before .before .triples2 .ensures, c .before .before .before .before .before .before .before .before .before .before .before .read-study .kept .1 .1 .1 .1 .1 .1 .0)) in sym (length-take-le (c .before .before .before .h .given .0 .1 .0) (c .before .before .before .before .before .before .before .before .before .before .before .read-study .last .1 .0) (w .addresses))
+    sym (length-take-le _ _ (known (c .before .before .before) .addresses))
 
 array-share-prefix-gp-map : tie.Need-array-share-prefix-gp-map
 array-share-prefix-gp-map c =
-    let s : _ = c .before .before .before .before .before .before .before .before .before .before .before .before .before .before .before .before .before .before .before .before .before .before .before .before .before in let w : _ = within (s .args .text .now) (c .before .before .before .before .before .before .before .before .before .before .before .read-study .result) (c .before .before .before .before .before .before .before .before .before .before .before .read-study .last .1 .0) (c .before .before .before .before .before .before .before .before .before .before .before .read-study .last .1 .1 .0) (c .before .before .before .before .before .before .before .before .before .before .before .read-study .last .1 .1 .1 .0) (c .before .before .before .before .before .before .before .before .before .before .before .read-study .last .1 .1 .1 .1 .0) (c .before .before .before .before .before .before .before .before .before .before .before .read-study .last .1 .1 .1 .1 .1 .0) (c .before .before .before .before .before .before .before .before .before .before .before .read-study .last .1 .1 .1 .1 .1 .1 .0) (c .before .before .before .h .given .0 .0) (c .before .before .before .h .given .0 .1 .0) (c .before .before .before .h .given .0 .1 .1 .0) (c .before .before .before .h .given .0 .1 .1 .1 .0) (c .before .before .before .h .given .0 .1 .1 .1 .1 .0) (c .before .before .before .h .given .0 .1 .1 .1 .1 .1 .0) (c .before .before .before .h .given .0 .1 .1 .1 .1 .1 .1 .0) (c .before .before .before .before .before .before .before .before .before .before .before .read-study .ensures) (c .before .before .before .h .given .1) (omega (arith, c .before .before .before .before .before .before .before .before .before .before .before .before .before .before .before .before .before .before .before .before .before .before .before .triples .ensures, c .before .before .before .before .before .before .before .before .before .before .before .read-study .kept .1 .0)) (omega (arith, c .before .before .before .before .before .before .before .before .before .before .before .before .before .before .before .before .before .before .before .before .before .before .numbers .ensures, c .before .before .before .before .before .before .before .before .before .before .before .read-study .kept .1 .1 .0)) (omega (arith, c .before .before .before .before .before .before .before .before .before .before .before .before .before .before .before .before .before .before .before .before .before .patterns .ensures, c .before .before .before .before .before .before .before .before .before .before .before .read-study .kept .1 .1 .1 .0)) (omega (arith, c .before .before .before .before .before .before .before .before .before .before .before .before .before .before .before .before .before .before .before .before .patterns2 .ensures, c .before .before .before .before .before .before .before .before .before .before .before .read-study .kept .1 .1 .1 .1 .0)) (omega (arith, c .before .before .before .before .before .before .before .before .before .before .before .before .before .before .before .before .before .before .before .patterns3 .ensures, c .before .before .before .before .before .before .before .before .before .before .before .read-study .kept .1 .1 .1 .1 .1 .0)) (omega (arith, c .before .before .before .before .before .before .before .before .before .before .before .before .before .before .before .before .before .before .triples2 .ensures, c .before .before .before .before .before .before .before .before .before .before .before .read-study .kept .1 .1 .1 .1 .1 .1 .0)) in w .gp-map
+    known (c .before .before .before) .gp-map
 
 slice-aggregate-put-held-2 : tie.Need-slice-aggregate-put-held-2
 slice-aggregate-put-held-2 c =
-    let s : _ = c .before .before .before .before .before .before .before .before .before .before .before .before .before .before .before .before .before .before .before .before .before .before .before .before .before .before in let w : _ = within (s .args .text .now) (c .before .before .before .before .before .before .before .before .before .before .before .before .read-study .result) (c .before .before .before .before .before .before .before .before .before .before .before .before .read-study .last .1 .0) (c .before .before .before .before .before .before .before .before .before .before .before .before .read-study .last .1 .1 .0) (c .before .before .before .before .before .before .before .before .before .before .before .before .read-study .last .1 .1 .1 .0) (c .before .before .before .before .before .before .before .before .before .before .before .before .read-study .last .1 .1 .1 .1 .0) (c .before .before .before .before .before .before .before .before .before .before .before .before .read-study .last .1 .1 .1 .1 .1 .0) (c .before .before .before .before .before .before .before .before .before .before .before .before .read-study .last .1 .1 .1 .1 .1 .1 .0) (c .before .before .before .before .h .given .0 .0) (c .before .before .before .before .h .given .0 .1 .0) (c .before .before .before .before .h .given .0 .1 .1 .0) (c .before .before .before .before .h .given .0 .1 .1 .1 .0) (c .before .before .before .before .h .given .0 .1 .1 .1 .1 .0) (c .before .before .before .before .h .given .0 .1 .1 .1 .1 .1 .0) (c .before .before .before .before .h .given .0 .1 .1 .1 .1 .1 .1 .0) (c .before .before .before .before .before .before .before .before .before .before .before .before .read-study .ensures) (c .before .before .before .before .h .given .1) (omega (arith, c .before .before .before .before .before .before .before .before .before .before .before .before .before .before .before .before .before .before .before .before .before .before .before .before .triples .ensures, c .before .before .before .before .before .before .before .before .before .before .before .before .read-study .kept .1 .0)) (omega (arith, c .before .before .before .before .before .before .before .before .before .before .before .before .before .before .before .before .before .before .before .before .before .before .before .numbers .ensures, c .before .before .before .before .before .before .before .before .before .before .before .before .read-study .kept .1 .1 .0)) (omega (arith, c .before .before .before .before .before .before .before .before .before .before .before .before .before .before .before .before .before .before .before .before .before .before .patterns .ensures, c .before .before .before .before .before .before .before .before .before .before .before .before .read-study .kept .1 .1 .1 .0)) (omega (arith, c .before .before .before .before .before .before .before .before .before .before .before .before .before .before .before .before .before .before .before .before .before .patterns2 .ensures, c .before .before .before .before .before .before .before .before .before .before .before .before .read-study .kept .1 .1 .1 .1 .0)) (omega (arith, c .before .before .before .before .before .before .before .before .before .before .before .before .before .before .before .before .before .before .before .before .patterns3 .ensures, c .before .before .before .before .before .before .before .before .before .before .before .before .read-study .kept .1 .1 .1 .1 .1 .0)) (omega (arith, c .before .before .before .before .before .before .before .before .before .before .before .before .before .before .before .before .before .before .before .triples2 .ensures, c .before .before .before .before .before .before .before .before .before .before .before .before .read-study .kept .1 .1 .1 .1 .1 .1 .0)) in sym (length-take-le (c .before .before .before .before .h .given .0 .1 .1 .0) (c .before .before .before .before .before .before .before .before .before .before .before .before .read-study .last .1 .1 .0) (w .gp-map))
+    sym (length-take-le _ _ (known (c .before .before .before .before) .gp-map))
 
 array-share-prefix-f1 : tie.Need-array-share-prefix-f1
 array-share-prefix-f1 c =
-    let s : _ = c .before .before .before .before .before .before .before .before .before .before .before .before .before .before .before .before .before .before .before .before .before .before .before .before .before .before in let w : _ = within (s .args .text .now) (c .before .before .before .before .before .before .before .before .before .before .before .before .read-study .result) (c .before .before .before .before .before .before .before .before .before .before .before .before .read-study .last .1 .0) (c .before .before .before .before .before .before .before .before .before .before .before .before .read-study .last .1 .1 .0) (c .before .before .before .before .before .before .before .before .before .before .before .before .read-study .last .1 .1 .1 .0) (c .before .before .before .before .before .before .before .before .before .before .before .before .read-study .last .1 .1 .1 .1 .0) (c .before .before .before .before .before .before .before .before .before .before .before .before .read-study .last .1 .1 .1 .1 .1 .0) (c .before .before .before .before .before .before .before .before .before .before .before .before .read-study .last .1 .1 .1 .1 .1 .1 .0) (c .before .before .before .before .h .given .0 .0) (c .before .before .before .before .h .given .0 .1 .0) (c .before .before .before .before .h .given .0 .1 .1 .0) (c .before .before .before .before .h .given .0 .1 .1 .1 .0) (c .before .before .before .before .h .given .0 .1 .1 .1 .1 .0) (c .before .before .before .before .h .given .0 .1 .1 .1 .1 .1 .0) (c .before .before .before .before .h .given .0 .1 .1 .1 .1 .1 .1 .0) (c .before .before .before .before .before .before .before .before .before .before .before .before .read-study .ensures) (c .before .before .before .before .h .given .1) (omega (arith, c .before .before .before .before .before .before .before .before .before .before .before .before .before .before .before .before .before .before .before .before .before .before .before .before .triples .ensures, c .before .before .before .before .before .before .before .before .before .before .before .before .read-study .kept .1 .0)) (omega (arith, c .before .before .before .before .before .before .before .before .before .before .before .before .before .before .before .before .before .before .before .before .before .before .before .numbers .ensures, c .before .before .before .before .before .before .before .before .before .before .before .before .read-study .kept .1 .1 .0)) (omega (arith, c .before .before .before .before .before .before .before .before .before .before .before .before .before .before .before .before .before .before .before .before .before .before .patterns .ensures, c .before .before .before .before .before .before .before .before .before .before .before .before .read-study .kept .1 .1 .1 .0)) (omega (arith, c .before .before .before .before .before .before .before .before .before .before .before .before .before .before .before .before .before .before .before .before .before .patterns2 .ensures, c .before .before .before .before .before .before .before .before .before .before .before .before .read-study .kept .1 .1 .1 .1 .0)) (omega (arith, c .before .before .before .before .before .before .before .before .before .before .before .before .before .before .before .before .before .before .before .before .patterns3 .ensures, c .before .before .before .before .before .before .before .before .before .before .before .before .read-study .kept .1 .1 .1 .1 .1 .0)) (omega (arith, c .before .before .before .before .before .before .before .before .before .before .before .before .before .before .before .before .before .before .before .triples2 .ensures, c .before .before .before .before .before .before .before .before .before .before .before .before .read-study .kept .1 .1 .1 .1 .1 .1 .0)) in w .f1
+    known (c .before .before .before .before) .f1
 
 slice-aggregate-put-held-3 : tie.Need-slice-aggregate-put-held-3
 slice-aggregate-put-held-3 c =
-    let s : _ = c .before .before .before .before .before .before .before .before .before .before .before .before .before .before .before .before .before .before .before .before .before .before .before .before .before .before .before in let w : _ = within (s .args .text .now) (c .before .before .before .before .before .before .before .before .before .before .before .before .before .read-study .result) (c .before .before .before .before .before .before .before .before .before .before .before .before .before .read-study .last .1 .0) (c .before .before .before .before .before .before .before .before .before .before .before .before .before .read-study .last .1 .1 .0) (c .before .before .before .before .before .before .before .before .before .before .before .before .before .read-study .last .1 .1 .1 .0) (c .before .before .before .before .before .before .before .before .before .before .before .before .before .read-study .last .1 .1 .1 .1 .0) (c .before .before .before .before .before .before .before .before .before .before .before .before .before .read-study .last .1 .1 .1 .1 .1 .0) (c .before .before .before .before .before .before .before .before .before .before .before .before .before .read-study .last .1 .1 .1 .1 .1 .1 .0) (c .before .before .before .before .before .h .given .0 .0) (c .before .before .before .before .before .h .given .0 .1 .0) (c .before .before .before .before .before .h .given .0 .1 .1 .0) (c .before .before .before .before .before .h .given .0 .1 .1 .1 .0) (c .before .before .before .before .before .h .given .0 .1 .1 .1 .1 .0) (c .before .before .before .before .before .h .given .0 .1 .1 .1 .1 .1 .0) (c .before .before .before .before .before .h .given .0 .1 .1 .1 .1 .1 .1 .0) (c .before .before .before .before .before .before .before .before .before .before .before .before .before .read-study .ensures) (c .before .before .before .before .before .h .given .1) (omega (arith, c .before .before .before .before .before .before .before .before .before .before .before .before .before .before .before .before .before .before .before .before .before .before .before .before .before .triples .ensures, c .before .before .before .before .before .before .before .before .before .before .before .before .before .read-study .kept .1 .0)) (omega (arith, c .before .before .before .before .before .before .before .before .before .before .before .before .before .before .before .before .before .before .before .before .before .before .before .before .numbers .ensures, c .before .before .before .before .before .before .before .before .before .before .before .before .before .read-study .kept .1 .1 .0)) (omega (arith, c .before .before .before .before .before .before .before .before .before .before .before .before .before .before .before .before .before .before .before .before .before .before .before .patterns .ensures, c .before .before .before .before .before .before .before .before .before .before .before .before .before .read-study .kept .1 .1 .1 .0)) (omega (arith, c .before .before .before .before .before .before .before .before .before .before .before .before .before .before .before .before .before .before .before .before .before .before .patterns2 .ensures, c .before .before .before .before .before .before .before .before .before .before .before .before .before .read-study .kept .1 .1 .1 .1 .0)) (omega (arith, c .before .before .before .before .before .before .before .before .before .before .before .before .before .before .before .before .before .before .before .before .before .patterns3 .ensures, c .before .before .before .before .before .before .before .before .before .before .before .before .before .read-study .kept .1 .1 .1 .1 .1 .0)) (omega (arith, c .before .before .before .before .before .before .before .before .before .before .before .before .before .before .before .before .before .before .before .before .triples2 .ensures, c .before .before .before .before .before .before .before .before .before .before .before .before .before .read-study .kept .1 .1 .1 .1 .1 .1 .0)) in sym (length-take-le (c .before .before .before .before .before .h .given .0 .1 .1 .1 .0) (c .before .before .before .before .before .before .before .before .before .before .before .before .before .read-study .last .1 .1 .1 .0) (w .f1))
+    sym (length-take-le _ _ (known (c .before .before .before .before .before) .f1))
 
 array-share-prefix-f2 : tie.Need-array-share-prefix-f2
 array-share-prefix-f2 c =
-    let s : _ = c .before .before .before .before .before .before .before .before .before .before .before .before .before .before .before .before .before .before .before .before .before .before .before .before .before .before .before in let w : _ = within (s .args .text .now) (c .before .before .before .before .before .before .before .before .before .before .before .before .before .read-study .result) (c .before .before .before .before .before .before .before .before .before .before .before .before .before .read-study .last .1 .0) (c .before .before .before .before .before .before .before .before .before .before .before .before .before .read-study .last .1 .1 .0) (c .before .before .before .before .before .before .before .before .before .before .before .before .before .read-study .last .1 .1 .1 .0) (c .before .before .before .before .before .before .before .before .before .before .before .before .before .read-study .last .1 .1 .1 .1 .0) (c .before .before .before .before .before .before .before .before .before .before .before .before .before .read-study .last .1 .1 .1 .1 .1 .0) (c .before .before .before .before .before .before .before .before .before .before .before .before .before .read-study .last .1 .1 .1 .1 .1 .1 .0) (c .before .before .before .before .before .h .given .0 .0) (c .before .before .before .before .before .h .given .0 .1 .0) (c .before .before .before .before .before .h .given .0 .1 .1 .0) (c .before .before .before .before .before .h .given .0 .1 .1 .1 .0) (c .before .before .before .before .before .h .given .0 .1 .1 .1 .1 .0) (c .before .before .before .before .before .h .given .0 .1 .1 .1 .1 .1 .0) (c .before .before .before .before .before .h .given .0 .1 .1 .1 .1 .1 .1 .0) (c .before .before .before .before .before .before .before .before .before .before .before .before .before .read-study .ensures) (c .before .before .before .before .before .h .given .1) (omega (arith, c .before .before .before .before .before .before .before .before .before .before .before .before .before .before .before .before .before .before .before .before .before .before .before .before .before .triples .ensures, c .before .before .before .before .before .before .before .before .before .before .before .before .before .read-study .kept .1 .0)) (omega (arith, c .before .before .before .before .before .before .before .before .before .before .before .before .before .before .before .before .before .before .before .before .before .before .before .before .numbers .ensures, c .before .before .before .before .before .before .before .before .before .before .before .before .before .read-study .kept .1 .1 .0)) (omega (arith, c .before .before .before .before .before .before .before .before .before .before .before .before .before .before .before .before .before .before .before .before .before .before .before .patterns .ensures, c .before .before .before .before .before .before .before .before .before .before .before .before .before .read-study .kept .1 .1 .1 .0)) (omega (arith, c .before .before .before .before .before .before .before .before .before .before .before .before .before .before .before .before .before .before .before .before .before .before .patterns2 .ensures, c .before .before .before .before .before .before .before .before .before .before .before .before .before .read-study .kept .1 .1 .1 .1 .0)) (omega (arith, c .before .before .before .before .before .before .before .before .before .before .before .before .before .before .before .before .before .before .before .before .before .patterns3 .ensures, c .before .before .before .before .before .before .before .before .before .before .before .before .before .read-study .kept .1 .1 .1 .1 .1 .0)) (omega (arith, c .before .before .before .before .before .before .before .before .before .before .before .before .before .before .before .before .before .before .before .before .triples2 .ensures, c .before .before .before .before .before .before .before .before .before .before .before .before .before .read-study .kept .1 .1 .1 .1 .1 .1 .0)) in w .f2
+    known (c .before .before .before .before .before) .f2
 
 slice-aggregate-put-held-4 : tie.Need-slice-aggregate-put-held-4
 slice-aggregate-put-held-4 c =
-    let s : _ = c .before .before .before .before .before .before .before .before .before .before .before .before .before .before .before .before .before .before .before .before .before .before .before .before .before .before .before .before in let w : _ = within (s .args .text .now) (c .before .before .before .before .before .before .before .before .before .before .before .before .before .before .read-study .result) (c .before .before .before .before .before .before .before .before .before .before .before .before .before .before .read-study .last .1 .0) (c .before .before .before .before .before .before .before .before .before .before .before .before .before .before .read-study .last .1 .1 .0) (c .before .before .before .before .before .before .before .before .before .before .before .before .before .before .read-study .last .1 .1 .1 .0) (c .before .before .before .before .before .before .before .before .before .before .before .before .before .before .read-study .last .1 .1 .1 .1 .0) (c .before .before .before .before .before .before .before .before .before .before .before .before .before .before .read-study .last .1 .1 .1 .1 .1 .0) (c .before .before .before .before .before .before .before .before .before .before .before .before .before .before .read-study .last .1 .1 .1 .1 .1 .1 .0) (c .before .before .before .before .before .before .h .given .0 .0) (c .before .before .before .before .before .before .h .given .0 .1 .0) (c .before .before .before .before .before .before .h .given .0 .1 .1 .0) (c .before .before .before .before .before .before .h .given .0 .1 .1 .1 .0) (c .before .before .before .before .before .before .h .given .0 .1 .1 .1 .1 .0) (c .before .before .before .before .before .before .h .given .0 .1 .1 .1 .1 .1 .0) (c .before .before .before .before .before .before .h .given .0 .1 .1 .1 .1 .1 .1 .0) (c .before .before .before .before .before .before .before .before .before .before .before .before .before .before .read-study .ensures) (c .before .before .before .before .before .before .h .given .1) (omega (arith, c .before .before .before .before .before .before .before .before .before .before .before .before .before .before .before .before .before .before .before .before .before .before .before .before .before .before .triples .ensures, c .before .before .before .before .before .before .before .before .before .before .before .before .before .before .read-study .kept .1 .0)) (omega (arith, c .before .before .before .before .before .before .before .before .before .before .before .before .before .before .before .before .before .before .before .before .before .before .before .before .before .numbers .ensures, c .before .before .before .before .before .before .before .before .before .before .before .before .before .before .read-study .kept .1 .1 .0)) (omega (arith, c .before .before .before .before .before .before .before .before .before .before .before .before .before .before .before .before .before .before .before .before .before .before .before .before .patterns .ensures, c .before .before .before .before .before .before .before .before .before .before .before .before .before .before .read-study .kept .1 .1 .1 .0)) (omega (arith, c .before .before .before .before .before .before .before .before .before .before .before .before .before .before .before .before .before .before .before .before .before .before .before .patterns2 .ensures, c .before .before .before .before .before .before .before .before .before .before .before .before .before .before .read-study .kept .1 .1 .1 .1 .0)) (omega (arith, c .before .before .before .before .before .before .before .before .before .before .before .before .before .before .before .before .before .before .before .before .before .before .patterns3 .ensures, c .before .before .before .before .before .before .before .before .before .before .before .before .before .before .read-study .kept .1 .1 .1 .1 .1 .0)) (omega (arith, c .before .before .before .before .before .before .before .before .before .before .before .before .before .before .before .before .before .before .before .before .before .triples2 .ensures, c .before .before .before .before .before .before .before .before .before .before .before .before .before .before .read-study .kept .1 .1 .1 .1 .1 .1 .0)) in sym (length-take-le (c .before .before .before .before .before .before .h .given .0 .1 .1 .1 .1 .0) (c .before .before .before .before .before .before .before .before .before .before .before .before .before .before .read-study .last .1 .1 .1 .1 .0) (w .f2))
+    sym (length-take-le _ _ (known (c .before .before .before .before .before .before) .f2))
 
 array-share-prefix-points : tie.Need-array-share-prefix-points
 array-share-prefix-points c =
-    let s : _ = c .before .before .before .before .before .before .before .before .before .before .before .before .before .before .before .before .before .before .before .before .before .before .before .before .before .before .before .before in let w : _ = within (s .args .text .now) (c .before .before .before .before .before .before .before .before .before .before .before .before .before .before .read-study .result) (c .before .before .before .before .before .before .before .before .before .before .before .before .before .before .read-study .last .1 .0) (c .before .before .before .before .before .before .before .before .before .before .before .before .before .before .read-study .last .1 .1 .0) (c .before .before .before .before .before .before .before .before .before .before .before .before .before .before .read-study .last .1 .1 .1 .0) (c .before .before .before .before .before .before .before .before .before .before .before .before .before .before .read-study .last .1 .1 .1 .1 .0) (c .before .before .before .before .before .before .before .before .before .before .before .before .before .before .read-study .last .1 .1 .1 .1 .1 .0) (c .before .before .before .before .before .before .before .before .before .before .before .before .before .before .read-study .last .1 .1 .1 .1 .1 .1 .0) (c .before .before .before .before .before .before .h .given .0 .0) (c .before .before .before .before .before .before .h .given .0 .1 .0) (c .before .before .before .before .before .before .h .given .0 .1 .1 .0) (c .before .before .before .before .before .before .h .given .0 .1 .1 .1 .0) (c .before .before .before .before .before .before .h .given .0 .1 .1 .1 .1 .0) (c .before .before .before .before .before .before .h .given .0 .1 .1 .1 .1 .1 .0) (c .before .before .before .before .before .before .h .given .0 .1 .1 .1 .1 .1 .1 .0) (c .before .before .before .before .before .before .before .before .before .before .before .before .before .before .read-study .ensures) (c .before .before .before .before .before .before .h .given .1) (omega (arith, c .before .before .before .before .before .before .before .before .before .before .before .before .before .before .before .before .before .before .before .before .before .before .before .before .before .before .triples .ensures, c .before .before .before .before .before .before .before .before .before .before .before .before .before .before .read-study .kept .1 .0)) (omega (arith, c .before .before .before .before .before .before .before .before .before .before .before .before .before .before .before .before .before .before .before .before .before .before .before .before .before .numbers .ensures, c .before .before .before .before .before .before .before .before .before .before .before .before .before .before .read-study .kept .1 .1 .0)) (omega (arith, c .before .before .before .before .before .before .before .before .before .before .before .before .before .before .before .before .before .before .before .before .before .before .before .before .patterns .ensures, c .before .before .before .before .before .before .before .before .before .before .before .before .before .before .read-study .kept .1 .1 .1 .0)) (omega (arith, c .before .before .before .before .before .before .before .before .before .before .before .before .before .before .before .before .before .before .before .before .before .before .before .patterns2 .ensures, c .before .before .before .before .before .before .before .before .before .before .before .before .before .before .read-study .kept .1 .1 .1 .1 .0)) (omega (arith, c .before .before .before .before .before .before .before .before .before .before .before .before .before .before .before .before .before .before .before .before .before .before .patterns3 .ensures, c .before .before .before .before .before .before .before .before .before .before .before .before .before .before .read-study .kept .1 .1 .1 .1 .1 .0)) (omega (arith, c .before .before .before .before .before .before .before .before .before .before .before .before .before .before .before .before .before .before .before .before .before .triples2 .ensures, c .before .before .before .before .before .before .before .before .before .before .before .before .before .before .read-study .kept .1 .1 .1 .1 .1 .1 .0)) in w .points
+    known (c .before .before .before .before .before .before) .points
 
 slice-aggregate-put-held-5 : tie.Need-slice-aggregate-put-held-5
 slice-aggregate-put-held-5 c =
-    let s : _ = c .before .before .before .before .before .before .before .before .before .before .before .before .before .before .before .before .before .before .before .before .before .before .before .before .before .before .before .before .before in let w : _ = within (s .args .text .now) (c .before .before .before .before .before .before .before .before .before .before .before .before .before .before .before .read-study .result) (c .before .before .before .before .before .before .before .before .before .before .before .before .before .before .before .read-study .last .1 .0) (c .before .before .before .before .before .before .before .before .before .before .before .before .before .before .before .read-study .last .1 .1 .0) (c .before .before .before .before .before .before .before .before .before .before .before .before .before .before .before .read-study .last .1 .1 .1 .0) (c .before .before .before .before .before .before .before .before .before .before .before .before .before .before .before .read-study .last .1 .1 .1 .1 .0) (c .before .before .before .before .before .before .before .before .before .before .before .before .before .before .before .read-study .last .1 .1 .1 .1 .1 .0) (c .before .before .before .before .before .before .before .before .before .before .before .before .before .before .before .read-study .last .1 .1 .1 .1 .1 .1 .0) (c .before .before .before .before .before .before .before .h .given .0 .0) (c .before .before .before .before .before .before .before .h .given .0 .1 .0) (c .before .before .before .before .before .before .before .h .given .0 .1 .1 .0) (c .before .before .before .before .before .before .before .h .given .0 .1 .1 .1 .0) (c .before .before .before .before .before .before .before .h .given .0 .1 .1 .1 .1 .0) (c .before .before .before .before .before .before .before .h .given .0 .1 .1 .1 .1 .1 .0) (c .before .before .before .before .before .before .before .h .given .0 .1 .1 .1 .1 .1 .1 .0) (c .before .before .before .before .before .before .before .before .before .before .before .before .before .before .before .read-study .ensures) (c .before .before .before .before .before .before .before .h .given .1) (omega (arith, c .before .before .before .before .before .before .before .before .before .before .before .before .before .before .before .before .before .before .before .before .before .before .before .before .before .before .before .triples .ensures, c .before .before .before .before .before .before .before .before .before .before .before .before .before .before .before .read-study .kept .1 .0)) (omega (arith, c .before .before .before .before .before .before .before .before .before .before .before .before .before .before .before .before .before .before .before .before .before .before .before .before .before .before .numbers .ensures, c .before .before .before .before .before .before .before .before .before .before .before .before .before .before .before .read-study .kept .1 .1 .0)) (omega (arith, c .before .before .before .before .before .before .before .before .before .before .before .before .before .before .before .before .before .before .before .before .before .before .before .before .before .patterns .ensures, c .before .before .before .before .before .before .before .before .before .before .before .before .before .before .before .read-study .kept .1 .1 .1 .0)) (omega (arith, c .before .before .before .before .before .before .before .before .before .before .before .before .before .before .before .before .before .before .before .before .before .before .before .before .patterns2 .ensures, c .before .before .before .before .before .before .before .before .before .before .before .before .before .before .before .read-study .kept .1 .1 .1 .1 .0)) (omega (arith, c .before .before .before .before .before .before .before .before .before .before .before .before .before .before .before .before .before .before .before .before .before .before .before .patterns3 .ensures, c .before .before .before .before .before .before .before .before .before .before .before .before .before .before .before .read-study .kept .1 .1 .1 .1 .1 .0)) (omega (arith, c .before .before .before .before .before .before .before .before .before .before .before .before .before .before .before .before .before .before .before .before .before .before .triples2 .ensures, c .before .before .before .before .before .before .before .before .before .before .before .before .before .before .before .read-study .kept .1 .1 .1 .1 .1 .1 .0)) in sym (length-take-le (c .before .before .before .before .before .before .before .h .given .0 .1 .1 .1 .1 .1 .0) (c .before .before .before .before .before .before .before .before .before .before .before .before .before .before .before .read-study .last .1 .1 .1 .1 .1 .0) (w .points))
+    sym (length-take-le _ _ (known (c .before .before .before .before .before .before .before) .points))
 
 array-share-prefix-triplets : tie.Need-array-share-prefix-triplets
 array-share-prefix-triplets c =
-    let s : _ = c .before .before .before .before .before .before .before .before .before .before .before .before .before .before .before .before .before .before .before .before .before .before .before .before .before .before .before .before .before in let w : _ = within (s .args .text .now) (c .before .before .before .before .before .before .before .before .before .before .before .before .before .before .before .read-study .result) (c .before .before .before .before .before .before .before .before .before .before .before .before .before .before .before .read-study .last .1 .0) (c .before .before .before .before .before .before .before .before .before .before .before .before .before .before .before .read-study .last .1 .1 .0) (c .before .before .before .before .before .before .before .before .before .before .before .before .before .before .before .read-study .last .1 .1 .1 .0) (c .before .before .before .before .before .before .before .before .before .before .before .before .before .before .before .read-study .last .1 .1 .1 .1 .0) (c .before .before .before .before .before .before .before .before .before .before .before .before .before .before .before .read-study .last .1 .1 .1 .1 .1 .0) (c .before .before .before .before .before .before .before .before .before .before .before .before .before .before .before .read-study .last .1 .1 .1 .1 .1 .1 .0) (c .before .before .before .before .before .before .before .h .given .0 .0) (c .before .before .before .before .before .before .before .h .given .0 .1 .0) (c .before .before .before .before .before .before .before .h .given .0 .1 .1 .0) (c .before .before .before .before .before .before .before .h .given .0 .1 .1 .1 .0) (c .before .before .before .before .before .before .before .h .given .0 .1 .1 .1 .1 .0) (c .before .before .before .before .before .before .before .h .given .0 .1 .1 .1 .1 .1 .0) (c .before .before .before .before .before .before .before .h .given .0 .1 .1 .1 .1 .1 .1 .0) (c .before .before .before .before .before .before .before .before .before .before .before .before .before .before .before .read-study .ensures) (c .before .before .before .before .before .before .before .h .given .1) (omega (arith, c .before .before .before .before .before .before .before .before .before .before .before .before .before .before .before .before .before .before .before .before .before .before .before .before .before .before .before .triples .ensures, c .before .before .before .before .before .before .before .before .before .before .before .before .before .before .before .read-study .kept .1 .0)) (omega (arith, c .before .before .before .before .before .before .before .before .before .before .before .before .before .before .before .before .before .before .before .before .before .before .before .before .before .before .numbers .ensures, c .before .before .before .before .before .before .before .before .before .before .before .before .before .before .before .read-study .kept .1 .1 .0)) (omega (arith, c .before .before .before .before .before .before .before .before .before .before .before .before .before .before .before .before .before .before .before .before .before .before .before .before .before .patterns .ensures, c .before .before .before .before .before .before .before .before .before .before .before .before .before .before .before .read-study .kept .1 .1 .1 .0)) (omega (arith, c .before .before .before .before .before .before .before .before .before .before .before .before .before .before .before .before .before .before .before .before .before .before .before .before .patterns2 .ensures, c .before .before .before .before .before .before .before .before .before .before .before .before .before .before .before .read-study .kept .1 .1 .1 .1 .0)) (omega (arith, c .before .before .before .before .before .before .before .before .before .before .before .before .before .before .before .before .before .before .before .before .before .before .before .patterns3 .ensures, c .before .before .before .before .before .before .before .before .before .before .before .before .before .before .before .read-study .kept .1 .1 .1 .1 .1 .0)) (omega (arith, c .before .before .before .before .before .before .before .before .before .before .before .before .before .before .before .before .before .before .before .before .before .before .triples2 .ensures, c .before .before .before .before .before .before .before .before .before .before .before .before .before .before .before .read-study .kept .1 .1 .1 .1 .1 .1 .0)) in w .triplets
+    known (c .before .before .before .before .before .before .before) .triplets
 
 slice-aggregate-put-held-6 : tie.Need-slice-aggregate-put-held-6
 slice-aggregate-put-held-6 c =
-    let s : _ = c .before .before .before .before .before .before .before .before .before .before .before .before .before .before .before .before .before .before .before .before .before .before .before .before .before .before .before .before .before .before in let w : _ = within (s .args .text .now) (c .before .before .before .before .before .before .before .before .before .before .before .before .before .before .before .before .read-study .result) (c .before .before .before .before .before .before .before .before .before .before .before .before .before .before .before .before .read-study .last .1 .0) (c .before .before .before .before .before .before .before .before .before .before .before .before .before .before .before .before .read-study .last .1 .1 .0) (c .before .before .before .before .before .before .before .before .before .before .before .before .before .before .before .before .read-study .last .1 .1 .1 .0) (c .before .before .before .before .before .before .before .before .before .before .before .before .before .before .before .before .read-study .last .1 .1 .1 .1 .0) (c .before .before .before .before .before .before .before .before .before .before .before .before .before .before .before .before .read-study .last .1 .1 .1 .1 .1 .0) (c .before .before .before .before .before .before .before .before .before .before .before .before .before .before .before .before .read-study .last .1 .1 .1 .1 .1 .1 .0) (c .before .before .before .before .before .before .before .before .h .given .0 .0) (c .before .before .before .before .before .before .before .before .h .given .0 .1 .0) (c .before .before .before .before .before .before .before .before .h .given .0 .1 .1 .0) (c .before .before .before .before .before .before .before .before .h .given .0 .1 .1 .1 .0) (c .before .before .before .before .before .before .before .before .h .given .0 .1 .1 .1 .1 .0) (c .before .before .before .before .before .before .before .before .h .given .0 .1 .1 .1 .1 .1 .0) (c .before .before .before .before .before .before .before .before .h .given .0 .1 .1 .1 .1 .1 .1 .0) (c .before .before .before .before .before .before .before .before .before .before .before .before .before .before .before .before .read-study .ensures) (c .before .before .before .before .before .before .before .before .h .given .1) (omega (arith, c .before .before .before .before .before .before .before .before .before .before .before .before .before .before .before .before .before .before .before .before .before .before .before .before .before .before .before .before .triples .ensures, c .before .before .before .before .before .before .before .before .before .before .before .before .before .before .before .before .read-study .kept .1 .0)) (omega (arith, c .before .before .before .before .before .before .before .before .before .before .before .before .before .before .before .before .before .before .before .before .before .before .before .before .before .before .before .numbers .ensures, c .before .before .before .before .before .before .before .before .before .before .before .before .before .before .before .before .read-study .kept .1 .1 .0)) (omega (arith, c .before .before .before .before .before .before .before .before .before .before .before .before .before .before .before .before .before .before .before .before .before .before .before .before .before .before .patterns .ensures, c .before .before .before .before .before .before .before .before .before .before .before .before .before .before .before .before .read-study .kept .1 .1 .1 .0)) (omega (arith, c .before .before .before .before .before .before .before .before .before .before .before .before .before .before .before .before .before .before .before .before .before .before .before .before .before .patterns2 .ensures, c .before .before .before .before .before .before .before .before .before .before .before .before .before .before .before .before .read-study .kept .1 .1 .1 .1 .0)) (omega (arith, c .before .before .before .before .before .before .before .before .before .before .before .before .before .before .before .before .before .before .before .before .before .before .before .before .patterns3 .ensures, c .before .before .before .before .before .before .before .before .before .before .before .before .before .before .before .before .read-study .kept .1 .1 .1 .1 .1 .0)) (omega (arith, c .before .before .before .before .before .before .before .before .before .before .before .before .before .before .before .before .before .before .before .before .before .before .before .triples2 .ensures, c .before .before .before .before .before .before .before .before .before .before .before .before .before .before .before .before .read-study .kept .1 .1 .1 .1 .1 .1 .0)) in sym (length-take-le (c .before .before .before .before .before .before .before .before .h .given .0 .1 .1 .1 .1 .1 .1 .0) (c .before .before .before .before .before .before .before .before .before .before .before .before .before .before .before .before .read-study .last .1 .1 .1 .1 .1 .1 .0) (w .triplets))
+    sym (length-take-le _ _ (known (c .before .before .before .before .before .before .before .before) .triplets))
 
 put-held-requires : tie.Need-put-held-requires
 put-held-requires c κs =
-    let s : _ = c .before .before .before .before .before .before .before .before .before .before .before .before .before .before .before .before .before .before .before .before .before .before .before .before .before .before .before .before .before .before in held-ready (s .args .text .now) (c .before .before .before .before .before .before .before .before .before .before .before .before .before .before .before .before .read-study .result) (c .before .before .before .before .before .before .before .before .before .before .before .before .before .before .before .before .read-study .last .1 .0) (c .before .before .before .before .before .before .before .before .before .before .before .before .before .before .before .before .read-study .last .1 .1 .0) (c .before .before .before .before .before .before .before .before .before .before .before .before .before .before .before .before .read-study .last .1 .1 .1 .0) (c .before .before .before .before .before .before .before .before .before .before .before .before .before .before .before .before .read-study .last .1 .1 .1 .1 .0) (c .before .before .before .before .before .before .before .before .before .before .before .before .before .before .before .before .read-study .last .1 .1 .1 .1 .1 .0) (c .before .before .before .before .before .before .before .before .before .before .before .before .before .before .before .before .read-study .last .1 .1 .1 .1 .1 .1 .0) (c .before .before .before .before .before .before .before .before .h .given .0 .0) (c .before .before .before .before .before .before .before .before .h .given .0 .1 .0) (c .before .before .before .before .before .before .before .before .h .given .0 .1 .1 .0) (c .before .before .before .before .before .before .before .before .h .given .0 .1 .1 .1 .0) (c .before .before .before .before .before .before .before .before .h .given .0 .1 .1 .1 .1 .0) (c .before .before .before .before .before .before .before .before .h .given .0 .1 .1 .1 .1 .1 .0) (c .before .before .before .before .before .before .before .before .h .given .0 .1 .1 .1 .1 .1 .1 .0) (c .before .before .before .before .before .before .before .before .before .before .before .before .before .before .before .before .read-study .ensures) (c .before .before .before .before .before .before .before .before .h .given .1)
+    known (c .before .before .before .before .before .before .before .before) .ready
 
 returns-2 : tie.Need-returns-2
 returns-2 c =
-    let s : _ = c .before .before .before .before .before .before .before .before .before .before .before .before .before .before .before .before .before .before .before .before .before .before .before .before .before .before .before .before .before .before .before in let p : _ = c .put-held in answered-so _ _ _ _ _ (p .ensures .0) (p .ensures .1) (held-answer (s .args .text .now) (c .before .before .before .before .before .before .before .before .before .before .before .before .before .before .before .before .before .read-study .result) (c .before .before .before .before .before .before .before .before .before .before .before .before .before .before .before .before .before .read-study .last .1 .0) (c .before .before .before .before .before .before .before .before .before .before .before .before .before .before .before .before .before .read-study .last .1 .1 .0) (c .before .before .before .before .before .before .before .before .before .before .before .before .before .before .before .before .before .read-study .last .1 .1 .1 .0) (c .before .before .before .before .before .before .before .before .before .before .before .before .before .before .before .before .before .read-study .last .1 .1 .1 .1 .0) (c .before .before .before .before .before .before .before .before .before .before .before .before .before .before .before .before .before .read-study .last .1 .1 .1 .1 .1 .0) (c .before .before .before .before .before .before .before .before .before .before .before .before .before .before .before .before .before .read-study .last .1 .1 .1 .1 .1 .1 .0) (c .before .before .before .before .before .before .before .before .before .h .given .0 .0) (c .before .before .before .before .before .before .before .before .before .h .given .0 .1 .0) (c .before .before .before .before .before .before .before .before .before .h .given .0 .1 .1 .0) (c .before .before .before .before .before .before .before .before .before .h .given .0 .1 .1 .1 .0) (c .before .before .before .before .before .before .before .before .before .h .given .0 .1 .1 .1 .1 .0) (c .before .before .before .before .before .before .before .before .before .h .given .0 .1 .1 .1 .1 .1 .0) (c .before .before .before .before .before .before .before .before .before .h .given .0 .1 .1 .1 .1 .1 .1 .0) (c .before .before .before .before .before .before .before .before .before .before .before .before .before .before .before .before .before .read-study .ensures) (c .before .before .before .before .before .before .before .before .before .h .given .1))
+    let p : _ = c .put-held .ensures in
+    answered-so _ _ _ _ _ (p .0) (p .1) (known (c .before .before .before .before .before .before .before .before .before) .answer)
 
 pub answer-spec : {M : Type 1} → statement M
 answer-spec =

@@ -2,7 +2,7 @@
 use Prim.Native.Nat.{_-_, _≤_}
 use borrow.Author.Needs.{needs}
 use lib.ListN.{length}
-use mathlib.Core.Path.{_∙_, _≡_, refl}
+use mathlib.Core.Path.{_≡_, refl}
 use native.Mathlib.Omega.{arith}
 use Rattle.weights.proofs.read_text.Statement.{statement}
 use Rattle.weights.proofs.read_text.Tie as tie

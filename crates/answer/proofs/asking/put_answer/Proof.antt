@@ -1,12 +1,32 @@
 -- `answer::asking::put_answer` meets its contract. Assumes nothing.
 use borrow.Author.Needs.{needs}
-use mathlib.Core.Path.{_∙_, sym}
+use lib.IntN.{ℤ}
+use mathlib.Core.List.{List}
+use mathlib.Core.Path.{_∙_, _≡_, sym}
 use native.Mathlib.Omega.{arith}
 use Rattle.answer_weights.proofs.ListedLaws.{wrote-as, wrote-so}
-use Rattle.answer.proofs.AnswerLaws.{answer-listed, answer-refused, answer-same, refusal-room}
-use Rattle.triplet_study.specs.Given.{given}
+use Rattle.answer.proofs.AnswerLaws.{answer-listed, answer-refused, refusal-room}
+use Rattle.answer.specs.Texts.{shapeOf, tableFor}
+use Rattle.answer_weights.specs.Answers.{answerTo}
+use Rattle.triplet_study.specs.declared.Shape.{Shape}
+use Rattle.triplet_study.specs.Given.{Given, given}
 use Rattle.answer.proofs.asking.put_answer.Statement.{statement}
 use Rattle.answer.proofs.asking.put_answer.Tie as tie
+
+-- ---- the study
+
+abbrev study : tie.Start → Shape → List ℤ → Given
+study s shape steps = given shape (s .args .addresses .now) (s .args .gp-map .now) steps (s .args .frequencies1 .now) (s .args .frequencies2 .now) (s .args .points .now) (s .args .triplets .now)
+
+-- by the values that the calls made
+abbrev made : tie.After-table-of → Given
+made c = study (c .before .before .before .before .before) (c .before .shape-of .result) (c .table-of .result)
+
+-- which are those of its head
+same : (c : tie.After-table-of) → answerTo (made c) ≡ answerTo (study (c .before .before .before .before .before) (shapeOf (c .before .before .before .before .before .args .head)) (tableFor (c .before .before .before .before .before .args .head)))
+same c = rw (c .before .shape-of .ensures, c .table-of .ensures)
+
+-- ---- the facts that the checker asks for
 
 shape-of-requires : tie.Need-shape-of-requires
 shape-of-requires c κs = search needs
@@ -26,7 +46,9 @@ put-refusal-requires c κs =
 
 returns : tie.Need-returns
 returns c =
-    wrote-as _ _ _ _ _ (c .put-refusal .ensures .0) (c .put-refusal .ensures .1) (answer-refused (given (c .before .before .before .before .before .before .shape-of .result) (c .before .before .before .before .before .before .before .before .before .before .args .addresses .now) (c .before .before .before .before .before .before .before .before .before .before .args .gp-map .now) (c .before .before .before .before .before .table-of .result) (c .before .before .before .before .before .before .before .before .before .before .args .frequencies1 .now) (c .before .before .before .before .before .before .before .before .before .before .args .frequencies2 .now) (c .before .before .before .before .before .before .before .before .before .before .args .points .now) (c .before .before .before .before .before .before .before .before .before .before .args .triplets .now)) (c .before .before .before .first-no .result) (c .before .before .before .first-no .ensures) (c .before .before .if1 .taken) ∙ answer-same (c .before .before .before .before .before .before .shape-of .result) _ (c .before .before .before .before .before .before .before .before .before .before .args .addresses .now) (c .before .before .before .before .before .before .before .before .before .before .args .gp-map .now) (c .before .before .before .before .before .table-of .result) _ (c .before .before .before .before .before .before .before .before .before .before .args .frequencies1 .now) (c .before .before .before .before .before .before .before .before .before .before .args .frequencies2 .now) (c .before .before .before .before .before .before .before .before .before .before .args .points .now) (c .before .before .before .before .before .before .before .before .before .before .args .triplets .now) (c .before .before .before .before .before .before .shape-of .ensures) (c .before .before .before .before .before .table-of .ensures))
+    let t : tie.After-table-of = c .before .before .before .before .before in
+    let n : _ = c .before .before .before .first-no in
+    wrote-as _ _ _ _ _ (c .put-refusal .ensures .0) (c .put-refusal .ensures .1) (answer-refused (made t) (n .result) (n .ensures) (c .before .before .if1 .taken) ∙ same t)
 
 slice-aggregate-put-study : tie.Need-slice-aggregate-put-study
 slice-aggregate-put-study c = search needs
@@ -37,7 +59,9 @@ put-study-requires c κs =
 
 returns-2 : tie.Need-returns-2
 returns-2 c =
-    wrote-so _ _ _ _ _ (c .put-study .ensures .0) (c .put-study .ensures .1) (answer-listed (given (c .before .before .before .before .before .before .before .shape-of .result) (c .before .before .before .before .before .before .before .before .before .before .before .args .addresses .now) (c .before .before .before .before .before .before .before .before .before .before .before .args .gp-map .now) (c .before .before .before .before .before .before .table-of .result) (c .before .before .before .before .before .before .before .before .before .before .before .args .frequencies1 .now) (c .before .before .before .before .before .before .before .before .before .before .before .args .frequencies2 .now) (c .before .before .before .before .before .before .before .before .before .before .before .args .points .now) (c .before .before .before .before .before .before .before .before .before .before .before .args .triplets .now)) (c .before .before .before .before .first-no .result) (c .before .before .before .before .first-no .ensures) (c .before .before .before .if1 .left) ∙ answer-same (c .before .before .before .before .before .before .before .shape-of .result) _ (c .before .before .before .before .before .before .before .before .before .before .before .args .addresses .now) (c .before .before .before .before .before .before .before .before .before .before .before .args .gp-map .now) (c .before .before .before .before .before .before .table-of .result) _ (c .before .before .before .before .before .before .before .before .before .before .before .args .frequencies1 .now) (c .before .before .before .before .before .before .before .before .before .before .before .args .frequencies2 .now) (c .before .before .before .before .before .before .before .before .before .before .before .args .points .now) (c .before .before .before .before .before .before .before .before .before .before .before .args .triplets .now) (c .before .before .before .before .before .before .before .shape-of .ensures) (c .before .before .before .before .before .before .table-of .ensures))
+    let t : tie.After-table-of = c .before .before .before .before .before .before in
+    let n : _ = c .before .before .before .before .first-no in
+    wrote-so _ _ _ _ _ (c .put-study .ensures .0) (c .put-study .ensures .1) (answer-listed (made t) (n .result) (n .ensures) (c .before .before .before .if1 .left) ∙ same t)
 
 pub put-answer-spec : {M : Type 1} → statement M
 put-answer-spec =

@@ -1,8 +1,9 @@
 -- `answer_weights::kernel::put_study` meets its contract. Assumes nothing.
-use Prim.Native.Nat.{_*_}
+use Prim.Native.Nat.{_*_, _≤_}
 use borrow.Author.Needs.{needs}
+use lib.ListN.{length, take}
 use lib.Seq.{length-take-le}
-use mathlib.Core.Path.{sym}
+use mathlib.Core.Path.{_≡_, sym}
 use native.Mathlib.Omega.{arith}
 use Rattle.answer_weights.proofs.ReadyLaws.{few-made, further, listing-room, ready}
 use Rattle.triplet_study.proofs.GivenLaws.{few-counts}
@@ -10,9 +11,25 @@ use Rattle.triplet_study.specs.Given.{Given, given}
 use Rattle.answer_weights.proofs.kernel.put_study.Statement.{statement}
 use Rattle.answer_weights.proofs.kernel.put_study.Tie as tie
 
+-- the study that is lent
+abbrev asked : tie.Start → Given
+asked s = given (s .args .shape) (s .args .addresses .now) (s .args .gp-map .now) (s .args .steps .now) (s .args .frequencies1 .now) (s .args .frequencies2 .now) (s .args .points .now) (s .args .triplets .now)
+
+-- its counts are few
+few : (c : tie.After-sizes-of) → (c .sizes-of .result .cells ≤ 4096) × (c .sizes-of .result .channels * c .sizes-of .result .cells ≤ 4096)
+few c = few-made (asked (c .before .before .before .before)) (c .before .before .before .before .pre .0) (c .sizes-of .result) (c .sizes-of .ensures)
+
+-- the lent parts of the buffers are as long as the counts say
+weights-fit : (c : tie.After-weight-buffer) → length (take (c .before .sizes-of .result .channels * c .before .sizes-of .result .cells) (c .weight-buffer .result)) ≡ c .before .sizes-of .result .channels * c .before .sizes-of .result .cells
+weights-fit c = length-take-le _ (c .weight-buffer .result) (omega (arith, few (c .before) .1, c .weight-buffer .ensures))
+
+flags-fit : (c : tie.After-flag-buffer) → length (take (c .before .before .sizes-of .result .cells) (c .flag-buffer .result)) ≡ c .before .before .sizes-of .result .cells
+flags-fit c = length-take-le _ (c .flag-buffer .result) (omega (arith, few (c .before .before) .0, c .flag-buffer .ensures))
+
 sizes-of-requires : tie.Need-sizes-of-requires
 sizes-of-requires c κs =
-    let g : Given = (given (c .before .before .before .args .shape) (c .before .before .before .args .addresses .now) (c .before .before .before .args .gp-map .now) (c .before .before .before .args .steps .now) (c .before .before .before .args .frequencies1 .now) (c .before .before .before .args .frequencies2 .now) (c .before .before .before .args .points .now) (c .before .before .before .args .triplets .now)) in few-counts g (further g (c .before .before .before .pre .0))
+    let s : tie.Start = c .before .before .before in
+    few-counts (asked s) (further (asked s) (s .pre .0))
 
 weight-buffer-requires : tie.Need-weight-buffer-requires
 weight-buffer-requires c κs = search needs
@@ -22,27 +39,29 @@ flag-buffer-requires c κs = search needs
 
 mul-n : tie.Need-mul-n
 mul-n c =
-    let g : Given = (given (c .before .before .before .before .before .before .before .args .shape) (c .before .before .before .before .before .before .before .args .addresses .now) (c .before .before .before .before .before .before .before .args .gp-map .now) (c .before .before .before .before .before .before .before .args .steps .now) (c .before .before .before .before .before .before .before .args .frequencies1 .now) (c .before .before .before .before .before .before .before .args .frequencies2 .now) (c .before .before .before .before .before .before .before .args .points .now) (c .before .before .before .before .before .before .before .args .triplets .now)) in let k : _ = few-made g (c .before .before .before .before .before .before .before .pre .0) (c .before .before .before .sizes-of .result) (c .before .before .before .sizes-of .ensures) in omega (arith, k .1)
+    omega (arith, few (c .before .before .before) .1)
 
 array-borrow-prefix-weights : tie.Need-array-borrow-prefix-weights
 array-borrow-prefix-weights c =
-    let g : Given = (given (c .before .before .before .before .before .before .before .before .args .shape) (c .before .before .before .before .before .before .before .before .args .addresses .now) (c .before .before .before .before .before .before .before .before .args .gp-map .now) (c .before .before .before .before .before .before .before .before .args .steps .now) (c .before .before .before .before .before .before .before .before .args .frequencies1 .now) (c .before .before .before .before .before .before .before .before .args .frequencies2 .now) (c .before .before .before .before .before .before .before .before .args .points .now) (c .before .before .before .before .before .before .before .before .args .triplets .now)) in let k : _ = few-made g (c .before .before .before .before .before .before .before .before .pre .0) (c .before .before .before .before .sizes-of .result) (c .before .before .before .before .sizes-of .ensures) in omega (arith, k .1, c .before .before .before .weight-buffer .ensures)
+    omega (arith, few (c .before .before .before .before) .1, c .before .before .before .weight-buffer .ensures)
 
 slice-aggregate-put-weights : tie.Need-slice-aggregate-put-weights
 slice-aggregate-put-weights c =
-    let g : Given = (given (c .before .before .before .before .before .before .before .before .before .args .shape) (c .before .before .before .before .before .before .before .before .before .args .addresses .now) (c .before .before .before .before .before .before .before .before .before .args .gp-map .now) (c .before .before .before .before .before .before .before .before .before .args .steps .now) (c .before .before .before .before .before .before .before .before .before .args .frequencies1 .now) (c .before .before .before .before .before .before .before .before .before .args .frequencies2 .now) (c .before .before .before .before .before .before .before .before .before .args .points .now) (c .before .before .before .before .before .before .before .before .before .args .triplets .now)) in let k : _ = few-made g (c .before .before .before .before .before .before .before .before .before .pre .0) (c .before .before .before .before .before .sizes-of .result) (c .before .before .before .before .before .sizes-of .ensures) in sym (length-take-le (c .before .before .before .before .before .sizes-of .result .channels * c .before .before .before .before .before .sizes-of .result .cells) (c .before .before .before .before .weight-buffer .result) (omega (arith, k .1, c .before .before .before .before .weight-buffer .ensures)))
+    sym (weights-fit (c .before .before .before .before))
 
 array-borrow-prefix-flags : tie.Need-array-borrow-prefix-flags
 array-borrow-prefix-flags c =
-    let g : Given = (given (c .before .before .before .before .before .before .before .before .before .args .shape) (c .before .before .before .before .before .before .before .before .before .args .addresses .now) (c .before .before .before .before .before .before .before .before .before .args .gp-map .now) (c .before .before .before .before .before .before .before .before .before .args .steps .now) (c .before .before .before .before .before .before .before .before .before .args .frequencies1 .now) (c .before .before .before .before .before .before .before .before .before .args .frequencies2 .now) (c .before .before .before .before .before .before .before .before .before .args .points .now) (c .before .before .before .before .before .before .before .before .before .args .triplets .now)) in let k : _ = few-made g (c .before .before .before .before .before .before .before .before .before .pre .0) (c .before .before .before .before .before .sizes-of .result) (c .before .before .before .before .before .sizes-of .ensures) in omega (arith, k .0, c .before .before .before .flag-buffer .ensures)
+    omega (arith, few (c .before .before .before .before .before) .0, c .before .before .before .flag-buffer .ensures)
 
 slice-aggregate-put-weights-2 : tie.Need-slice-aggregate-put-weights-2
 slice-aggregate-put-weights-2 c =
-    let g : Given = (given (c .before .before .before .before .before .before .before .before .before .before .args .shape) (c .before .before .before .before .before .before .before .before .before .before .args .addresses .now) (c .before .before .before .before .before .before .before .before .before .before .args .gp-map .now) (c .before .before .before .before .before .before .before .before .before .before .args .steps .now) (c .before .before .before .before .before .before .before .before .before .before .args .frequencies1 .now) (c .before .before .before .before .before .before .before .before .before .before .args .frequencies2 .now) (c .before .before .before .before .before .before .before .before .before .before .args .points .now) (c .before .before .before .before .before .before .before .before .before .before .args .triplets .now)) in let k : _ = few-made g (c .before .before .before .before .before .before .before .before .before .before .pre .0) (c .before .before .before .before .before .before .sizes-of .result) (c .before .before .before .before .before .before .sizes-of .ensures) in sym (length-take-le (c .before .before .before .before .before .before .sizes-of .result .cells) (c .before .before .before .before .flag-buffer .result) (omega (arith, k .0, c .before .before .before .before .flag-buffer .ensures)))
+    sym (flags-fit (c .before .before .before .before))
 
 put-weights-requires : tie.Need-put-weights-requires
 put-weights-requires c κs =
-    let g : Given = (given (c .before .before .before .before .before .before .before .before .before .before .args .shape) (c .before .before .before .before .before .before .before .before .before .before .args .addresses .now) (c .before .before .before .before .before .before .before .before .before .before .args .gp-map .now) (c .before .before .before .before .before .before .before .before .before .before .args .steps .now) (c .before .before .before .before .before .before .before .before .before .before .args .frequencies1 .now) (c .before .before .before .before .before .before .before .before .before .before .args .frequencies2 .now) (c .before .before .before .before .before .before .before .before .before .before .args .points .now) (c .before .before .before .before .before .before .before .before .before .before .args .triplets .now)) in let k : _ = few-made g (c .before .before .before .before .before .before .before .before .before .before .pre .0) (c .before .before .before .before .before .before .sizes-of .result) (c .before .before .before .before .before .before .sizes-of .ensures) in ((further g (c .before .before .before .before .before .before .before .before .before .before .pre .0), ready g (c .before .before .before .before .before .before .before .before .before .before .pre .0) (c .before .before .before .before .before .before .sizes-of .result) _ _ (c .before .before .before .before .before .before .sizes-of .ensures) (length-take-le (c .before .before .before .before .before .before .sizes-of .result .channels * c .before .before .before .before .before .before .sizes-of .result .cells) (c .before .before .before .before .before .weight-buffer .result) (omega (arith, k .1, c .before .before .before .before .before .weight-buffer .ensures))) (length-take-le (c .before .before .before .before .before .before .sizes-of .result .cells) (c .before .before .before .before .flag-buffer .result) (omega (arith, k .0, c .before .before .before .before .flag-buffer .ensures)))), listing-room g (c .before .before .before .before .before .before .before .before .before .before .pre .0) (c .before .before .before .before .before .before .before .before .before .before .pre .1 .0) (c .before .before .before .before .before .before .before .before .before .before .pre .1 .1))
+    let s : tie.Start = c .before .before .before .before .before .before .before .before .before .before in
+    let z : _ = c .before .before .before .before .before .before .sizes-of in
+    ((further (asked s) (s .pre .0), ready (asked s) (s .pre .0) (z .result) _ _ (z .ensures) (weights-fit (c .before .before .before .before .before)) (flags-fit (c .before .before .before .before))), listing-room (asked s) (s .pre .0) (s .pre .1 .0) (s .pre .1 .1))
 
 returns : tie.Need-returns
 returns c = search needs

@@ -1,30 +1,51 @@
 -- `listing::kernel::put_front` meets its contract. Assumes nothing.
 use borrow.Author.Needs.{needs}
+use lib.ListN.{length}
+use mathlib.Core.List.{List}
+use mathlib.Core.Path.{_≡_}
+use Prim.Native.Nat.{ℕ, _+_}
 use native.Mathlib.Omega.{arith}
 use Rattle.listing.proofs.ListingLaws.{front-lengths, wrote-five}
 use Rattle.listing.specs.Listings.{frontOf, number}
 use Rattle.listing.proofs.kernel.put_front.Statement.{statement}
 use Rattle.listing.proofs.kernel.put_front.Tie as tie
 
+-- the room that the five numbers need
+abbrev Lengths : tie.Start → Type 0
+Lengths s = let a : _ = s .args in let n : ℕ → ℕ = λ m. length (number m 9) in length (frontOf (a .t) (a .p) (a .b1) (a .b2) (a .flag)) ≡ n (a .t) + n (a .p) + n (a .b1) + n (a .b2) + n (a .flag)
+
+lengths : (s : tie.Start) → Lengths s
+lengths s = let a : _ = s .args in front-lengths (a .t) (a .p) (a .b1) (a .b2) (a .flag)
+
 put-decimal-requires : tie.Need-put-decimal-requires
 put-decimal-requires c κs =
-    omega (arith, front-lengths (c .before .before .args .t) (c .before .before .args .p) (c .before .before .args .b1) (c .before .before .args .b2) (c .before .before .args .flag), c .before .before .pre)
+    omega (arith, lengths (c .before .before), c .before .before .pre)
 
 put-decimal-requires-2 : tie.Need-put-decimal-requires-2
 put-decimal-requires-2 c κs =
-    omega (arith, front-lengths (c .before .before .before .before .before .before .args .t) (c .before .before .before .before .before .before .args .p) (c .before .before .before .before .before .before .args .b1) (c .before .before .before .before .before .before .args .b2) (c .before .before .before .before .before .before .args .flag), c .before .before .before .before .before .before .pre, c .before .before .before .put-decimal .ensures .0, c .before .before .before .put-decimal .kept .0)
+    let a : _ = c .before .before .before .put-decimal in
+    omega (arith, lengths (c .before .before .before .before .before .before), c .before .before .before .before .before .before .pre, a .ensures .0, a .kept .0)
 
 put-decimal-requires-3 : tie.Need-put-decimal-requires-3
 put-decimal-requires-3 c κs =
-    omega (arith, front-lengths (c .before .before .before .before .before .before .before .before .before .before .args .t) (c .before .before .before .before .before .before .before .before .before .before .args .p) (c .before .before .before .before .before .before .before .before .before .before .args .b1) (c .before .before .before .before .before .before .before .before .before .before .args .b2) (c .before .before .before .before .before .before .before .before .before .before .args .flag), c .before .before .before .before .before .before .before .before .before .before .pre, c .before .before .before .before .before .before .before .put-decimal .ensures .0, c .before .before .before .before .before .before .before .put-decimal .kept .0, c .before .before .before .put-decimal2 .ensures .0, c .before .before .before .put-decimal2 .kept .0)
+    let a : _ = c .before .before .before .before .before .before .before .put-decimal in
+    let b : _ = c .before .before .before .put-decimal2 in
+    omega (arith, lengths (c .before .before .before .before .before .before .before .before .before .before), c .before .before .before .before .before .before .before .before .before .before .pre, a .ensures .0, a .kept .0, b .ensures .0, b .kept .0)
 
 put-decimal-requires-4 : tie.Need-put-decimal-requires-4
 put-decimal-requires-4 c κs =
-    omega (arith, front-lengths (c .before .before .before .before .before .before .before .before .before .before .before .before .before .before .args .t) (c .before .before .before .before .before .before .before .before .before .before .before .before .before .before .args .p) (c .before .before .before .before .before .before .before .before .before .before .before .before .before .before .args .b1) (c .before .before .before .before .before .before .before .before .before .before .before .before .before .before .args .b2) (c .before .before .before .before .before .before .before .before .before .before .before .before .before .before .args .flag), c .before .before .before .before .before .before .before .before .before .before .before .before .before .before .pre, c .before .before .before .before .before .before .before .before .before .before .before .put-decimal .ensures .0, c .before .before .before .before .before .before .before .before .before .before .before .put-decimal .kept .0, c .before .before .before .before .before .before .before .put-decimal2 .ensures .0, c .before .before .before .before .before .before .before .put-decimal2 .kept .0, c .before .before .before .put-decimal3 .ensures .0, c .before .before .before .put-decimal3 .kept .0)
+    let a : _ = c .before .before .before .before .before .before .before .before .before .before .before .put-decimal in
+    let b : _ = c .before .before .before .before .before .before .before .put-decimal2 in
+    let d : _ = c .before .before .before .put-decimal3 in
+    omega (arith, lengths (c .before .before .before .before .before .before .before .before .before .before .before .before .before .before), c .before .before .before .before .before .before .before .before .before .before .before .before .before .before .pre, a .ensures .0, a .kept .0, b .ensures .0, b .kept .0, d .ensures .0, d .kept .0)
 
 put-decimal-requires-5 : tie.Need-put-decimal-requires-5
 put-decimal-requires-5 c κs =
-    omega (arith, front-lengths (c .before .before .before .before .before .before .before .before .before .before .before .before .before .before .before .before .before .before .args .t) (c .before .before .before .before .before .before .before .before .before .before .before .before .before .before .before .before .before .before .args .p) (c .before .before .before .before .before .before .before .before .before .before .before .before .before .before .before .before .before .before .args .b1) (c .before .before .before .before .before .before .before .before .before .before .before .before .before .before .before .before .before .before .args .b2) (c .before .before .before .before .before .before .before .before .before .before .before .before .before .before .before .before .before .before .args .flag), c .before .before .before .before .before .before .before .before .before .before .before .before .before .before .before .before .before .before .pre, c .before .before .before .before .before .before .before .before .before .before .before .before .before .before .before .put-decimal .ensures .0, c .before .before .before .before .before .before .before .before .before .before .before .before .before .before .before .put-decimal .kept .0, c .before .before .before .before .before .before .before .before .before .before .before .put-decimal2 .ensures .0, c .before .before .before .before .before .before .before .before .before .before .before .put-decimal2 .kept .0, c .before .before .before .before .before .before .before .put-decimal3 .ensures .0, c .before .before .before .before .before .before .before .put-decimal3 .kept .0, c .before .before .before .put-decimal4 .ensures .0, c .before .before .before .put-decimal4 .kept .0)
+    let a : _ = c .before .before .before .before .before .before .before .before .before .before .before .before .before .before .before .put-decimal in
+    let b : _ = c .before .before .before .before .before .before .before .before .before .before .before .put-decimal2 in
+    let d : _ = c .before .before .before .before .before .before .before .put-decimal3 in
+    let e : _ = c .before .before .before .put-decimal4 in
+    omega (arith, lengths (c .before .before .before .before .before .before .before .before .before .before .before .before .before .before .before .before .before .before), c .before .before .before .before .before .before .before .before .before .before .before .before .before .before .before .before .before .before .pre, a .ensures .0, a .kept .0, b .ensures .0, b .kept .0, d .ensures .0, d .kept .0, e .ensures .0, e .kept .0)
 
 same-length : tie.Need-same-length
 same-length c = search needs
@@ -32,7 +53,15 @@ same-length c = search needs
 returns : tie.Need-returns
 unfolding frontOf
 returns c =
-    wrote-five (c .before .before .before .before .before .before .before .before .before .before .before .before .before .before .before .before .before .before .before .before .before .args .at) (number (c .before .before .before .before .before .before .before .before .before .before .before .before .before .before .before .before .before .before .before .before .before .args .t) 9) (number (c .before .before .before .before .before .before .before .before .before .before .before .before .before .before .before .before .before .before .before .before .before .args .p) 9) (number (c .before .before .before .before .before .before .before .before .before .before .before .before .before .before .before .before .before .before .before .before .before .args .b1) 9) (number (c .before .before .before .before .before .before .before .before .before .before .before .before .before .before .before .before .before .before .before .before .before .args .b2) 9) (number (c .before .before .before .before .before .before .before .before .before .before .before .before .before .before .before .before .before .before .before .before .before .args .flag) 9) (c .before .before .before .before .before .before .before .before .before .before .before .before .before .before .before .before .before .before .before .before .before .args .out .now) (c .before .before .before .before .before .before .before .before .before .before .before .before .before .before .before .before .before .before .before .before .before .pre) _ _ _ _ _ _ _ _ _ _ (c .before .before .before .before .before .before .before .before .before .before .before .before .before .before .before .before .before .before .put-decimal .ensures .0) (c .before .before .before .before .before .before .before .before .before .before .before .before .before .before .before .before .before .before .put-decimal .ensures .1) (c .before .before .before .before .before .before .before .before .before .before .before .before .before .before .put-decimal2 .ensures .0) (c .before .before .before .before .before .before .before .before .before .before .before .before .before .before .put-decimal2 .ensures .1) (c .before .before .before .before .before .before .before .before .before .before .put-decimal3 .ensures .0) (c .before .before .before .before .before .before .before .before .before .before .put-decimal3 .ensures .1) (c .before .before .before .before .before .before .put-decimal4 .ensures .0) (c .before .before .before .before .before .before .put-decimal4 .ensures .1) (c .before .before .put-decimal5 .ensures .0) (c .before .before .put-decimal5 .ensures .1)
+    let s : _ = c .before .before .before .before .before .before .before .before .before .before .before .before .before .before .before .before .before .before .before .before .before in
+    let n : ℕ → List ℕ = λ m. number m 9 in
+    let a : _ = c .before .before .before .before .before .before .before .before .before .before .before .before .before .before .before .before .before .before .put-decimal .ensures in
+    let b : _ = c .before .before .before .before .before .before .before .before .before .before .before .before .before .before .put-decimal2 .ensures in
+    let d : _ = c .before .before .before .before .before .before .before .before .before .before .put-decimal3 .ensures in
+    let e : _ = c .before .before .before .before .before .before .put-decimal4 .ensures in
+    let f : _ = c .before .before .put-decimal5 .ensures in
+    wrote-five (s .args .at) (n (s .args .t)) (n (s .args .p)) (n (s .args .b1)) (n (s .args .b2)) (n (s .args .flag)) (s .args .out .now) (s .pre)
+    _ _ _ _ _ _ _ _ _ _ (a .0) (a .1) (b .0) (b .1) (d .0) (d .1) (e .0) (e .1) (f .0) (f .1)
 
 pub put-front-spec : {M : Type 1} → statement M
 put-front-spec =

@@ -1,9 +1,8 @@
 -- `listing::kernel::put_line` meets its contract. Assumes nothing.
-use Prim.Native.Nat.{_%_, _/_}
+use Prim.Native.Nat.{ℕ, _%_, _/_}
 use borrow.Author.Needs.{needs}
 use lib.ListN.{length}
 use native.Mathlib.Omega.{arith}
-use Rattle.list_laws.specs.Lists.{at}
 use Rattle.listing.proofs.ListingLaws.{line-length}
 use Rattle.listing.specs.Listings.{flagAt, frontOf, lineOf, weightsOf}
 use Rattle.writing.proofs.WrittenLaws.{wrote-both}
@@ -43,11 +42,15 @@ flag-at-requires c κs =
 
 put-front-requires : tie.Need-put-front-requires
 put-front-requires c κs =
-    rw (c .flag-at .ensures) (omega (arith, line-length (c .before .before .before .before .args .points) (c .before .before .before .before .args .bands1) (c .before .before .before .before .args .bands2) (c .before .before .before .before .args .channels) (c .before .before .before .before .args .weights .now) (c .before .before .before .before .args .flags .now) (c .before .before .before .before .args .e), c .before .before .before .before .pre .1))
+    let s : _ = c .before .before .before .before in
+    rw (c .flag-at .ensures) (omega (arith, line-length (s .args .points) (s .args .bands1) (s .args .bands2) (s .args .channels) (s .args .weights .now) (s .args .flags .now) (s .args .e), s .pre .1))
 
 put-weights-requires : tie.Need-put-weights-requires
 put-weights-requires c κs =
-    let g : _ = rw (c .before .before .before .before .flag-at .ensures) at (c .before .before .before .put-front .ensures .0) in (c .before .before .before .before .before .before .before .before .pre .0 .3, c .before .before .before .before .before .before .before .before .pre .0 .4, omega (arith, g, c .before .before .before .put-front .kept .0, line-length (c .before .before .before .before .before .before .before .before .args .points) (c .before .before .before .before .before .before .before .before .args .bands1) (c .before .before .before .before .before .before .before .before .args .bands2) (c .before .before .before .before .before .before .before .before .args .channels) (c .before .before .before .before .before .before .before .before .args .weights .now) (c .before .before .before .before .before .before .before .before .args .flags .now) (c .before .before .before .before .before .before .before .before .args .e), c .before .before .before .before .before .before .before .before .pre .1))
+    let s : _ = c .before .before .before .before .before .before .before .before in
+    let p : _ = c .before .before .before .put-front in
+    let g : _ = rw (c .before .before .before .before .flag-at .ensures) at (p .ensures .0) in
+    (s .pre .0 .3, s .pre .0 .4, omega (arith, g, p .kept .0, line-length (s .args .points) (s .args .bands1) (s .args .bands2) (s .args .channels) (s .args .weights .now) (s .args .flags .now) (s .args .e), s .pre .1))
 
 same-length : tie.Need-same-length
 same-length c = search needs
@@ -55,7 +58,15 @@ same-length c = search needs
 returns : tie.Need-returns
 unfolding lineOf
 returns c =
-    let g : _ = rw (c .before .before .before .before .before .before .before .flag-at .ensures) at (c .before .before .before .before .before .before .put-front .ensures) in wrote-both (c .before .before .before .before .before .before .before .before .before .before .before .args .at) (frontOf (c .before .before .before .before .before .before .before .before .before .before .before .args .e / c .before .before .before .before .before .before .before .before .before .before .before .args .bands2 / c .before .before .before .before .before .before .before .before .before .before .before .args .bands1 / c .before .before .before .before .before .before .before .before .before .before .before .args .points) (c .before .before .before .before .before .before .before .before .before .before .before .args .e / c .before .before .before .before .before .before .before .before .before .before .before .args .bands2 / c .before .before .before .before .before .before .before .before .before .before .before .args .bands1 % c .before .before .before .before .before .before .before .before .before .before .before .args .points) (c .before .before .before .before .before .before .before .before .before .before .before .args .e / c .before .before .before .before .before .before .before .before .before .before .before .args .bands2 % c .before .before .before .before .before .before .before .before .before .before .before .args .bands1) (c .before .before .before .before .before .before .before .before .before .before .before .args .e % c .before .before .before .before .before .before .before .before .before .before .before .args .bands2) (flagAt (c .before .before .before .before .before .before .before .before .before .before .before .args .flags .now) (c .before .before .before .before .before .before .before .before .before .before .before .args .e))) (weightsOf (c .before .before .before .before .before .before .before .before .before .before .before .args .weights .now) (length (c .before .before .before .before .before .before .before .before .before .before .before .args .flags .now)) (c .before .before .before .before .before .before .before .before .before .before .before .args .e) (c .before .before .before .before .before .before .before .before .before .before .before .args .channels)) (c .before .before .before .before .before .before .before .before .before .before .before .args .out .now) _ _ _ _ (g .0) (g .1) (c .before .before .put-weights .ensures .0) (c .before .before .put-weights .ensures .1) (c .before .before .before .before .before .before .before .before .before .before .before .pre .1)
+    let s : _ = c .before .before .before .before .before .before .before .before .before .before .before in
+    let a : _ = s .args in
+    let row : ℕ = a .e / a .bands2 / a .bands1 in
+    let g : _ = rw (c .before .before .before .before .before .before .before .flag-at .ensures) at (c .before .before .before .before .before .before .put-front .ensures) in
+    let w : _ = c .before .before .put-weights .ensures in
+    wrote-both (a .at)
+    (frontOf (row / a .points) (row % a .points) (a .e / a .bands2 % a .bands1) (a .e % a .bands2) (flagAt (a .flags .now) (a .e)))
+    (weightsOf (a .weights .now) (length (a .flags .now)) (a .e) (a .channels))
+    (a .out .now) _ _ _ _ (g .0) (g .1) (w .0) (w .1) (s .pre .1)
 
 pub put-line-spec : {M : Type 1} → statement M
 put-line-spec =

@@ -16,7 +16,10 @@ put-slice-requires c κs =
 
 put-lines-requires : tie.Need-put-lines-requires
 put-lines-requires c κs =
-    (c .before .before .before .before .before .before .before .before .pre .0, omega (arith, listing-length (c .before .before .before .before .before .before .before .before .args .points) (c .before .before .before .before .before .before .before .before .args .bands1) (c .before .before .before .before .before .before .before .before .args .bands2) (c .before .before .before .before .before .before .before .before .args .channels) (c .before .before .before .before .before .before .before .before .args .weights .now) (c .before .before .before .before .before .before .before .before .args .flags .now), c .before .before .before .before .before .before .before .before .pre .1, c .before .before .before .put-slice .ensures .0, c .before .before .before .put-slice .kept .0))
+    let s : _ = c .before .before .before .before .before .before .before .before in
+    let a : _ = s .args in
+    let p : _ = c .before .before .before .put-slice in
+    (s .pre .0, omega (arith, listing-length (a .points) (a .bands1) (a .bands2) (a .channels) (a .weights .now) (a .flags .now), s .pre .1, p .ensures .0, p .kept .0))
 
 same-length : tie.Need-same-length
 same-length c = search needs
@@ -24,7 +27,11 @@ same-length c = search needs
 returns : tie.Need-returns
 unfolding listingOf header
 returns c =
-    wrote-both (c .before .before .before .before .before .before .before .before .before .before .before .args .at) _ (linesOf (c .before .before .before .before .before .before .before .before .before .before .before .args .points) (c .before .before .before .before .before .before .before .before .before .before .before .args .bands1) (c .before .before .before .before .before .before .before .before .before .before .before .args .bands2) (c .before .before .before .before .before .before .before .before .before .before .before .args .channels) (c .before .before .before .before .before .before .before .before .before .before .before .args .weights .now) (c .before .before .before .before .before .before .before .before .before .before .before .args .flags .now)) (c .before .before .before .before .before .before .before .before .before .before .before .args .out .now) _ _ _ _ (c .before .before .before .before .before .before .put-slice .ensures .0) (c .before .before .before .before .before .before .put-slice .ensures .1) (c .before .before .put-lines .ensures .0) (c .before .before .put-lines .ensures .1) (c .before .before .before .before .before .before .before .before .before .before .before .pre .1)
+    let s : _ = c .before .before .before .before .before .before .before .before .before .before .before in
+    let a : _ = s .args in
+    let p : _ = c .before .before .before .before .before .before .put-slice .ensures in
+    let l : _ = c .before .before .put-lines .ensures in
+    wrote-both (a .at) _ (linesOf (a .points) (a .bands1) (a .bands2) (a .channels) (a .weights .now) (a .flags .now)) (a .out .now) _ _ _ _ (p .0) (p .1) (l .0) (l .1) (s .pre .1)
 
 pub put-listing-spec : {M : Type 1} → statement M
 put-listing-spec =

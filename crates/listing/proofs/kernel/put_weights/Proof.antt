@@ -5,7 +5,7 @@ use lib.ListN.{length}
 use mathlib.Core.List.{List, [], _++_, _∷_}
 use mathlib.Core.Path.{_∙_, _≡_, ap, refl}
 use native.Mathlib.Omega.{arith}
-use Rattle.list_laws.specs.Lists.{at, rows}
+use Rattle.list_laws.specs.Lists.{rows}
 use Rattle.listing.proofs.ListingLaws.{none-written, piece-next, piece-room, weight-below}
 use Rattle.listing.specs.Listings.{weightOf, weightsOf}
 use Rattle.text.specs.Spelled.{hexadecimal}
@@ -21,9 +21,19 @@ abbrev μ-loop : tie.MeasureT-loop
 μ-loop out₀ at weights total e channels p₀ c₀ out p c =
     channels - c
 
+-- the bytes of each weight
+abbrev weight : tie.Start Inv-loop μ-loop → ℕ → List ℕ
+weight s = weightOf (s .args .weights .now) (s .args .total) (s .args .e) (s .args .channels)
+
+spelled : (c : tie.After-weight-end Inv-loop μ-loop) → hexadecimal (c .before .bits-of .result) ++ (c .weight-end .result ∷ []) ≡ weight (c .before .before .before .before .before .before .before) (c .before .before .before .before .loop .c)
+unfolding weightOf
+spelled c = rw (c .before .bits-of .ensures, c .weight-end .ensures)
+
 loop-holds : tie.Need-loop-holds Inv-loop μ-loop
 loop-holds c =
-    let n : _ = none-written (weightOf (c .before .before .args .weights .now) (c .before .before .args .total) (c .before .before .args .e) (c .before .before .args .channels)) (c .before .before .args .at) (c .before .before .args .out .now) (omega (arith, c .before .before .pre .2)) in (omega arith, refl, n .0, n .1)
+    let s : _ = c .before .before in
+    let n : _ = none-written (weight s) (s .args .at) (s .args .out .now) (omega (arith, s .pre .2)) in
+    (omega arith, refl, n .0, n .1)
 
 mul-bits-of : tie.Need-mul-bits-of Inv-loop μ-loop
 mul-bits-of c =
@@ -52,7 +62,9 @@ weight-end-requires c κs =
 put-bits-requires : tie.Need-put-bits-requires Inv-loop μ-loop
 unfolding weightsOf weightOf
 put-bits-requires c κs =
-    let g : hexadecimal (c .before .before .bits-of .result) ++ (c .before .weight-end .result ∷ []) ≡ (weightOf (c .before .before .before .before .before .before .before .before .args .weights .now) (c .before .before .before .before .before .before .before .before .args .total) (c .before .before .before .before .before .before .before .before .args .e) (c .before .before .before .before .before .before .before .before .args .channels)) (c .before .before .before .before .before .loop .c) = rw (c .before .before .bits-of .ensures, c .before .weight-end .ensures) in rw g (piece-room (weightOf (c .before .before .before .before .before .before .before .before .args .weights .now) (c .before .before .before .before .before .before .before .before .args .total) (c .before .before .before .before .before .before .before .before .args .e) (c .before .before .before .before .before .before .before .before .args .channels)) (c .before .before .before .before .before .before .before .before .args .at) (c .before .before .before .before .before .before .before .before .args .out .now) (c .before .before .before .before .before .loop .out) (c .before .before .before .before .before .before .before .before .args .out .now) (c .before .before .before .before .before .loop .c) (c .before .before .before .before .before .before .before .before .args .channels) (c .before .before .before .before .before .loop .p) 0 (c .before .before .before .before .loop-test .taken) (c .before .before .before .before .before .loop .inv .2) (c .before .before .before .before .before .loop .inv .1) (c .before .before .before .before .before .before .before .before .pre .2))
+    let s : _ = c .before .before .before .before .before .before .before .before in
+    let l : _ = c .before .before .before .before .before .loop in
+    rw (spelled (c .before)) (piece-room (weight s) (s .args .at) (s .args .out .now) (l .out) (s .args .out .now) (l .c) (s .args .channels) (l .p) 0 (c .before .before .before .before .loop-test .taken) (l .inv .2) (l .inv .1) (s .pre .2))
 
 add-c : tie.Need-add-c Inv-loop μ-loop
 add-c c =
@@ -65,7 +77,14 @@ loop-less c =
 loop-again : tie.Need-loop-again Inv-loop μ-loop
 unfolding weightsOf weightOf
 loop-again c =
-    let g : hexadecimal (c .before .before .before .before .before .bits-of .result) ++ (c .before .before .before .before .weight-end .result ∷ []) ≡ (weightOf (c .before .before .before .before .before .before .before .before .before .before .before .args .weights .now) (c .before .before .before .before .before .before .before .before .before .before .before .args .total) (c .before .before .before .before .before .before .before .before .before .before .before .args .e) (c .before .before .before .before .before .before .before .before .before .before .before .args .channels)) (c .before .before .before .before .before .before .before .before .loop .c) = rw (c .before .before .before .before .before .bits-of .ensures, c .before .before .before .before .weight-end .ensures) in let w : _ = piece-next (weightOf (c .before .before .before .before .before .before .before .before .before .before .before .args .weights .now) (c .before .before .before .before .before .before .before .before .before .before .before .args .total) (c .before .before .before .before .before .before .before .before .before .before .before .args .e) (c .before .before .before .before .before .before .before .before .before .before .before .args .channels)) (c .before .before .before .before .before .before .before .before .before .before .before .args .at) (c .before .before .before .before .before .before .before .before .before .before .before .args .out .now) (c .before .before .before .before .before .before .before .before .loop .out) _ (c .before .before .before .before .before .before .before .before .loop .c) (c .before .before .before .before .before .before .before .before .before .before .before .args .channels) (c .before .before .before .before .before .before .before .before .loop .p) _ (c .before .before .before .before .before .before .before .loop-test .taken) (c .before .before .before .before .before .before .before .before .loop .inv .2) (c .before .before .before .before .before .before .before .before .loop .inv .3) (c .before .before .put-bits .ensures .0 ∙ ap (λ (l : List ℕ). c .before .before .before .before .before .before .before .before .loop .p + length l) g) (c .before .before .put-bits .ensures .1 ∙ ap (λ (l : List ℕ). written (c .before .before .before .before .before .before .before .before .loop .p) l (c .before .before .before .before .before .before .before .before .loop .out)) g) (c .before .before .before .before .before .before .before .before .before .before .before .pre .2) in (omega arith, c .before .before .put-bits .kept .0 ∙ c .before .before .before .before .before .before .before .before .loop .inv .1, w .0, w .1)
+    let s : _ = c .before .before .before .before .before .before .before .before .before .before .before in
+    let l : _ = c .before .before .before .before .before .before .before .before .loop in
+    let b : _ = c .before .before .put-bits in
+    let g : _ = spelled (c .before .before .before .before) in
+    let w : _ = piece-next (weight s) (s .args .at) (s .args .out .now) (l .out) _ (l .c) (s .args .channels) (l .p) _ (c .before .before .before .before .before .before .before .loop-test .taken) (l .inv .2) (l .inv .3)
+    (b .ensures .0 ∙ ap (λ (x : List ℕ). l .p + length x) g)
+    (b .ensures .1 ∙ ap (λ (x : List ℕ). written (l .p) x (l .out)) g) (s .pre .2) in
+    (omega arith, b .kept .0 ∙ l .inv .1, w .0, w .1)
 
 same-length : tie.Need-same-length Inv-loop μ-loop
 same-length c =
@@ -74,7 +93,11 @@ same-length c =
 returns : tie.Need-returns Inv-loop μ-loop
 unfolding weightsOf
 returns c =
-    let k : c .before .loop .c ≡ c .before .before .before .before .args .channels = omega arith in (c .before .loop .inv .2 ∙ ap (λ (n : ℕ). c .before .before .before .before .args .at + length (rows n (weightOf (c .before .before .before .before .args .weights .now) (c .before .before .before .before .args .total) (c .before .before .before .before .args .e) (c .before .before .before .before .args .channels)))) k, c .before .loop .inv .3 ∙ ap (λ (n : ℕ). written (c .before .before .before .before .args .at) (rows n (weightOf (c .before .before .before .before .args .weights .now) (c .before .before .before .before .args .total) (c .before .before .before .before .args .e) (c .before .before .before .before .args .channels))) (c .before .before .before .before .args .out .now)) k)
+    let s : _ = c .before .before .before .before in
+    let a : _ = s .args in
+    let l : _ = c .before .loop in
+    let k : l .c ≡ a .channels = omega arith in
+    (l .inv .2 ∙ ap (λ (n : ℕ). a .at + length (rows n (weight s))) k, l .inv .3 ∙ ap (λ (n : ℕ). written (a .at) (rows n (weight s)) (a .out .now)) k)
 
 pub put-weights-spec : {M : Type 1} → statement M
 put-weights-spec =

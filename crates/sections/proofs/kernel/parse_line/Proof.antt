@@ -1,7 +1,9 @@
 -- `sections::kernel::parse_line` meets its contract. Assumes nothing.
 use Prim.Native.Nat.{ℕ}
 use mathlib.Core.Path.{_≡_, refl, sym, ap, _∙_}
-use mathlib.Core.Bool.{Bool, true, false}
+use mathlib.Core.Bool.{Bool}
+use mathlib.Core.List.{List}
+use lib.IntN.{ℤ}
 use native.Mathlib.Omega.{arith}
 use lib.ListN.{take, drop}
 use lib.Seq.{length-take-le}
@@ -10,11 +12,6 @@ use Rattle.sections.proofs.LineLaws.{kind-other, kind-is}
 use borrow.Author.Needs.{needs}
 use Rattle.sections.proofs.kernel.parse_line.Statement.{statement}
 use Rattle.sections.proofs.kernel.parse_line.Tie as tie
-use Rattle.sections.proofs.kernel.parse_line.Reads as reads
-use Rattle.sections.proofs.kernel.parse_line.Lts as lts
-use Rattle.check.proofs.same.Reads as same-reads
-use Rattle.text.proofs.kernel.cut.Reads as cut-reads
-use Rattle.sections.proofs.kernel.parse_wholes.Reads as parse-wholes-reads
 
 cut-requires : tie.Need-cut-requires
 cut-requires c κs = search needs
@@ -36,14 +33,26 @@ same-length c = search needs
 
 returns : tie.Need-returns
 unfolding rowKind
-returns c = (kind-is wholeField (c .before .before .before .before .before .before .before .before .before .before .args .line .now) (c .before .before .before .before .before .before .before .before .before .before .args .tag .now) (c .before .before .before .before .before .before .before .before .before .before .args .n) (c .before .before .before .before .before .before .before .cut .result) (omega (arith, c .before .before .before .before .before .before .before .cut .ensures .0)) (c .before .before .before .before .before .same .ensures .0 (c .before .before .before .before .if1 .taken)) _ (c .before .before .parse-wholes .ensures .0 ∙ ap (λ (t : Bool). told t (take (c .before .before .before .before .before .before .before .before .before .before .args .n) (drop (c .before .before .before .before .before .before .before .before .before .before .args .at) (c .before .before .parse-wholes .last .1 .1 .1 .0)))) (c .if2 .taken)), c .before .before .parse-wholes .ensures .1)
+returns c =
+    let a : _ = c .before .before .before .before .before .before .before .before .before .before .args in
+    let cut : _ = c .before .before .before .before .before .before .before .cut in
+    let p : _ = c .before .before .parse-wholes in
+    let values : List ℤ = take (a .n) (drop (a .at) (p .last .1 .1 .1 .0)) in
+    let fields : _ = p .ensures .0 ∙ ap (λ (t : Bool). told t values) (c .if2 .taken) in
+    (kind-is wholeField (a .line .now) (a .tag .now) (a .n) (cut .result) (omega (arith, cut .ensures .0)) (c .before .before .before .before .before .same .ensures .0 (c .before .before .before .before .if1 .taken)) _ fields, p .ensures .1)
 
 same-length-2 : tie.Need-same-length-2
 same-length-2 c = search needs
 
 returns-2 : tie.Need-returns-2
 unfolding rowKind
-returns-2 c = (kind-is wholeField (c .before .before .before .before .before .before .before .before .before .before .args .line .now) (c .before .before .before .before .before .before .before .before .before .before .args .tag .now) (c .before .before .before .before .before .before .before .before .before .before .args .n) (c .before .before .before .before .before .before .before .cut .result) (omega (arith, c .before .before .before .before .before .before .before .cut .ensures .0)) (c .before .before .before .before .before .same .ensures .0 (c .before .before .before .before .if1 .taken)) _ (c .before .before .parse-wholes .ensures .0 ∙ ap (λ (t : Bool). told t (take (c .before .before .before .before .before .before .before .before .before .before .args .n) (drop (c .before .before .before .before .before .before .before .before .before .before .args .at) (c .before .before .parse-wholes .last .1 .1 .1 .0)))) (c .if2 .left)), c .before .before .parse-wholes .ensures .1)
+returns-2 c =
+    let a : _ = c .before .before .before .before .before .before .before .before .before .before .args in
+    let cut : _ = c .before .before .before .before .before .before .before .cut in
+    let p : _ = c .before .before .parse-wholes in
+    let values : List ℤ = take (a .n) (drop (a .at) (p .last .1 .1 .1 .0)) in
+    let fields : _ = p .ensures .0 ∙ ap (λ (t : Bool). told t values) (c .if2 .left) in
+    (kind-is wholeField (a .line .now) (a .tag .now) (a .n) (cut .result) (omega (arith, cut .ensures .0)) (c .before .before .before .before .before .same .ensures .0 (c .before .before .before .before .if1 .taken)) _ fields, p .ensures .1)
 
 returns-3 : tie.Need-returns-3
 returns-3 c = (kind-other wholeField (c .before .before .before .before .before .before .args .line .now) (c .before .before .before .before .before .before .args .tag .now) (c .before .before .before .before .before .before .args .n) (c .before .before .before .cut .result) (omega (arith, c .before .before .before .cut .ensures .0)) (λ e. let z : _≡_ {A = ℕ} 0 1 = cc (c .before .same .ensures .1 e) in omega arith), refl)

@@ -1,5 +1,5 @@
 -- `sections::kernel::parse_rows` meets its contract. Assumes nothing.
-use Prim.Native.Nat.{ℕ, _+_, _-_, _≤_}
+use Prim.Native.Nat.{ℕ, _-_, _≤_}
 use mathlib.Core.Path.{_≡_, refl, sym, ap, _∙_}
 use native.Mathlib.Omega.{arith}
 use mathlib.Core.List.{List}
@@ -13,10 +13,6 @@ use Rattle.sections.specs.Lines.{wholeField, is, joined, rows, read, tol
 use Rattle.sections.proofs.LineLaws.{row-bytes, joined-nil, rows-end, rows-other, rows-broken, rows-row}
 use Rattle.sections.proofs.kernel.parse_rows.Statement.{statement}
 use Rattle.sections.proofs.kernel.parse_rows.Tie as tie
-use Rattle.sections.proofs.kernel.parse_rows.Reads as reads
-use Rattle.sections.proofs.kernel.parse_rows.Lts as lts
-use Rattle.text.proofs.kernel.cut.Reads as cut-reads
-use Rattle.sections.proofs.kernel.parse_line.Reads as parse-line-reads
 
 abbrev Inv-loop : tie.InvT-loop
 Inv-loop text from tag n out₀ at₀ k₀ out at k =
@@ -59,11 +55,17 @@ loop-less c = search needs
 
 loop-again : tie.Need-loop-again Inv-loop μ-loop
 loop-again c =
-    let line = take (c .before .before .before .before .before .before .cut .result - c .before .before .before .before .before .before .before .before .loop .at) (drop (c .before .before .before .before .before .before .before .before .loop .at) (c .before .before .before .before .before .before .before .before .before .before .before .args .text .now)) in
-    let bytes : c .before .before .before .before .before .before .before .before .before .before .before .args .n ≤ length line = row-bytes wholeField (c .before .before .before .before .before .before .before .before .before .before .before .args .tag .now) (c .before .before .before .before .before .before .before .before .before .before .before .args .n) line (take (c .before .before .before .before .before .before .before .before .before .before .before .args .n) (drop (c .before .before .before .before .before .before .before .before .loop .k) (c .before .before .before .parse-line .last .1 .1 .1 .0))) (c .before .before .before .parse-line .ensures .0 ∙ ap (λ (r : Line). toldLine r (take (c .before .before .before .before .before .before .before .before .before .before .before .args .n) (drop (c .before .before .before .before .before .before .before .before .loop .k) (c .before .before .before .parse-line .last .1 .1 .1 .0)))) (c .enum-told .given .1)) in (
-      omega (arith, bytes, length-take-le (c .before .before .before .before .before .before .cut .result - c .before .before .before .before .before .before .before .before .loop .at) (drop (c .before .before .before .before .before .before .before .before .loop .at) (c .before .before .before .before .before .before .before .before .before .before .before .args .text .now)) (omega (arith, length-drop (c .before .before .before .before .before .before .before .before .loop .at) (c .before .before .before .before .before .before .before .before .before .before .before .args .text .now)))),
-      c .before .before .before .parse-line .kept .1 .1 .1 .0 ∙ c .before .before .before .before .before .before .before .before .loop .inv .1,
-      rows-row wholeField (c .before .before .before .before .before .before .before .before .before .before .before .args .text .now) (c .before .before .before .before .before .before .before .before .before .before .before .args .from) (c .before .before .before .before .before .before .before .before .before .before .before .args .tag .now) (c .before .before .before .before .before .before .before .before .before .before .before .args .n) (c .before .before .before .before .before .before .before .before .loop .out) (c .before .before .before .before .before .before .before .before .loop .at) (c .before .before .before .before .before .before .before .before .loop .k) (c .before .before .before .before .before .before .before .before .loop .inv .2) (omega arith) (c .before .before .before .before .before .before .cut .result) (c .before .before .before .before .before .before .cut .ensures .0) (c .before .before .before .parse-line .last .1 .1 .1 .0) (c .before .before .before .parse-line .ensures .1) (c .before .before .before .parse-line .ensures .0 ∙ ap (λ (r : Line). toldLine r (take (c .before .before .before .before .before .before .before .before .before .before .before .args .n) (drop (c .before .before .before .before .before .before .before .before .loop .k) (c .before .before .before .parse-line .last .1 .1 .1 .0)))) (c .enum-told .given .1)),
+    let a : _ = c .before .before .before .before .before .before .before .before .before .before .before .args in
+    let l : _ = c .before .before .before .before .before .before .before .before .loop in
+    let cut : _ = c .before .before .before .before .before .before .cut in
+    let p : _ = c .before .before .before .parse-line in
+    let values : List ℤ = take (a .n) (drop (l .k) (p .last .1 .1 .1 .0)) in
+    let row : _ = p .ensures .0 ∙ ap (λ (r : Line). toldLine r values) (c .enum-told .given .1) in
+    let line : List ℕ = take (cut .result - l .at) (drop (l .at) (a .text .now)) in
+    let bytes : a .n ≤ length line = row-bytes wholeField (a .tag .now) (a .n) line values row in (
+      omega (arith, bytes, length-take-le (cut .result - l .at) (drop (l .at) (a .text .now)) (omega (arith, length-drop (l .at) (a .text .now)))),
+      p .kept .1 .1 .1 .0 ∙ l .inv .1,
+      rows-row wholeField (a .text .now) (a .from) (a .tag .now) (a .n) (l .out) (l .at) (l .k) (l .inv .2) (omega arith) (cut .result) (cut .ensures .0) (p .last .1 .1 .1 .0) (p .ensures .1) row,
     )
 
 enum-told-2 : tie.Need-enum-told-2 Inv-loop μ-loop
@@ -76,7 +78,14 @@ same-length : tie.Need-same-length Inv-loop μ-loop
 same-length c = search needs
 
 returns : tie.Need-returns Inv-loop μ-loop
-returns c = rows-broken wholeField (c .before .before .before .before .before .before .before .before .before .before .before .args .text .now) (c .before .before .before .before .before .before .before .before .before .before .before .args .from) (c .before .before .before .before .before .before .before .before .before .before .before .args .tag .now) (c .before .before .before .before .before .before .before .before .before .before .before .args .n) (c .before .before .before .before .before .before .before .before .loop .out) (c .before .before .before .before .before .before .before .before .loop .at) (c .before .before .before .before .before .before .before .before .loop .k) (c .before .before .before .before .before .before .before .before .loop .inv .2) (omega arith) (c .before .before .before .before .before .before .cut .result) (c .before .before .before .before .before .before .cut .ensures .0) (c .before .before .before .parse-line .ensures .0 ∙ ap (λ (r : Line). toldLine r (take (c .before .before .before .before .before .before .before .before .before .before .before .args .n) (drop (c .before .before .before .before .before .before .before .before .loop .k) (c .before .before .before .parse-line .last .1 .1 .1 .0)))) (c .enum-told3 .given .1))
+returns c =
+    let a : _ = c .before .before .before .before .before .before .before .before .before .before .before .args in
+    let l : _ = c .before .before .before .before .before .before .before .before .loop in
+    let cut : _ = c .before .before .before .before .before .before .cut in
+    let p : _ = c .before .before .before .parse-line in
+    let values : List ℤ = take (a .n) (drop (l .k) (p .last .1 .1 .1 .0)) in
+    rows-broken wholeField (a .text .now) (a .from) (a .tag .now) (a .n) (l .out) (l .at) (l .k) (l .inv .2) (omega arith) (cut .result) (cut .ensures .0)
+    (p .ensures .0 ∙ ap (λ (r : Line). toldLine r values) (c .enum-told3 .given .1))
 
 same-length-2 : tie.Need-same-length-2 Inv-loop μ-loop
 same-length-2 c = search needs
@@ -89,8 +98,14 @@ same-length-3 c = search needs
 
 returns-3 : tie.Need-returns-3 Inv-loop μ-loop
 returns-3 c =
-    rows-other wholeField (c .before .before .before .before .before .before .before .before .before .before .before .args .text .now) (c .before .before .before .before .before .before .before .before .before .before .before .args .from) (c .before .before .before .before .before .before .before .before .before .before .before .args .tag .now) (c .before .before .before .before .before .before .before .before .before .before .before .args .n) (c .before .before .before .before .before .before .before .before .loop .out) (c .before .before .before .before .before .before .before .before .loop .at) (c .before .before .before .before .before .before .before .before .loop .k) (c .before .before .before .before .before .before .before .before .loop .inv .2) (omega arith) (c .before .before .before .before .before .before .cut .result) (c .before .before .before .before .before .before .cut .ensures .0) (c .before .before .before .parse-line .ensures .0 ∙ ap (λ (r : Line). toldLine r (take (c .before .before .before .before .before .before .before .before .before .before .before .args .n) (drop (c .before .before .before .before .before .before .before .before .loop .k) (c .before .before .before .parse-line .last .1 .1 .1 .0)))) (c .enum-told2 .given .1))
-    ∙ ap (λ (l : List ℤ). read l (ended 10 (drop (c .before .before .before .before .before .before .before .before .loop .at) (c .before .before .before .before .before .before .before .before .before .before .before .args .text .now)))) (sym (c .before .before .before .parse-line .ensures .1))
+    let a : _ = c .before .before .before .before .before .before .before .before .before .before .before .args in
+    let l : _ = c .before .before .before .before .before .before .before .before .loop in
+    let cut : _ = c .before .before .before .before .before .before .cut in
+    let p : _ = c .before .before .before .parse-line in
+    let values : List ℤ = take (a .n) (drop (l .k) (p .last .1 .1 .1 .0)) in
+    let other : _ = p .ensures .0 ∙ ap (λ (r : Line). toldLine r values) (c .enum-told2 .given .1) in
+    rows-other wholeField (a .text .now) (a .from) (a .tag .now) (a .n) (l .out) (l .at) (l .k) (l .inv .2) (omega arith) (cut .result) (cut .ensures .0) other
+    ∙ ap (λ (v : List ℤ). read v (ended 10 (drop (l .at) (a .text .now)))) (sym (p .ensures .1))
 
 pub parse-rows-spec : {M : Type 1} → statement M
 parse-rows-spec =

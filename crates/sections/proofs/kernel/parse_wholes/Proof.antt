@@ -1,24 +1,20 @@
 -- `sections::kernel::parse_wholes` meets its contract. Assumes nothing.
-use Prim.Native.Nat.{suc, _+_, _-_, _≤_}
+use Prim.Native.Nat.{_+_, _-_, _≤_}
 use mathlib.Core.Path.{_≡_, refl, sym, ap, _∙_}
-use mathlib.Core.List.{_∷_, []}
 use native.Mathlib.Nat.{sub-zero}
 use mir.Syntax.{w64}
 use mir.Val.{toZ, ofZ}
 use mir.Facts.{toZ-ofZ}
 use native.Mathlib.Omega.{arith}
-use lib.ListN.{length, take, drop, set, length-set}
+use lib.IntN.{ℤ}
+use lib.ListN.{length, take, drop, length-set}
 use lib.Seq.{take-set-le}
 use borrow.Author.Needs.{needs}
 use Rattle.text.specs.Pieces.{splitFrom}
-use Rattle.sections.specs.Lines.{values, wholeField, wholeGot, front, told}
+use Rattle.sections.specs.Lines.{values, wholeField, wholeGot, front}
 use Rattle.sections.proofs.RowLaws.{front-nil, row-short, row-bad, row-more, row-end}
 use Rattle.sections.proofs.kernel.parse_wholes.Statement.{statement}
 use Rattle.sections.proofs.kernel.parse_wholes.Tie as tie
-use Rattle.sections.proofs.kernel.parse_wholes.Reads as reads
-use Rattle.sections.proofs.kernel.parse_wholes.Lts as lts
-use Rattle.text.proofs.kernel.cut.Reads as cut-reads
-use Rattle.text.proofs.kernel.parse_whole.Reads as parse-whole-reads
 
 abbrev Inv-loop : tie.InvT-loop
 Inv-loop line p count out₀ at from₀ i₀ out from i =
@@ -85,7 +81,18 @@ loop-less : tie.Need-loop-less Inv-loop μ-loop
 loop-less c = search needs
 
 loop-again : tie.Need-loop-again Inv-loop μ-loop
-loop-again c = (omega arith, simp length-set (c .before .before .before .before .before .before .before .before .loop .inv .1), take-set-le (c .before .before .before .before .before .before .before .before .before .before .args .at) (c .before .before .before .before .before .before .before .before .loop .out) (c .before .before .before .before .before .before .before .before .before .before .args .at + c .before .before .before .before .before .before .before .before .loop .i) (toZ w64 (ofZ w64 (c .before .z .given .0 .0))) (omega arith) ∙ c .before .before .before .before .before .before .before .before .loop .inv .2, row-more wholeField (c .before .before .before .before .before .before .before .before .before .before .args .line .now) (c .before .before .before .before .before .before .before .before .before .before .args .p) (c .before .before .before .before .before .before .before .before .before .before .args .count) (c .before .before .before .before .before .before .before .before .loop .out) (c .before .before .before .before .before .before .before .before .before .before .args .at) (c .before .before .before .before .before .before .before .before .loop .from) (c .before .before .before .before .before .before .before .before .loop .i) (c .before .before .before .before .before .before .before .before .loop .inv .3) (omega arith) (omega arith) (c .before .before .before .before .before .cut .result) (c .before .before .before .before .before .cut .ensures .0) (toZ w64 (ofZ w64 (c .before .z .given .0 .0))) (rw (toZ-ofZ {w = w64} {z = c .before .z .given .0 .0} (search needs)) (ap wholeGot (sym (c .before .z .given .1) ∙ c .before .before .before .parse-whole .ensures))) (omega arith))
+loop-again c =
+    let a : _ = c .before .before .before .before .before .before .before .before .before .before .args in
+    let l : _ = c .before .before .before .before .before .before .before .before .loop in
+    let cut : _ = c .before .before .before .before .before .cut in
+    let z : _ = c .before .z .given in
+    let n : ℤ = toZ w64 (ofZ w64 (z .0 .0)) in (
+      omega arith,
+      simp length-set (l .inv .1),
+      take-set-le (a .at) (l .out) (a .at + l .i) n (omega arith) ∙ l .inv .2,
+      row-more wholeField (a .line .now) (a .p) (a .count) (l .out) (a .at) (l .from) (l .i) (l .inv .3) (omega arith) (omega arith) (cut .result) (cut .ensures .0) n
+          (rw (toZ-ofZ {w = w64} {z = z .0 .0} (search needs)) (ap wholeGot (sym (z .1) ∙ c .before .before .before .parse-whole .ensures))) (omega arith),
+    )
 
 same-length-3 : tie.Need-same-length-3 Inv-loop μ-loop
 same-length-3 c = search needs

@@ -33,7 +33,17 @@ shared-slice-copy-out-t20 c = search needs
 returns : tie.Need-returns
 unfolding headFrom
 returns c =
-    rw (back (at (c .before .before .before .before .before .before .before .before .args .grid .now) 0) (c .before .before .before .before .before .before .before .t6 .given), back (at (c .before .before .before .before .before .before .before .before .args .grid .now) 1) (c .before .before .before .before .before .before .t8 .given), back (at (c .before .before .before .before .before .before .before .before .args .grid .now) 2) (c .before .before .before .before .before .t10 .given), back (at (c .before .before .before .before .before .before .before .before .args .grid .now) 3) (c .before .before .before .before .t12 .given), back (at (c .before .before .before .before .before .before .before .before .args .diag .now) 0) (c .before .before .before .t14 .given), back (at (c .before .before .before .before .before .before .before .before .args .tp-type .now) 0) (c .before .before .t16 .given), back (at (c .before .before .before .before .before .before .before .before .args .bands .now) 0) (c .before .t18 .given), back (at (c .before .before .before .before .before .before .before .before .args .bands .now) 1) (c .t20 .given))
+    let a : _ = c .before .before .before .before .before .before .before .before .args in
+    rw (
+      back (at (a .grid .now) 0) (c .before .before .before .before .before .before .before .t6 .given),
+      back (at (a .grid .now) 1) (c .before .before .before .before .before .before .t8 .given),
+      back (at (a .grid .now) 2) (c .before .before .before .before .before .t10 .given),
+      back (at (a .grid .now) 3) (c .before .before .before .before .t12 .given),
+      back (at (a .diag .now) 0) (c .before .before .before .t14 .given),
+      back (at (a .tp-type .now) 0) (c .before .before .t16 .given),
+      back (at (a .bands .now) 0) (c .before .t18 .given),
+      back (at (a .bands .now) 1) (c .t20 .given),
+    )
 
 pub head-of-spec : {M : Type 1} → statement M
 head-of-spec =

@@ -8,8 +8,6 @@ use Rattle.text.specs.Pieces.{index}
 use Rattle.text.proofs.PieceLaws.{index-hit, index-miss, index-none}
 use Rattle.text.proofs.kernel.cut.Statement.{statement}
 use Rattle.text.proofs.kernel.cut.Tie as tie
-use Rattle.text.proofs.kernel.cut.Reads as reads
-use Rattle.text.proofs.kernel.cut.Lts as lts
 
 abbrev Inv-loop : tie.InvT-loop
 Inv-loop s p b i₀ i = (i + index b (drop i s) ≡ p + index b (drop p s)) × (p ≤ i) × (i ≤ length s)

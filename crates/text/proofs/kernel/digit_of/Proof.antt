@@ -5,8 +5,6 @@ use borrow.Author.Needs.{needs}
 use Rattle.text.proofs.FieldLaws.{digit-low, digit-high, digit-none}
 use Rattle.text.proofs.kernel.digit_of.Statement.{statement}
 use Rattle.text.proofs.kernel.digit_of.Tie as tie
-use Rattle.text.proofs.kernel.digit_of.Reads as reads
-use Rattle.text.proofs.kernel.digit_of.Lts as lts
 
 cast-result : tie.Need-cast-result
 cast-result c = search needs

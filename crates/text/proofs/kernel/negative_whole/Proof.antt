@@ -4,8 +4,6 @@ use borrow.Author.Needs.{needs}
 use Rattle.text.proofs.FieldLaws.{negative-zero, minus-fits, negative-in, negative-out, negative-bad}
 use Rattle.text.proofs.kernel.negative_whole.Statement.{statement}
 use Rattle.text.proofs.kernel.negative_whole.Tie as tie
-use Rattle.text.proofs.kernel.negative_whole.Reads as reads
-use Rattle.text.proofs.kernel.negative_whole.Lts as lts
 
 enum-known-m : tie.Need-enum-known-m
 enum-known-m c = search needs

@@ -4,9 +4,6 @@ use borrow.Author.Needs.{needs}
 use Rattle.text.proofs.FieldLaws.{bits-in, bits-out}
 use Rattle.text.proofs.kernel.parse_bits.Statement.{statement}
 use Rattle.text.proofs.kernel.parse_bits.Tie as tie
-use Rattle.text.proofs.kernel.parse_bits.Reads as reads
-use Rattle.text.proofs.kernel.parse_bits.Lts as lts
-use Rattle.text.proofs.kernel.parse_digits.Reads as parse-digits-reads
 
 parse-digits-requires : tie.Need-parse-digits-requires
 parse-digits-requires c κs = search needs

@@ -8,9 +8,6 @@ use Rattle.text.specs.Fields.{value}
 use Rattle.text.proofs.FieldLaws.{within, value-end, value-step, value-bad, value-over}
 use Rattle.text.proofs.kernel.parse_digits.Statement.{statement}
 use Rattle.text.proofs.kernel.parse_digits.Tie as tie
-use Rattle.text.proofs.kernel.parse_digits.Reads as reads
-use Rattle.text.proofs.kernel.parse_digits.Lts as lts
-use Rattle.text.proofs.kernel.digit_of.Reads as digit-of-reads
 
 abbrev Inv-loop : tie.InvT-loop
 Inv-loop s base limit n₀ i₀ n i = (i ≤ length s) × (n ≤ limit) × (value base limit (drop i s) n ≡ value base limit s 0)

@@ -6,9 +6,6 @@ use native.Mathlib.Omega.{arith}
 use Rattle.text.proofs.FieldLaws.{magnitude-none, magnitude-zero, magnitude-one, magnitude-more}
 use Rattle.text.proofs.kernel.parse_magnitude.Statement.{statement}
 use Rattle.text.proofs.kernel.parse_magnitude.Tie as tie
-use Rattle.text.proofs.kernel.parse_magnitude.Reads as reads
-use Rattle.text.proofs.kernel.parse_magnitude.Lts as lts
-use Rattle.text.proofs.kernel.parse_digits.Reads as parse-digits-reads
 
 returns : tie.Need-returns
 returns c = magnitude-none (c .before .before .args .s .now) (c .if1 .taken)

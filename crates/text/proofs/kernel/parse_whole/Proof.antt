@@ -5,11 +5,6 @@ use Rattle.text.specs.Fields.{magnitude, negative, positive}
 use Rattle.text.proofs.FieldLaws.{whole-none, whole-negative, whole-positive, part-from}
 use Rattle.text.proofs.kernel.parse_whole.Statement.{statement}
 use Rattle.text.proofs.kernel.parse_whole.Tie as tie
-use Rattle.text.proofs.kernel.parse_whole.Reads as reads
-use Rattle.text.proofs.kernel.parse_whole.Lts as lts
-use Rattle.text.proofs.kernel.negative_whole.Reads as negative-whole-reads
-use Rattle.text.proofs.kernel.parse_magnitude.Reads as parse-magnitude-reads
-use Rattle.text.proofs.kernel.positive_whole.Reads as positive-whole-reads
 
 returns : tie.Need-returns
 returns c = whole-none (c .before .before .args .s .now) (c .if1 .taken)

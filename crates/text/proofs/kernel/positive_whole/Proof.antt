@@ -4,8 +4,6 @@ use borrow.Author.Needs.{needs}
 use Rattle.text.proofs.FieldLaws.{positive-in, positive-out, positive-bad}
 use Rattle.text.proofs.kernel.positive_whole.Statement.{statement}
 use Rattle.text.proofs.kernel.positive_whole.Tie as tie
-use Rattle.text.proofs.kernel.positive_whole.Reads as reads
-use Rattle.text.proofs.kernel.positive_whole.Lts as lts
 
 enum-known-m : tie.Need-enum-known-m
 enum-known-m c = search needs

@@ -1,7 +1,7 @@
 -- `writing::kernel::put_decimal` meets its contract. Assumes nothing.
 use Prim.Native.Nat.{_+_, ℕ}
 use borrow.Author.Needs.{needs}
-use lib.ListN.{length, length-append}
+use lib.ListN.{length, length-append, take}
 use mathlib.Core.List.{List, [], _∷_}
 use mathlib.Core.Path.{_∙_, _≡_, ap, sym}
 use native.Mathlib.Omega.{arith}
@@ -11,6 +11,13 @@ use Rattle.writing.proofs.WrittenLaws.{wrote-both}
 use Rattle.writing.specs.Written.{written}
 use Rattle.writing.proofs.kernel.put_decimal.Statement.{statement}
 use Rattle.writing.proofs.kernel.put_decimal.Tie as tie
+
+-- the digits are the number's, and as many
+spelled : (c : tie.After-decimal) → take (c .decimal .result) (c .decimal .last .1 .0) ≡ decimal (c .before .before .before .args .n)
+spelled c = c .decimal .ensures .1 .1 ∙ decimal-is (c .before .before .before .args .n) (c .decimal .result) (omega arith) (c .decimal .ensures .1 .0)
+
+counted : (c : tie.After-decimal) → c .decimal .result ≡ length (decimal (c .before .before .before .args .n))
+counted c = places-is 19 (c .before .before .before .args .n) (c .decimal .result) (omega arith) (c .decimal .ensures .1 .0) ∙ sym (length-decimal (c .before .before .before .args .n))
 
 decimal-requires : tie.Need-decimal-requires
 decimal-requires c κs = search needs
@@ -23,18 +30,28 @@ slice-aggregate-put-slice c = search needs
 
 put-slice-requires : tie.Need-put-slice-requires
 put-slice-requires c κs =
-    let q : _ ≡ decimal (c .before .before .before .before .before .args .n) = c .before .before .decimal .ensures .1 .1 ∙ decimal-is (c .before .before .before .before .before .args .n) (c .before .before .decimal .result) (omega arith) (c .before .before .decimal .ensures .1 .0) in let l : (c .before .before .decimal .result) ≡ length (decimal (c .before .before .before .before .before .args .n)) = places-is 19 (c .before .before .before .before .before .args .n) (c .before .before .decimal .result) (omega arith) (c .before .before .decimal .ensures .1 .0) ∙ sym (length-decimal (c .before .before .before .before .before .args .n)) in omega (arith, c .before .before .decimal .ensures .0 .1, l, length-append (decimal (c .before .before .before .before .before .args .n)) (c .before .before .before .before .before .args .end ∷ []), c .before .before .before .before .before .pre)
+    let s : _ = c .before .before .before .before .before in
+    omega (arith, c .before .before .decimal .ensures .0 .1, counted (c .before .before), length-append (decimal (s .args .n)) (s .args .end ∷ []), s .pre)
 
 put-byte-requires : tie.Need-put-byte-requires
 put-byte-requires c κs =
-    let q : _ ≡ decimal (c .before .before .before .before .before .before .before .before .before .args .n) = c .before .before .before .before .before .before .decimal .ensures .1 .1 ∙ decimal-is (c .before .before .before .before .before .before .before .before .before .args .n) (c .before .before .before .before .before .before .decimal .result) (omega arith) (c .before .before .before .before .before .before .decimal .ensures .1 .0) in let l : (c .before .before .before .before .before .before .decimal .result) ≡ length (decimal (c .before .before .before .before .before .before .before .before .before .args .n)) = places-is 19 (c .before .before .before .before .before .before .before .before .before .args .n) (c .before .before .before .before .before .before .decimal .result) (omega arith) (c .before .before .before .before .before .before .decimal .ensures .1 .0) ∙ sym (length-decimal (c .before .before .before .before .before .before .before .before .before .args .n)) in omega (arith, c .before .before .before .put-slice .ensures .0, c .before .before .before .put-slice .kept .0, c .before .before .before .before .before .before .decimal .ensures .0 .1, l, length-append (decimal (c .before .before .before .before .before .before .before .before .before .args .n)) (c .before .before .before .before .before .before .before .before .before .args .end ∷ []), c .before .before .before .before .before .before .before .before .before .pre)
+    let s : _ = c .before .before .before .before .before .before .before .before .before in
+    let p : _ = c .before .before .before .put-slice in
+    omega (arith, p .ensures .0, p .kept .0, c .before .before .before .before .before .before .decimal .ensures .0 .1, counted (c .before .before .before .before .before .before), length-append (decimal (s .args .n)) (s .args .end ∷ []), s .pre)
 
 same-length : tie.Need-same-length
 same-length c = search needs
 
 returns : tie.Need-returns
 returns c =
-    let q : _ ≡ decimal (c .before .before .before .before .before .before .before .before .before .before .before .before .args .n) = c .before .before .before .before .before .before .before .before .before .decimal .ensures .1 .1 ∙ decimal-is (c .before .before .before .before .before .before .before .before .before .before .before .before .args .n) (c .before .before .before .before .before .before .before .before .before .decimal .result) (omega arith) (c .before .before .before .before .before .before .before .before .before .decimal .ensures .1 .0) in let l : (c .before .before .before .before .before .before .before .before .before .decimal .result) ≡ length (decimal (c .before .before .before .before .before .before .before .before .before .before .before .before .args .n)) = places-is 19 (c .before .before .before .before .before .before .before .before .before .before .before .before .args .n) (c .before .before .before .before .before .before .before .before .before .decimal .result) (omega arith) (c .before .before .before .before .before .before .before .before .before .decimal .ensures .1 .0) ∙ sym (length-decimal (c .before .before .before .before .before .before .before .before .before .before .before .before .args .n)) in wrote-both (c .before .before .before .before .before .before .before .before .before .before .before .before .args .at) (decimal (c .before .before .before .before .before .before .before .before .before .before .before .before .args .n)) (c .before .before .before .before .before .before .before .before .before .before .before .before .args .end ∷ []) (c .before .before .before .before .before .before .before .before .before .before .before .before .args .out .now) _ _ _ _ (c .before .before .before .before .before .before .put-slice .ensures .0 ∙ ap (λ (x : List ℕ). c .before .before .before .before .before .before .before .before .before .before .before .before .args .at + length x) q) (c .before .before .before .before .before .before .put-slice .ensures .1 ∙ ap (λ (x : List ℕ). written (c .before .before .before .before .before .before .before .before .before .before .before .before .args .at) x (c .before .before .before .before .before .before .before .before .before .before .before .before .args .out .now)) q) (c .before .before .put-byte .ensures .0) (c .before .before .put-byte .ensures .1) (c .before .before .before .before .before .before .before .before .before .before .before .before .pre)
+    let a : _ = c .before .before .before .before .before .before .before .before .before .before .before .before .args in
+    let q : _ = spelled (c .before .before .before .before .before .before .before .before .before) in
+    let p : _ = c .before .before .before .before .before .before .put-slice .ensures in
+    let b : _ = c .before .before .put-byte .ensures in
+    wrote-both (a .at) (decimal (a .n)) (a .end ∷ []) (a .out .now) _ _ _ _
+    (p .0 ∙ ap (λ (x : List ℕ). a .at + length x) q)
+    (p .1 ∙ ap (λ (x : List ℕ). written (a .at) x (a .out .now)) q)
+    (b .0) (b .1) (c .before .before .before .before .before .before .before .before .before .before .before .before .pre)
 
 pub put-decimal-spec : {M : Type 1} → statement M
 put-decimal-spec =

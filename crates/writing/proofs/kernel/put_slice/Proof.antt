@@ -6,7 +6,6 @@ use lib.Seq.{take-all}
 use mathlib.Core.List.{List}
 use mathlib.Core.Path.{_∙_, _≡_, ap, refl}
 use native.Mathlib.Omega.{arith}
-use Rattle.list_laws.specs.Lists.{at}
 use Rattle.writing.proofs.WrittenLaws.{written-next, written-none}
 use Rattle.writing.specs.Written.{written}
 use Rattle.writing.proofs.kernel.put_slice.Statement.{statement}

@@ -4,11 +4,11 @@ use borrow.Author.Needs.{needs}
 use lib.ListN.{drop, take}
 use lib.Seq.{length-take-le}
 use mathlib.Core.Bool.{Bool}
-use mathlib.Core.Path.{_∙_, ap, refl, sym}
+use mathlib.Core.List.{List}
+use mathlib.Core.Path.{_∙_, _≡_, ap, refl, sym}
 use native.Mathlib.Omega.{arith}
 use Rattle.sections.proofs.LineLaws.{kind-is, kind-other}
 use Rattle.sections.specs.Lines.{patternField, rowKind, told}
-use mathlib.Core.Path.{_≡_}
 use Rattle.sections.proofs.kernel.patterns.parse_pattern_line.Statement.{statement}
 use Rattle.sections.proofs.kernel.patterns.parse_pattern_line.Tie as tie
 
@@ -39,7 +39,12 @@ same-length c =
 returns : tie.Need-returns
 unfolding rowKind
 returns c =
-    (kind-is patternField (c .before .before .before .before .before .before .before .before .before .before .before .before .args .line .now) (c .before .before .before .before .before .before .before .before .before .before .before .before .args .tag .now) (c .before .before .before .before .before .before .before .before .before .before .before .before .args .n) (c .before .before .before .before .before .before .before .before .cut .result) (omega (arith, c .before .before .before .before .before .before .before .before .cut .ensures .0)) (c .before .before .before .before .before .before .same .ensures .0 (c .before .before .before .before .before .if1 .taken)) _ (c .before .before .before .parse-patterns .ensures .0 ∙ ap (λ (t : Bool). told t (take (c .before .before .before .before .before .before .before .before .before .before .before .before .args .n) (drop (c .before .before .before .before .before .before .before .before .before .before .before .before .args .at) (c .before .before .before .parse-patterns .last .1 .1 .1 .0)))) (c .if2 .taken)), c .before .before .before .parse-patterns .ensures .1)
+    let a : _ = c .before .before .before .before .before .before .before .before .before .before .before .before .args in
+    let cut : _ = c .before .before .before .before .before .before .before .before .cut in
+    let p : _ = c .before .before .before .parse-patterns in
+    let values : List ℕ = take (a .n) (drop (a .at) (p .last .1 .1 .1 .0)) in
+    let fields : _ = p .ensures .0 ∙ ap (λ (t : Bool). told t values) (c .if2 .taken) in
+    (kind-is patternField (a .line .now) (a .tag .now) (a .n) (cut .result) (omega (arith, cut .ensures .0)) (c .before .before .before .before .before .before .same .ensures .0 (c .before .before .before .before .before .if1 .taken)) _ fields, p .ensures .1)
 
 same-length-2 : tie.Need-same-length-2
 same-length-2 c =
@@ -48,7 +53,12 @@ same-length-2 c =
 returns-2 : tie.Need-returns-2
 unfolding rowKind
 returns-2 c =
-    (kind-is patternField (c .before .before .before .before .before .before .before .before .before .before .before .before .args .line .now) (c .before .before .before .before .before .before .before .before .before .before .before .before .args .tag .now) (c .before .before .before .before .before .before .before .before .before .before .before .before .args .n) (c .before .before .before .before .before .before .before .before .cut .result) (omega (arith, c .before .before .before .before .before .before .before .before .cut .ensures .0)) (c .before .before .before .before .before .before .same .ensures .0 (c .before .before .before .before .before .if1 .taken)) _ (c .before .before .before .parse-patterns .ensures .0 ∙ ap (λ (t : Bool). told t (take (c .before .before .before .before .before .before .before .before .before .before .before .before .args .n) (drop (c .before .before .before .before .before .before .before .before .before .before .before .before .args .at) (c .before .before .before .parse-patterns .last .1 .1 .1 .0)))) (c .if2 .left)), c .before .before .before .parse-patterns .ensures .1)
+    let a : _ = c .before .before .before .before .before .before .before .before .before .before .before .before .args in
+    let cut : _ = c .before .before .before .before .before .before .before .before .cut in
+    let p : _ = c .before .before .before .parse-patterns in
+    let values : List ℕ = take (a .n) (drop (a .at) (p .last .1 .1 .1 .0)) in
+    let fields : _ = p .ensures .0 ∙ ap (λ (t : Bool). told t values) (c .if2 .left) in
+    (kind-is patternField (a .line .now) (a .tag .now) (a .n) (cut .result) (omega (arith, cut .ensures .0)) (c .before .before .before .before .before .before .same .ensures .0 (c .before .before .before .before .before .if1 .taken)) _ fields, p .ensures .1)
 
 returns-3 : tie.Need-returns-3
 returns-3 c =

@@ -63,7 +63,18 @@ loop-less c =
 
 loop-again : tie.Need-loop-again Inv-loop μ-loop
 loop-again c =
-    (omega (arith, row-bytes patternField (c .before .before .before .before .before .before .before .before .before .before .before .before .before .args .tag .now) (c .before .before .before .before .before .before .before .before .before .before .before .before .before .args .n) (take (c .before .before .before .before .before .before .before .cut .result - c .before .before .before .before .before .before .before .before .before .loop .at) (drop (c .before .before .before .before .before .before .before .before .before .loop .at) (c .before .before .before .before .before .before .before .before .before .before .before .before .before .args .text .now))) (take (c .before .before .before .before .before .before .before .before .before .before .before .before .before .args .n) (drop (c .before .before .before .before .before .before .before .before .before .loop .k) (c .before .before .before .before .parse-pattern-line .last .1 .1 .1 .0))) (c .before .before .before .before .parse-pattern-line .ensures .0 ∙ ap (λ (r : Line). toldLine r (take (c .before .before .before .before .before .before .before .before .before .before .before .before .before .args .n) (drop (c .before .before .before .before .before .before .before .before .before .loop .k) (c .before .before .before .before .parse-pattern-line .last .1 .1 .1 .0)))) (c .enum-told .given .1)), length-take-le (c .before .before .before .before .before .before .before .cut .result - c .before .before .before .before .before .before .before .before .before .loop .at) (drop (c .before .before .before .before .before .before .before .before .before .loop .at) (c .before .before .before .before .before .before .before .before .before .before .before .before .before .args .text .now)) (omega (arith, length-drop (c .before .before .before .before .before .before .before .before .before .loop .at) (c .before .before .before .before .before .before .before .before .before .before .before .before .before .args .text .now)))), c .before .before .before .before .parse-pattern-line .kept .1 .1 .1 .0 ∙ c .before .before .before .before .before .before .before .before .before .loop .inv .1, rows-row patternField (c .before .before .before .before .before .before .before .before .before .before .before .before .before .args .text .now) (c .before .before .before .before .before .before .before .before .before .before .before .before .before .args .from) (c .before .before .before .before .before .before .before .before .before .before .before .before .before .args .tag .now) (c .before .before .before .before .before .before .before .before .before .before .before .before .before .args .n) (c .before .before .before .before .before .before .before .before .before .loop .out) (c .before .before .before .before .before .before .before .before .before .loop .at) (c .before .before .before .before .before .before .before .before .before .loop .k) (c .before .before .before .before .before .before .before .before .before .loop .inv .2) (omega arith) (c .before .before .before .before .before .before .before .cut .result) (c .before .before .before .before .before .before .before .cut .ensures .0) (c .before .before .before .before .parse-pattern-line .last .1 .1 .1 .0) (c .before .before .before .before .parse-pattern-line .ensures .1) (c .before .before .before .before .parse-pattern-line .ensures .0 ∙ ap (λ (r : Line). toldLine r (take (c .before .before .before .before .before .before .before .before .before .before .before .before .before .args .n) (drop (c .before .before .before .before .before .before .before .before .before .loop .k) (c .before .before .before .before .parse-pattern-line .last .1 .1 .1 .0)))) (c .enum-told .given .1)))
+    let a : _ = c .before .before .before .before .before .before .before .before .before .before .before .before .before .args in
+    let l : _ = c .before .before .before .before .before .before .before .before .before .loop in
+    let cut : _ = c .before .before .before .before .before .before .before .cut in
+    let p : _ = c .before .before .before .before .parse-pattern-line in
+    let values : List ℕ = take (a .n) (drop (l .k) (p .last .1 .1 .1 .0)) in
+    let row : _ = p .ensures .0 ∙ ap (λ (r : Line). toldLine r values) (c .enum-told .given .1) in
+    let line : List ℕ = take (cut .result - l .at) (drop (l .at) (a .text .now)) in
+    let bytes : a .n ≤ length line = row-bytes patternField (a .tag .now) (a .n) line values row in (
+      omega (arith, bytes, length-take-le (cut .result - l .at) (drop (l .at) (a .text .now)) (omega (arith, length-drop (l .at) (a .text .now)))),
+      p .kept .1 .1 .1 .0 ∙ l .inv .1,
+      rows-row patternField (a .text .now) (a .from) (a .tag .now) (a .n) (l .out) (l .at) (l .k) (l .inv .2) (omega arith) (cut .result) (cut .ensures .0) (p .last .1 .1 .1 .0) (p .ensures .1) row,
+    )
 
 enum-told-2 : tie.Need-enum-told-2 Inv-loop μ-loop
 enum-told-2 c =
@@ -79,7 +90,13 @@ same-length c =
 
 returns : tie.Need-returns Inv-loop μ-loop
 returns c =
-    rows-broken patternField (c .before .before .before .before .before .before .before .before .before .before .before .before .before .args .text .now) (c .before .before .before .before .before .before .before .before .before .before .before .before .before .args .from) (c .before .before .before .before .before .before .before .before .before .before .before .before .before .args .tag .now) (c .before .before .before .before .before .before .before .before .before .before .before .before .before .args .n) (c .before .before .before .before .before .before .before .before .before .loop .out) (c .before .before .before .before .before .before .before .before .before .loop .at) (c .before .before .before .before .before .before .before .before .before .loop .k) (c .before .before .before .before .before .before .before .before .before .loop .inv .2) (omega arith) (c .before .before .before .before .before .before .before .cut .result) (c .before .before .before .before .before .before .before .cut .ensures .0) (c .before .before .before .before .parse-pattern-line .ensures .0 ∙ ap (λ (r : Line). toldLine r (take (c .before .before .before .before .before .before .before .before .before .before .before .before .before .args .n) (drop (c .before .before .before .before .before .before .before .before .before .loop .k) (c .before .before .before .before .parse-pattern-line .last .1 .1 .1 .0)))) (c .enum-told3 .given .1))
+    let a : _ = c .before .before .before .before .before .before .before .before .before .before .before .before .before .args in
+    let l : _ = c .before .before .before .before .before .before .before .before .before .loop in
+    let cut : _ = c .before .before .before .before .before .before .before .cut in
+    let p : _ = c .before .before .before .before .parse-pattern-line in
+    let values : List ℕ = take (a .n) (drop (l .k) (p .last .1 .1 .1 .0)) in
+    rows-broken patternField (a .text .now) (a .from) (a .tag .now) (a .n) (l .out) (l .at) (l .k) (l .inv .2) (omega arith) (cut .result) (cut .ensures .0)
+    (p .ensures .0 ∙ ap (λ (r : Line). toldLine r values) (c .enum-told3 .given .1))
 
 same-length-2 : tie.Need-same-length-2 Inv-loop μ-loop
 same-length-2 c =
@@ -95,7 +112,14 @@ same-length-3 c =
 
 returns-3 : tie.Need-returns-3 Inv-loop μ-loop
 returns-3 c =
-    rows-other patternField (c .before .before .before .before .before .before .before .before .before .before .before .before .before .args .text .now) (c .before .before .before .before .before .before .before .before .before .before .before .before .before .args .from) (c .before .before .before .before .before .before .before .before .before .before .before .before .before .args .tag .now) (c .before .before .before .before .before .before .before .before .before .before .before .before .before .args .n) (c .before .before .before .before .before .before .before .before .before .loop .out) (c .before .before .before .before .before .before .before .before .before .loop .at) (c .before .before .before .before .before .before .before .before .before .loop .k) (c .before .before .before .before .before .before .before .before .before .loop .inv .2) (omega arith) (c .before .before .before .before .before .before .before .cut .result) (c .before .before .before .before .before .before .before .cut .ensures .0) (c .before .before .before .before .parse-pattern-line .ensures .0 ∙ ap (λ (r : Line). toldLine r (take (c .before .before .before .before .before .before .before .before .before .before .before .before .before .args .n) (drop (c .before .before .before .before .before .before .before .before .before .loop .k) (c .before .before .before .before .parse-pattern-line .last .1 .1 .1 .0)))) (c .enum-told2 .given .1)) ∙ ap (λ (l : List ℕ). read l (ended 10 (drop (c .before .before .before .before .before .before .before .before .before .loop .at) (c .before .before .before .before .before .before .before .before .before .before .before .before .before .args .text .now)))) (sym (c .before .before .before .before .parse-pattern-line .ensures .1))
+    let a : _ = c .before .before .before .before .before .before .before .before .before .before .before .before .before .args in
+    let l : _ = c .before .before .before .before .before .before .before .before .before .loop in
+    let cut : _ = c .before .before .before .before .before .before .before .cut in
+    let p : _ = c .before .before .before .before .parse-pattern-line in
+    let values : List ℕ = take (a .n) (drop (l .k) (p .last .1 .1 .1 .0)) in
+    let other : _ = p .ensures .0 ∙ ap (λ (r : Line). toldLine r values) (c .enum-told2 .given .1) in
+    rows-other patternField (a .text .now) (a .from) (a .tag .now) (a .n) (l .out) (l .at) (l .k) (l .inv .2) (omega arith) (cut .result) (cut .ensures .0) other
+    ∙ ap (λ (v : List ℕ). read v (ended 10 (drop (l .at) (a .text .now)))) (sym (p .ensures .1))
 
 pub parse-pattern-rows-spec : {M : Type 1} → statement M
 parse-pattern-rows-spec =

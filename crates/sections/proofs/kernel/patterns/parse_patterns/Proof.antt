@@ -94,7 +94,16 @@ loop-less c =
 
 loop-again : tie.Need-loop-again Inv-loop μ-loop
 loop-again c =
-    (omega arith, simp length-set (c .before .before .before .before .before .before .before .before .loop .inv .1), take-set-le (c .before .before .before .before .before .before .before .before .before .before .before .args .at) (c .before .before .before .before .before .before .before .before .loop .out) (c .before .before .before .before .before .before .before .before .before .before .before .args .at + c .before .before .before .before .before .before .before .before .loop .i) (c .before .z .given .0 .0) (omega arith) ∙ c .before .before .before .before .before .before .before .before .loop .inv .2, row-more patternField (c .before .before .before .before .before .before .before .before .before .before .before .args .line .now) (c .before .before .before .before .before .before .before .before .before .before .before .args .p) (c .before .before .before .before .before .before .before .before .before .before .before .args .count) (c .before .before .before .before .before .before .before .before .loop .out) (c .before .before .before .before .before .before .before .before .before .before .before .args .at) (c .before .before .before .before .before .before .before .before .loop .from) (c .before .before .before .before .before .before .before .before .loop .i) (c .before .before .before .before .before .before .before .before .loop .inv .3) (omega arith) (omega arith) (c .before .before .before .before .before .cut .result) (c .before .before .before .before .before .cut .ensures .0) (c .before .z .given .0 .0) (ap patternGot (sym (c .before .z .given .1) ∙ c .before .before .before .parse-bits .ensures)) (omega arith))
+    let a : _ = c .before .before .before .before .before .before .before .before .before .before .before .args in
+    let l : _ = c .before .before .before .before .before .before .before .before .loop in
+    let cut : _ = c .before .before .before .before .before .cut in
+    let z : _ = c .before .z .given in
+    let got-z : _ = ap patternGot (sym (z .1) ∙ c .before .before .before .parse-bits .ensures) in (
+      omega arith,
+      simp length-set (l .inv .1),
+      take-set-le (a .at) (l .out) (a .at + l .i) (z .0 .0) (omega arith) ∙ l .inv .2,
+      row-more patternField (a .line .now) (a .p) (a .count) (l .out) (a .at) (l .from) (l .i) (l .inv .3) (omega arith) (omega arith) (cut .result) (cut .ensures .0) (z .0 .0) got-z (omega arith),
+    )
 
 same-length-3 : tie.Need-same-length-3 Inv-loop μ-loop
 same-length-3 c =
