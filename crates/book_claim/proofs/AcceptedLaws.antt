@@ -17,9 +17,11 @@ use Rattle.triplet_piece.specs.Study.{sizesOf}
 use Rattle.triplet_piece.proofs.StudyLaws.{study-fits}
 use Rattle.triplet_study.specs.Given.{Given, givenQuestions, studyOf}
 use Rattle.triplet_study.proofs.GivenLaws.{given-numbered, given-ready}
-use Rattle.sheet_step.specs.Marks.{areMarks}
+use Rattle.marks.specs.Bytes.{Holds}
+use Rattle.marks.specs.Marks.{areMarks}
+use Rattle.sheet_step.proofs.CountLaws.{counted, marks-held}
 use Rattle.sheet_step.proofs.StepLaws.{both-yes, sheet-lengths, piece-on}
-use Rattle.sheet_step.specs.Steps.{Sheet, Call, run, carry, average, countsOf, isPiece, sheetQuestions, ownQuestions, callQuestions, verdict, pieceOf}
+use Rattle.sheet_step.specs.Steps.{piecesOf, Sheet, Call, run, carry, average, countsOf, isPiece, sheetQuestions, ownQuestions, callQuestions, verdict, pieceOf}
 
 -- ---- the questions of a call have their numbers
 
@@ -43,8 +45,8 @@ pub record Accepted (g : Given) (s : Sheet) (c : Call) : Type 0 where
   pub fits : Fitting (countsOf g) (length (studyOf g .points)) (length (s .weights)) (length (s .flags))
   pub some : 1 ≤ countsOf g .pairs
   pub bands : countsOf g .pairs ≡ countsOf g .bands1 * countsOf g .bands2
-  pub marked : length (s .marks) ≡ countsOf g .triplets * countsOf g .pairs
-  pub fine : areMarks (countsOf g .pairs) (s .marks) ≡ true
+  pub marked : Holds (piecesOf (countsOf g)) (s .marks)
+  pub fine : areMarks (countsOf g .pairs) (piecesOf (countsOf g)) (s .marks) ≡ true
   pub own : AllYes (ownQuestions g s c)
 
 pairs-some : (g : Given) → 1 ≤ studyOf g .bands1 → 1 ≤ studyOf g .bands2 → 1 ≤ countsOf g .pairs
@@ -68,7 +70,7 @@ accepted g s c e =
       fits = study-fits (studyOf g) (length (s .weights)) (length (s .flags)) (ready .points-low) (long .0) (long .1 .0);
       some = pairs-some g (ready .bands1-low) (ready .bands2-low);
       bands = pairs-are g;
-      marked = long .1 .1;
+      marked = marks-held z (counted g (both .0)) (s .marks) (long .1 .1);
       fine = yes .1 .0;
       own = yes .1 .1;
     }
@@ -78,8 +80,8 @@ pub piece-in : (z : Sizes) (t b1 b2 : ℤ) → z .pairs ≡ z .bands1 * z .bands
     → (mag t < z .triplets) × (mag b1 * z .bands2 + mag b2 < z .pairs)
 piece-in z t b1 b2 e h = let n : _ = piece-on z t b1 b2 h in (n .0, rw e (digits-lt (n .1 .0) (n .1 .1)))
 
--- a named piece that is run has a mark
-pub named : (g : Given) (s : Sheet) (t b1 b2 : ℤ) → Accepted g s (run t b1 b2) → pieceOf (countsOf g) t b1 b2 < length (s .marks)
+-- a named piece that is run is one of the pieces
+pub named : (g : Given) (s : Sheet) (t b1 b2 : ℤ) → Accepted g s (run t b1 b2) → pieceOf (countsOf g) t b1 b2 < piecesOf (countsOf g)
 named g s t b1 b2 a =
     let h : _ = piece-in (countsOf g) t b1 b2 (a .bands) (a .own .0) in
-    rw (a .marked) (digits-lt (h .0) (h .1))
+    digits-lt (h .0) (h .1)

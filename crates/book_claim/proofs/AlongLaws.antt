@@ -2,7 +2,7 @@
 use mathlib.Core.Path.{_≡_, refl, sym, ap, _∙_}
 use mathlib.Core.Bool.{Bool, true, false, not, _&&_, _||_, cond}
 use mathlib.Core.List.{List, [], _∷_}
-use Prim.Native.Nat.{ℕ, zero, suc, _+_, _/_, _<_}
+use Prim.Native.Nat.{ℕ, zero, suc, _+_, _/_}
 use native.Mathlib.Omega.{arith}
 use lib.Dec.{eqb}
 use lib.IntN.{ℤ}
@@ -17,7 +17,7 @@ use Rattle.triplet_study.specs.Given.{Given}
 use Rattle.sheet_step.specs.Steps.{Sheet, Call, run, carry, average, countsOf}
 use Rattle.book_claim.specs.Book.{wordAt, Word, fresh, computed, averagedBy, Book, isOpen, writes, bookNo, turn, booked}
 use Rattle.book_claim.specs.Counts.{runsOf, runsAccepted, runsPiece, hasRun, averages, averagings, AveragedBy, isAveraged}
-use Rattle.book_claim.proofs.TurnLaws.{turn-long, kept, averaged-turn, open-turn}
+use Rattle.book_claim.proofs.TurnLaws.{On, on-word, turn-long, kept, averaged-turn, open-turn}
 
 -- ---- words by their lists
 
@@ -39,18 +39,18 @@ module _ (g : Given) (start : Sheet) where
   booked-long b [] = refl
   booked-long b (c ∷ calls) = booked-long (turn g start b c) calls ∙ turn-long g start b c
 
-  in-turn : (b : Book) (c : Call) (q : ℕ) → q < length (b .words) → q < length (turn g start b c .words)
-  in-turn b c q h = rw (turn-long g start b c) h
+  in-turn : (b : Book) (c : Call) (q : ℕ) → On g start b q → On g start (turn g start b c) q
+  in-turn b c q h = (turn-long g start b c ∙ h .0, h .1)
 
   -- an averaged word stays under every list
-  pub stays : (q : ℕ) (b : Book) (calls : List Call) → q < length (b .words) → isAveraged (wordAt b q) ≡ true → wordAt (booked g start b calls) q ≡ wordAt b q
+  pub stays : (q : ℕ) (b : Book) (calls : List Call) → On g start b q → isAveraged (wordAt b q) ≡ true → wordAt (booked g start b calls) q ≡ wordAt b q
   stays q b [] h av = refl
   stays q b (c ∷ calls) h av =
       let k : wordAt (turn g start b c) q ≡ wordAt b q = kept g start b q h c av in
       stays q (turn g start b c) calls (in-turn b c q h) (ap isAveraged k ∙ av) ∙ k
 
   -- a word is open after a list where it was, and no call of the list has run its piece
-  pub open-along : (q : ℕ) (b : Book) (calls : List Call) → q < length (b .words)
+  pub open-along : (q : ℕ) (b : Book) (calls : List Call) → On g start b q
       → isOpen (wordAt (booked g start b calls) q) ≡ (isOpen (wordAt b q) && not (hasRun g start b q calls))
   open-along q b [] h = none (isOpen (wordAt b q))
     where
@@ -67,7 +67,7 @@ module _ (g : Given) (start : Sheet) where
       both false r s = refl
 
   -- the averagings of its triplet: one where its word has become averaged, otherwise none
-  pub averaged-along : (q : ℕ) (b : Book) (calls : List Call) → q < length (b .words)
+  pub averaged-along : (q : ℕ) (b : Book) (calls : List Call) → On g start b q
       → oneIf (isAveraged (wordAt b q)) + averagings g start b (q / countsOf g .pairs) calls ≡ oneIf (isAveraged (wordAt (booked g start b calls) q))
   averaged-along q b [] h = omega arith
   averaged-along q b (c ∷ calls) h =
@@ -78,7 +78,7 @@ module _ (g : Given) (start : Sheet) where
   -- ---- the averaging that has written an averaged word
 
   -- a word that becomes averaged under one call
-  turned : (q : ℕ) (b : Book) (c : Call) (ids1 ids2 : List ℤ) → q < length (b .words) → isAveraged (wordAt b q) ≡ false → wordAt (turn g start b c) q ≡ averagedBy ids1 ids2
+  turned : (q : ℕ) (b : Book) (c : Call) (ids1 ids2 : List ℤ) → On g start b q → isAveraged (wordAt b q) ≡ false → wordAt (turn g start b c) q ≡ averagedBy ids1 ids2
       → (t : ℤ) × ((c ≡ average t ids1 ids2) × ((q / countsOf g .pairs ≡ mag t) × (bookNo g start b c ≡ 0)))
   unfolding turn writes
   turned q b c ids1 ids2 h not-yet e =
@@ -89,7 +89,7 @@ module _ (g : Given) (start : Sheet) where
           → average t j1 j2 ≡ average t ids1 ids2
       lists t j1 j2 f w =
           same-lists t j1 j2 ids1 ids2
-          (sym (getD-patch (λ q. eqb (q / countsOf g .pairs) (mag t)) (λ q. averagedBy j1 j2) (b .words) q fresh h
+          (sym (getD-patch (λ q. eqb (q / countsOf g .pairs) (mag t)) (λ q. averagedBy j1 j2) (b .words) q fresh (on-word g start b q h)
           ∙ ap (λ (u : Bool). cond u (averagedBy j1 j2) (wordAt b q)) f) ∙ w)
 
       at-average : (t : ℤ) (j1 j2 : List ℤ) → bookNo g start b (average t j1 j2) ≡ 0 → (u : Bool) → eqb (q / countsOf g .pairs) (mag t) ≡ u → oneIf u ≡ 1
@@ -105,7 +105,7 @@ module _ (g : Given) (start : Sheet) where
       go (average t j1 j2) zero z s w = at-average t j1 j2 z (eqb (q / countsOf g .pairs) (mag t)) refl s w
       go c (suc n) z s w = absurd (omega arith)
 
-  pub averaged-by : (q : ℕ) (ids1 ids2 : List ℤ) (b : Book) (calls : List Call) → q < length (b .words) → isAveraged (wordAt b q) ≡ false
+  pub averaged-by : (q : ℕ) (ids1 ids2 : List ℤ) (b : Book) (calls : List Call) → On g start b q → isAveraged (wordAt b q) ≡ false
       → wordAt (booked g start b calls) q ≡ averagedBy ids1 ids2 → AveragedBy g start b (q / countsOf g .pairs) ids1 ids2 calls
   averaged-by q ids1 ids2 b [] h not-yet e = clash (sym not-yet ∙ ap isAveraged e)
   averaged-by q ids1 ids2 b (c ∷ calls) h not-yet e =

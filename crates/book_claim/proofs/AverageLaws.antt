@@ -1,9 +1,9 @@
 -- An averaging that is accepted on the book's sheet makes the sheet of the book that is written. Assumes nothing.
 use mathlib.Core.Path.{_≡_, refl, sym, ap, _∙_}
 use mathlib.Core.Bool.{true}
-use mathlib.Core.List.{List, map}
+use mathlib.Core.List.{List}
 use Prim.Native.Nat.{ℕ, _+_, _*_, _/_, _%_, _<_, _≤_}
-use native.Mathlib.Nat.{mul-assoc, mul-comm}
+use native.Mathlib.Nat.{div-lt-iff-lt-mul, mul-assoc, mul-comm}
 use native.Mathlib.Omega.{arith}
 use lib.Dec.{eqb}
 use lib.Ieee.{Float, nan}
@@ -15,35 +15,37 @@ use borrow.Author.Tests.{eqb-true}
 use Rattle.list_laws.proofs.BelowLaws.{below-at}
 use Rattle.list_laws.proofs.SignedLaws.{below-lt}
 use Rattle.list_laws.specs.Lists.{rowOf}
-use Rattle.list_laws.proofs.MapLaws.{map-patch, getD-map-lt}
 use Rattle.list_laws.proofs.GroupLaws.{row-within, row-made}
 use Rattle.triplet_piece.specs.declared.Sizes.{Sizes}
 use Rattle.triplet_piece.specs.Layout.{tripletAt, pieceAt}
 use Rattle.triplet_piece.specs.Study.{weightAt, flagAt}
 use Rattle.triplet_study.specs.Given.{Given, studyOf}
-use Rattle.sheet_step.specs.Marks.{isComputedAt, areComputed, averagedMarks}
-use Rattle.sheet_step.specs.Steps.{Sheet, average, countsOf, averagedAt, averagedFlagAt, tripletAveraged, tripletFlagsAveraged, effect}
-use Rattle.book_claim.specs.Book.{Word, fresh, computed, averagedBy, Book, markOf, computedRow, computedFlagRow, weightBy, flagBy, wordOfWeight, wordOfFlag, render, writes}
+use Rattle.marks.specs.Bytes.{markAt, placesIn}
+use Rattle.marks.specs.Marks.{areComputed, isComputedAt, averagedMarks}
+use Rattle.book_claim.proofs.MarkWords.{one-computed, mark-word, average-marks}
+use Rattle.sheet_step.specs.Steps.{piecesOf, Sheet, average, countsOf, averagedAt, averagedFlagAt, tripletAveraged, tripletFlagsAveraged, effect}
+use Rattle.book_claim.specs.Book.{Word, fresh, computed, Book, marksOf, computedRow, computedFlagRow, weightBy, flagBy, wordOfWeight, wordOfFlag, render, writes}
 use Rattle.book_claim.proofs.EntryLaws.{getD-each, patch-each}
-use Rattle.book_claim.proofs.WordLaws.{average-entry, one-computed}
+use Rattle.book_claim.proofs.WordLaws.{average-entry}
 use Rattle.book_claim.proofs.PlaceLaws.{factor-pos, piece-div, row-piece, wrapped-triplet, wrapped-piece}
 use Rattle.book_claim.proofs.AcceptedLaws.{Accepted}
-use Rattle.book_claim.proofs.RunLaws.{sheet-same, weights-long, flags-long, words-on-sheet, weight-word, flag-word}
+use Rattle.book_claim.proofs.RunLaws.{sheet-same, weights-long, flags-long, weight-on, flag-on, mark-on}
 
 -- the marks' yes to question 18, of words
-words-computed : (l : List Word) (b t k : ℕ) → areComputed b (map markOf l) t ≡ true → k < b → t * b + k < length l → getD l (t * b + k) fresh ≡ computed
+words-computed : (l : List Word) (start : List ℕ) (pieces b t k : ℕ) → areComputed b (marksOf pieces l start) t ≡ true → k < b → t * b + k < pieces → t * b + k < placesIn start
+    → getD l (t * b + k) fresh ≡ computed
 unfolding areComputed isComputedAt
-words-computed l b t k e h m =
-    let f : eqb (getD (map markOf l) (t * b + k) 1) 1 ≡ true = below-at b (λ k. eqb (getD (map markOf l) (t * b + k) 1) 1) e k h in
-    one-computed (getD l (t * b + k) fresh) (sym (getD-map-lt markOf l (t * b + k) 1 fresh m) ∙ eqb-true (getD (map markOf l) (t * b + k) 1) 1 f)
+words-computed l start pieces b t k e h m n =
+    let f : eqb (markAt (marksOf pieces l start) (t * b + k)) 1 ≡ true = below-at b (λ k. eqb (markAt (marksOf pieces l start) (t * b + k)) 1) e k h in
+    one-computed (getD l (t * b + k) fresh) (sym (mark-word pieces l start (t * b + k) m n) ∙ eqb-true (markAt (marksOf pieces l start) (t * b + k)) 1 f)
 
-module _ (g : Given) (start : Sheet) (b : Book) (t : ℤ) (ids1 ids2 : List ℤ) (a : Accepted g (render g start b) (average t ids1 ids2)) where
+module _ (g : Given) (start : Sheet) (b : Book) (long : length (b .words) ≡ piecesOf (countsOf g)) (t : ℤ) (ids1 ids2 : List ℤ) (a : Accepted g (render g start b) (average t ids1 ids2)) where
   -- the triplet's words are computed
   pub all-computed : (k : ℕ) → k < countsOf g .pairs → getD (b .words) (mag t * countsOf g .pairs + k) fresh ≡ computed
   unfolding render
   all-computed k h =
-      words-computed (b .words) (countsOf g .pairs) (mag t) k (a .own .1 .1 .1 .1 .0) h
-      (rw (words-on-sheet g start b (average t ids1 ids2) a) (digits-lt (below-lt t (countsOf g .triplets) (a .own .0)) h))
+      let on : mag t * countsOf g .pairs + k < piecesOf (countsOf g) = digits-lt (below-lt t (countsOf g .triplets) (a .own .0)) h in
+      words-computed (b .words) (start .marks) (piecesOf (countsOf g)) (countsOf g .pairs) (mag t) k (a .own .1 .1 .1 .1 .0) h on (mark-on g start b (average t ids1 ids2) a _ on)
 
   -- the row of a weight's place is the study's
   weight-row : (i : ℕ) → i < length (start .weights) → tripletAt (countsOf g .points) (countsOf g .pairs) (i % countsOf g .cells) ≡ mag t
@@ -89,7 +91,7 @@ module _ (g : Given) (start : Sheet) (b : Book) (t : ℤ) (ids1 ids2 : List ℤ)
       let triplet : _ = piece-div (countsOf g .points) (countsOf g .pairs) (a .some) (i % countsOf g .cells) in
       rw (← triplet)
       (average-entry (b .words) (pieceAt (countsOf g .points) (countsOf g .pairs) (i % countsOf g .cells)) (countsOf g .pairs) (mag t) ids1 ids2 (λ w old. weightBy g w i old) _ x
-      (weight-word g start b (average t ids1 ids2) a i h)
+      (rw long (weight-on g start b (average t ids1 ids2) a i h))
       (λ e. ap (λ (row : List Float). averagedAt (countsOf g) ids1 ids2 row i) (weight-row i h (sym triplet ∙ e)))))
 
   flags-same : tripletFlagsAveraged (countsOf g) (mag t) ids1 ids2 (render g start b .flags) ≡ render g start (writes g b (average t ids1 ids2)) .flags
@@ -100,12 +102,14 @@ module _ (g : Given) (start : Sheet) (b : Book) (t : ℤ) (ids1 ids2 : List ℤ)
       let triplet : _ = piece-div (countsOf g .points) (countsOf g .pairs) (a .some) j in
       rw (← triplet)
       (average-entry (b .words) (pieceAt (countsOf g .points) (countsOf g .pairs) j) (countsOf g .pairs) (mag t) ids1 ids2 (λ w old. flagBy g w j old) _ x
-      (flag-word g start b (average t ids1 ids2) a j h)
+      (rw long (flag-on g start b (average t ids1 ids2) a j h))
       (λ e. ap (λ (row : List ℤ). averagedFlagAt (countsOf g) ids1 ids2 row j) (flag-row j h (sym triplet ∙ e)))))
 
   marks-same : averagedMarks (countsOf g .pairs) (mag t) (render g start b .marks) ≡ render g start (writes g b (average t ids1 ids2)) .marks
-  unfolding render writes averagedMarks
-  marks-same = map-patch markOf (λ q. eqb (q / countsOf g .pairs) (mag t)) (λ q. averagedBy ids1 ids2) (b .words)
+  unfolding render writes
+  marks-same =
+      average-marks (piecesOf (countsOf g)) (b .words) (start .marks) (countsOf g .pairs) (mag t) ids1 ids2 long
+      (λ q e. let l : mag t < countsOf g .triplets = below-lt t (countsOf g .triplets) (a .own .0) in div-lt-iff-lt-mul (a .some) .0 (rw e l))
 
   tally-same : render g start b .tally ≡ render g start (writes g b (average t ids1 ids2)) .tally
   unfolding render writes

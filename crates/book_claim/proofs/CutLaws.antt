@@ -5,14 +5,16 @@ use mathlib.Core.List.{List, [], _∷_, _++_}
 use Prim.Native.Nat.{ℕ, zero, suc, _<_}
 use native.Mathlib.Omega.{arith}
 use lib.Dec.{eqb}
-use lib.ListN.{length, getD}
 use borrow.Author.Tests.{eqb-false}
-use Rattle.list_laws.proofs.MapLaws.{getD-map-lt}
 use Rattle.triplet_study.specs.Given.{Given}
 use Rattle.sheet_marks.specs.declared.SheetAnswer.{SheetAnswer}
 use Rattle.sheet_marks.specs.Tallies.{sheetAnswer}
-use Rattle.sheet_step.specs.Marks.{closed, carriedMarks}
-use Rattle.sheet_step.specs.Steps.{Sheet, Call, carry, verdict, effect, step, stepAnswer}
+use Rattle.marks.specs.Bytes.{markAt}
+use Rattle.marks.specs.Marks.{closed}
+use Rattle.marks.proofs.BytesLaws.{place-in}
+use Rattle.marks.proofs.MarkLaws.{carried-mark}
+use Rattle.book_claim.proofs.AcceptedLaws.{accepted}
+use Rattle.sheet_step.specs.Steps.{piecesOf, countsOf, Sheet, Call, carry, verdict, effect, step, stepAnswer}
 use Rattle.sheet_step.proofs.StepLaws.{refused-sheet, done-sheet}
 use Rattle.book_claim.specs.Book.{Book, turn, bookNo, booked, bookAnswers}
 use Rattle.book_claim.specs.Lists.{played, answers}
@@ -59,8 +61,9 @@ module _ (g : Given) where
       go true e z = omega arith
       go false e z = eqb-false m 0 e z
 
-  pub none-open : (s : Sheet) → verdict g s carry ≡ 0 → (q d : ℕ) → q < length (s .marks) → getD (step g s carry .marks) q d ≡ 0 → ⊥
-  unfolding effect carriedMarks
-  none-open s e q d h z =
-      closed-not-open (getD (s .marks) q d)
-      (sym (getD-map-lt closed (s .marks) q d d h) ∙ subst (λ (x : Sheet). getD (x .marks) q d ≡ 0) (sym (done-sheet g s carry e)) z)
+  pub none-open : (s : Sheet) → verdict g s carry ≡ 0 → (q : ℕ) → q < piecesOf (countsOf g) → markAt (step g s carry .marks) q ≡ 0 → ⊥
+  unfolding effect
+  none-open s e q h z =
+      let read : markAt (effect g s carry .marks) q ≡ closed (markAt (s .marks) q)
+      = carried-mark (piecesOf (countsOf g)) q (s .marks) h (place-in (piecesOf (countsOf g)) (s .marks) q (accepted g s carry e .marked) h) in
+      closed-not-open (markAt (s .marks) q) (sym read ∙ subst (λ (x : Sheet). markAt (x .marks) q ≡ 0) (sym (done-sheet g s carry e)) z)

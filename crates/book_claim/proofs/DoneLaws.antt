@@ -8,21 +8,21 @@ use lib.Dec.{eqb}
 use lib.ListN.{length, getD, replicate}
 use borrow.Author.Tests.{ne-eqb}
 use Rattle.list_laws.specs.Lists.{oneIf}
-use Rattle.list_laws.proofs.MapLaws.{getD-map-lt}
 use Rattle.ask.specs.Ask.{afterCall}
 use Rattle.triplet_study.specs.Given.{Given}
 use Rattle.sheet_marks.specs.declared.SheetAnswer.{SheetAnswer}
 use Rattle.ask.specs.Answers.{answerOf}
-use Rattle.sheet_step.specs.Marks.{isOpenAt}
-use Rattle.sheet_step.specs.Steps.{Sheet, Call, run, carry, average, step, stepAnswer}
-use Rattle.book_claim.specs.Book.{wordAt, fresh, Book, markOf, render, bookNo, turn, opened, booked}
+use Rattle.marks.specs.Marks.{isOpenMark}
+use Rattle.marks.proofs.MarkLaws.{open-at}
+use Rattle.sheet_step.specs.Steps.{Sheet, Call, run, carry, average, countsOf, piecesOf, step, stepAnswer}
+use Rattle.book_claim.specs.Book.{wordAt, Book, render, bookNo, turn, opened, booked}
 use Rattle.book_claim.specs.Lists.{played, answers}
 use Rattle.book_claim.specs.Counts.{runsOf, runsAccepted, runsPiece, hasRun, averages, averagings}
 use Rattle.book_claim.specs.Done.{isDone, runsOn, runsDone, runsPieceOn, ranDone, averagingsDone}
-use Rattle.book_claim.proofs.TurnLaws.{turn-long}
-use Rattle.book_claim.proofs.WordLaws.{open-mark, open-count}
-use Rattle.book_claim.proofs.Words.{opened-long}
-use Rattle.book_claim.proofs.Demand3.{same-step, opened-is}
+use Rattle.book_claim.proofs.TurnLaws.{On, turn-long, yes}
+use Rattle.book_claim.proofs.MarkWords.{open-mark, mark-word}
+use Rattle.book_claim.proofs.RunLaws.{mark-on, open-runs}
+use Rattle.book_claim.proofs.Demand3.{same-step, opened-long, opened-is}
 use Rattle.book_claim.proofs.Corollaries.{is-book, tally-is}
 
 done-or : {A : Type 0} (n : ℕ) (x y : A) → cond (isDone (answerOf n)) x y ≡ afterCall n x y
@@ -40,43 +40,49 @@ module _ (g : Given) (start : Sheet) where
   -- ---- one call on the sheet that a book stands for
 
   -- what counts where the answer is Done counts where the book accepts
-  counted : {A : Type 0} (b : Book) (c : Call) (x y z : A) → x ≡ y → cond (isDone (stepAnswer g (render g start b) c .answer)) x z ≡ afterCall (bookNo g start b c) y z
+  counted : {A : Type 0} (b : Book) (c : Call) (x y z : A) → (bookNo g start b c ≡ 0 → x ≡ y) → cond (isDone (stepAnswer g (render g start b) c .answer)) x z ≡ afterCall (bookNo g start b c) y z
   unfolding bookNo
-  counted b c x y z e = done-or (bookNo g start b c) x z ∙ ap (λ (v : _). afterCall (bookNo g start b c) v z) e
+  counted {A} b c x y z e = done-or (bookNo g start b c) x z ∙ go (bookNo g start b c) e
+    where
+      go : (n : ℕ) → (n ≡ 0 → x ≡ y) → afterCall n x z ≡ afterCall n y z
+      go zero e = e refl
+      go (suc n) e = refl
 
-  same-runs : (b : Book) (c : Call) → runsOn (render g start b) c ≡ runsOf b c
-  unfolding render
-  same-runs b (run t b1 b2) = refl
-  same-runs b carry = open-count (b .words)
-  same-runs b (average t ids1 ids2) = refl
+  same-runs : (b : Book) (c : Call) → length (b .words) ≡ piecesOf (countsOf g) → bookNo g start b c ≡ 0 → runsOn g (render g start b) c ≡ runsOf b c
+  same-runs b (run t b1 b2) long z = refl
+  same-runs b carry long z = open-runs g start b long (yes g start b carry z)
+  same-runs b (average t ids1 ids2) long z = refl
 
-  same-piece : (b : Book) (q : ℕ) (c : Call) → q < length (b .words) → runsPieceOn g (render g start b) q c ≡ runsPiece g b q c
-  unfolding render isOpenAt
-  same-piece b q (run t b1 b2) h = refl
-  same-piece b q carry h = ap (λ (m : ℕ). eqb m 0) (getD-map-lt markOf (b .words) q 1 fresh h) ∙ open-mark (wordAt b q)
-  same-piece b q (average t ids1 ids2) h = refl
+  same-piece : (b : Book) (q : ℕ) (c : Call) → On g start b q → bookNo g start b c ≡ 0 → runsPieceOn g (render g start b) q c ≡ runsPiece g b q c
+  unfolding render isOpenMark
+  same-piece b q (run t b1 b2) h z = refl
+  same-piece b q carry h z =
+      open-at (piecesOf (countsOf g)) q (render g start b .marks) (h .1)
+      ∙ ap (λ (m : ℕ). eqb m 0) (mark-word (piecesOf (countsOf g)) (b .words) (start .marks) q (h .1) (mark-on g start b carry (yes g start b carry z) q (h .1)))
+      ∙ open-mark (wordAt b q)
+  same-piece b q (average t ids1 ids2) h z = refl
 
   -- ---- a list of calls, from any book
 
-  runs-along : (calls : List Call) (b : Book) (s : Sheet) → s ≡ render g start b → runsDone g s calls ≡ runsAccepted g start b calls
-  runs-along [] b s e = refl
-  runs-along (c ∷ calls) b s e =
-      ap₂ (λ (m n : ℕ). m + n) (rw e (counted b c (runsOn (render g start b) c) (runsOf b c) 0 (same-runs b c)))
-      (runs-along calls (turn g start b c) (step g s c) (rw e (same-step g start b c)))
+  runs-along : (calls : List Call) (b : Book) → length (b .words) ≡ piecesOf (countsOf g) → (s : Sheet) → s ≡ render g start b → runsDone g s calls ≡ runsAccepted g start b calls
+  runs-along [] b long s e = refl
+  runs-along (c ∷ calls) b long s e =
+      ap₂ (λ (m n : ℕ). m + n) (rw e (counted b c (runsOn g (render g start b) c) (runsOf b c) 0 (same-runs b c long)))
+      (runs-along calls (turn g start b c) (turn-long g start b c ∙ long) (step g s c) (rw e (same-step g start b long c)))
 
-  ran-along : (q : ℕ) (calls : List Call) (b : Book) (s : Sheet) → s ≡ render g start b → q < length (b .words) → ranDone g s q calls ≡ hasRun g start b q calls
+  ran-along : (q : ℕ) (calls : List Call) (b : Book) (s : Sheet) → s ≡ render g start b → On g start b q → ranDone g s q calls ≡ hasRun g start b q calls
   ran-along q [] b s e h = refl
   ran-along q (c ∷ calls) b s e h =
       let first : cond (isDone (stepAnswer g s c .answer)) (runsPieceOn g s q c) false ≡ afterCall (bookNo g start b c) (runsPiece g b q c) false
       = rw e (counted b c (runsPieceOn g (render g start b) q c) (runsPiece g b q c) false (same-piece b q c h)) in
       or-same first
-      (ran-along q calls (turn g start b c) (step g s c) (rw e (same-step g start b c)) (rw (turn-long g start b c) h))
+      (ran-along q calls (turn g start b c) (step g s c) (rw e (same-step g start b (h .0) c)) (turn-long g start b c ∙ h .0, h .1))
 
-  averagings-along : (t : ℕ) (calls : List Call) (b : Book) (s : Sheet) → s ≡ render g start b → averagingsDone g s t calls ≡ averagings g start b t calls
-  averagings-along t [] b s e = refl
-  averagings-along t (c ∷ calls) b s e =
-      ap₂ (λ (m n : ℕ). m + n) (rw e (counted b c (oneIf (averages t c)) (oneIf (averages t c)) 0 refl))
-      (averagings-along t calls (turn g start b c) (step g s c) (rw e (same-step g start b c)))
+  averagings-along : (t : ℕ) (calls : List Call) (b : Book) → length (b .words) ≡ piecesOf (countsOf g) → (s : Sheet) → s ≡ render g start b → averagingsDone g s t calls ≡ averagings g start b t calls
+  averagings-along t [] b long s e = refl
+  averagings-along t (c ∷ calls) b long s e =
+      ap₂ (λ (m n : ℕ). m + n) (rw e (counted b c (oneIf (averages t c)) (oneIf (averages t c)) 0 (λ _. refl)))
+      (averagings-along t calls (turn g start b c) (turn-long g start b c ∙ long) (step g s c) (rw e (same-step g start b long c)))
 
 -- the answer to a call of a list is that of its entry on the sheet that the calls before it left
 pub answer-at : (g : Given) (s : Sheet) (before : List Call) (c : Call) (after : List Call) (d : SheetAnswer)
@@ -87,22 +93,22 @@ answer-at g s (x ∷ before) c after d = answer-at g (step g s x) before c after
 -- a start on which no piece is marked, any content, any tally; and any list of calls
 module _ (g : Given) (start : Sheet) (unmarked : start .marks ≡ replicate (length (start .marks)) 0) (calls : List Call) where
   -- a call after the list is answered Done exactly where the book accepts it
-  pub accepted-done : (c : Call) → isDone (stepAnswer g (played g start calls) c .answer) ≡ eqb (bookNo g start (booked g start (opened start) calls) c) 0
+  pub accepted-done : (c : Call) → isDone (stepAnswer g (played g start calls) c .answer) ≡ eqb (bookNo g start (booked g start (opened g start) calls) c) 0
   unfolding bookNo
-  accepted-done c = rw (is-book g start unmarked calls) (done-zero (bookNo g start (booked g start (opened start) calls) c))
+  accepted-done c = rw (is-book g start unmarked calls) (done-zero (bookNo g start (booked g start (opened g start) calls) c))
 
   -- the accepted runs are those answered Done, "repeats included"
-  pub runs-done : runsAccepted g start (opened start) calls ≡ runsDone g start calls
-  runs-done = sym (runs-along g start calls (opened start) start (opened-is g start unmarked))
+  pub runs-done : runsAccepted g start (opened g start) calls ≡ runsDone g start calls
+  runs-done = sym (runs-along g start calls (opened g start) (opened-long g start) start (opened-is g start unmarked))
 
   -- and by so many the tally has grown
   pub tally-done : played g start calls .tally ≡ start .tally + runsDone g start calls
   tally-done = rw (← runs-done) (tally-is g start unmarked calls)
 
   -- a piece has run where a call answered Done has run it
-  pub ran-done : (q : ℕ) → q < length (start .marks) → hasRun g start (opened start) q calls ≡ ranDone g start q calls
-  ran-done q h = sym (ran-along g start q calls (opened start) start (opened-is g start unmarked) (rw (opened-long g start) h))
+  pub ran-done : (q : ℕ) → q < piecesOf (countsOf g) → hasRun g start (opened g start) q calls ≡ ranDone g start q calls
+  ran-done q h = sym (ran-along g start q calls (opened g start) start (opened-is g start unmarked) (opened-long g start, h))
 
   -- the accepted averagings of a triplet are those answered Done
-  pub averagings-done : (t : ℕ) → averagings g start (opened start) t calls ≡ averagingsDone g start t calls
-  averagings-done t = sym (averagings-along g start t calls (opened start) start (opened-is g start unmarked))
+  pub averagings-done : (t : ℕ) → averagings g start (opened g start) t calls ≡ averagingsDone g start t calls
+  averagings-done t = sym (averagings-along g start t calls (opened g start) (opened-long g start) start (opened-is g start unmarked))

@@ -1,5 +1,6 @@
 -- The laws.
 pub mod EntryLaws
+pub mod MarkWords
 pub mod WordLaws
 pub mod PlaceLaws
 pub mod AcceptedLaws

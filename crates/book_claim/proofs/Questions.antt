@@ -12,8 +12,8 @@ use Rattle.ask.specs.Ask.{firstNo, AllYes}
 use Rattle.ask.proofs.AskLaws.{all-yes, none-no, FirstNo, first-no, is-first, group-yes}
 use Rattle.triplet_study.specs.Given.{Given, givenQuestions}
 use Rattle.triplet_study.proofs.GivenLaws.{given-numbered}
-use Rattle.sheet_step.specs.Marks.{isAveragedAt, areMarks, isNotAveraged}
-use Rattle.sheet_step.specs.Steps.{Sheet, Call, run, average, countsOf, areSheetLengths, isPiece, sheetQuestions, ownQuestions, callQuestions, verdict}
+use Rattle.marks.specs.Marks.{isAveragedAt, areMarks, isNotAveraged}
+use Rattle.sheet_step.specs.Steps.{piecesOf, Sheet, Call, run, average, countsOf, areSheetLengths, isPiece, sheetQuestions, ownQuestions, callQuestions, verdict}
 use Rattle.book_claim.proofs.AcceptedLaws.{accepted, call-numbered}
 
 module _ (g : Given) (s : Sheet) (c : Call) where
@@ -54,7 +54,7 @@ module _ (g : Given) (s : Sheet) (t : ℤ) (averaged : isAveragedAt (s .marks) (
 
 module _ (g : Given) (s : Sheet) (t : ℤ) (study : firstNo (givenQuestions g) ≡ 0)
     (lengths : areSheetLengths (countsOf g) (length (s .weights)) (length (s .flags)) (length (s .marks)) ≡ true)
-    (marks : areMarks (countsOf g .pairs) (s .marks) ≡ true)
+    (marks : areMarks (countsOf g .pairs) (piecesOf (countsOf g)) (s .marks) ≡ true)
     (averaged : isAveragedAt (s .marks) (mag t * countsOf g .pairs) ≡ true) where
   pub averaged-average : (ids1 ids2 : List ℤ) → isBelow t (countsOf g .triplets) ≡ true → verdict g s (average t ids1 ids2) ≡ 15
   unfolding verdict firstNo

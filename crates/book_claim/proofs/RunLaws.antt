@@ -3,16 +3,21 @@ use mathlib.Core.Path.{_≡_, refl, sym, ap, subst, _∙_}
 use Prim.Native.Nat.{ℕ, _+_, _*_, _%_, _<_}
 use native.Mathlib.Nat.{mod-lt}
 use lib.IntN.{ℤ}
-use lib.ListN.{length, length-map}
-use Rattle.list_laws.proofs.MapLaws.{map-set, map-map}
+use mathlib.Core.List.{map}
+use lib.ListN.{length, getD}
+use Rattle.list_laws.specs.Lists.{countBelow}
+use Rattle.list_laws.proofs.MapLaws.{getD-map-lt}
 use Rattle.triplet_piece.specs.Layout.{pieceAt}
 use Rattle.triplet_piece.specs.Study.{computedWeights, computedFlags}
 use Rattle.triplet_study.specs.Given.{Given}
-use Rattle.sheet_step.specs.Marks.{closed, carriedMarks}
-use Rattle.sheet_step.specs.Steps.{Sheet, sheet, Call, run, carry, countsOf, pieceOf, effect}
-use Rattle.book_claim.specs.Book.{computed, Book, markOf, carried, weightBy, flagBy, wordOfWeight, wordOfFlag, render, writes}
+use Rattle.marks.specs.Bytes.{placesIn, Holds}
+use Rattle.marks.specs.Marks.{openPieces}
+use Rattle.marks.proofs.BytesLaws.{all-in, place-in, holds-same}
+use Rattle.sheet_step.specs.Steps.{Sheet, sheet, Call, run, carry, countsOf, piecesOf, pieceOf, effect}
+use Rattle.book_claim.specs.Book.{fresh, Book, isOpen, openWords, carried, weightBy, flagBy, wordOfWeight, wordOfFlag, render, writes}
 use Rattle.book_claim.proofs.EntryLaws.{length-each, patch-each}
-use Rattle.book_claim.proofs.WordLaws.{run-entry, carry-entry, carried-mark, open-count}
+use Rattle.book_claim.proofs.WordLaws.{run-entry, carry-entry}
+use Rattle.book_claim.proofs.MarkWords.{length-words, run-marks, carry-marks, open-count}
 use Rattle.book_claim.proofs.PlaceLaws.{factor-pos, piece-lt}
 use Rattle.book_claim.proofs.AcceptedLaws.{Accepted, named}
 
@@ -30,52 +35,66 @@ module _ (g : Given) (start : Sheet) (b : Book) where
   unfolding render
   flags-long = length-each (λ j old. flagBy g (wordOfFlag g b j) j old) (start .flags)
 
-  pub marks-long : length (render g start b .marks) ≡ length (b .words)
+  pub marks-long : length (render g start b .marks) ≡ length (start .marks)
   unfolding render
-  marks-long = length-map (b .words) markOf
+  marks-long = length-words (piecesOf (countsOf g)) (b .words) (start .marks)
 
-  -- ---- on an accepted call: the piece of a weight's place, and of a flag's, has a word
+  -- ---- on an accepted call: the piece of a weight's place, and of a flag's, is one of the pieces
 
   module _ (c : Call) (a : Accepted g (render g start b) c) where
-    -- a word for each piece of the study
-    pub words-on-sheet : length (b .words) ≡ countsOf g .triplets * countsOf g .pairs
-    words-on-sheet = sym marks-long ∙ a .marked
-
-    pub flag-word : (j : ℕ) → j < length (start .flags) → pieceAt (countsOf g .points) (countsOf g .pairs) j < length (b .words)
-    flag-word j h =
+    pub flag-on : (j : ℕ) → j < length (start .flags) → pieceAt (countsOf g .points) (countsOf g .pairs) j < piecesOf (countsOf g)
+    flag-on j h =
         let e : length (start .flags) ≡ countsOf g .triplets * countsOf g .points * countsOf g .pairs = sym flags-long ∙ a .fits .flagged ∙ a .fits .cells in
-        rw words-on-sheet (piece-lt (countsOf g .points) (countsOf g .pairs) (countsOf g .triplets) (a .some) (a .fits .some) j (rw e at h))
+        piece-lt (countsOf g .points) (countsOf g .pairs) (countsOf g .triplets) (a .some) (a .fits .some) j (rw e at h)
 
-    pub weight-word : (i : ℕ) → i < length (start .weights) → pieceAt (countsOf g .points) (countsOf g .pairs) (i % countsOf g .cells) < length (b .words)
-    weight-word i h =
+    pub weight-on : (i : ℕ) → i < length (start .weights) → pieceAt (countsOf g .points) (countsOf g .pairs) (i % countsOf g .cells) < piecesOf (countsOf g)
+    weight-on i h =
         let e : length (start .weights) ≡ countsOf g .channels * countsOf g .cells = sym weights-long ∙ a .fits .weighed in
         let k : i % countsOf g .cells < countsOf g .cells = mod-lt i (factor-pos i (countsOf g .channels) (countsOf g .cells) (rw e at h)) in
         let m : i % countsOf g .cells < countsOf g .triplets * countsOf g .points * countsOf g .pairs = subst (λ (n : ℕ). i % countsOf g .cells < n) (a .fits .cells) k in
-        rw words-on-sheet (piece-lt (countsOf g .points) (countsOf g .pairs) (countsOf g .triplets) (a .some) (a .fits .some) (i % countsOf g .cells) m)
+        piece-lt (countsOf g .points) (countsOf g .pairs) (countsOf g .triplets) (a .some) (a .fits .some) (i % countsOf g .cells) m
 
-  -- ---- a run
+    -- every piece has a mark
+    pub all-marked : Holds (piecesOf (countsOf g)) (start .marks)
+    all-marked = holds-same (piecesOf (countsOf g)) (render g start b .marks) (start .marks) (sym marks-long) (a .marked)
 
-  pub run-same : (t b1 b2 : ℤ) → Accepted g (render g start b) (run t b1 b2) → effect g (render g start b) (run t b1 b2) ≡ render g start (writes g b (run t b1 b2))
-  unfolding effect render writes computedWeights computedFlags weightBy flagBy
-  run-same t b1 b2 a =
-      let q : ℕ = pieceOf (countsOf g) t b1 b2 in
-      let h : q < length (b .words) = rw marks-long at (named g (render g start b) t b1 b2 a) in
-      sheet-same
-      (patch-each _ _ _ _ (start .weights)
-      (λ i _ x. run-entry (b .words) q (pieceAt (countsOf g .points) (countsOf g .pairs) (i % countsOf g .cells)) (λ w old. weightBy g w i old) _ x h refl))
-      (patch-each _ _ _ _ (start .flags)
-      (λ j _ x. run-entry (b .words) q (pieceAt (countsOf g .points) (countsOf g .pairs) j) (λ w old. flagBy g w j old) _ x h refl))
-      (sym (map-set markOf (b .words) q computed)) refl
+    pub mark-on : (q : ℕ) → q < piecesOf (countsOf g) → q < placesIn (start .marks)
+    mark-on q h = place-in (piecesOf (countsOf g)) (start .marks) q all-marked h
 
-  -- ---- a carry-on
+  module _ (long : length (b .words) ≡ piecesOf (countsOf g)) where
+    -- the open pieces of the marks are those of the words
+    pub open-runs : Accepted g (render g start b) carry → openPieces (piecesOf (countsOf g)) (render g start b .marks) ≡ openWords (b .words)
+    unfolding render openWords
+    open-runs a =
+        open-count (piecesOf (countsOf g)) (b .words) (start .marks) (all-in (piecesOf (countsOf g)) (start .marks) (all-marked carry a))
+        ∙ ap (λ (n : ℕ). countBelow n (λ q. isOpen (getD (b .words) q fresh))) (sym long)
 
-  pub carry-same : Accepted g (render g start b) carry → effect g (render g start b) carry ≡ render g start (writes g b carry)
-  unfolding effect render writes computedWeights computedFlags weightBy flagBy carriedMarks
-  carry-same a =
-      sheet-same
-      (patch-each _ _ _ _ (start .weights)
-      (λ i h x. carry-entry (b .words) (pieceAt (countsOf g .points) (countsOf g .pairs) (i % countsOf g .cells)) (λ w old. weightBy g w i old) _ x (weight-word carry a i h) refl))
-      (patch-each _ _ _ _ (start .flags)
-      (λ j h x. carry-entry (b .words) (pieceAt (countsOf g .points) (countsOf g .pairs) j) (λ w old. flagBy g w j old) _ x (flag-word carry a j h) refl))
-      (map-map markOf closed (λ w. markOf (carried w)) carried-mark (b .words) ∙ sym (map-map carried markOf (λ w. markOf (carried w)) (λ w. refl) (b .words)))
-      (ap (λ (n : ℕ). b .tally + n) (open-count (b .words)))
+    -- ---- a run
+
+    pub run-same : (t b1 b2 : ℤ) → Accepted g (render g start b) (run t b1 b2) → effect g (render g start b) (run t b1 b2) ≡ render g start (writes g b (run t b1 b2))
+    unfolding effect render writes computedWeights computedFlags weightBy flagBy
+    run-same t b1 b2 a =
+        let q : ℕ = pieceOf (countsOf g) t b1 b2 in
+        let on : q < piecesOf (countsOf g) = named g (render g start b) t b1 b2 a in
+        let h : q < length (b .words) = rw long on in
+        sheet-same
+        (patch-each _ _ _ _ (start .weights)
+        (λ i _ x. run-entry (b .words) q (pieceAt (countsOf g .points) (countsOf g .pairs) (i % countsOf g .cells)) (λ w old. weightBy g w i old) _ x h refl))
+        (patch-each _ _ _ _ (start .flags)
+        (λ j _ x. run-entry (b .words) q (pieceAt (countsOf g .points) (countsOf g .pairs) j) (λ w old. flagBy g w j old) _ x h refl))
+        (run-marks (piecesOf (countsOf g)) (b .words) (start .marks) q on long) refl
+
+    -- ---- a carry-on
+
+    pub carry-same : Accepted g (render g start b) carry → effect g (render g start b) carry ≡ render g start (writes g b carry)
+    unfolding effect render writes computedWeights computedFlags weightBy flagBy
+    carry-same a =
+        sheet-same
+        (patch-each _ _ _ _ (start .weights)
+        (λ i h x. let on : pieceAt (countsOf g .points) (countsOf g .pairs) (i % countsOf g .cells) < piecesOf (countsOf g) = weight-on carry a i h in
+        carry-entry (b .words) (start .marks) (piecesOf (countsOf g)) (pieceAt (countsOf g .points) (countsOf g .pairs) (i % countsOf g .cells)) (λ w old. weightBy g w i old) _ x on (rw long on) (mark-on carry a _ on) refl))
+        (patch-each _ _ _ _ (start .flags)
+        (λ j h x. let on : pieceAt (countsOf g .points) (countsOf g .pairs) j < piecesOf (countsOf g) = flag-on carry a j h in
+        carry-entry (b .words) (start .marks) (piecesOf (countsOf g)) (pieceAt (countsOf g .points) (countsOf g .pairs) j) (λ w old. flagBy g w j old) _ x on (rw long on) (mark-on carry a _ on) refl))
+        (carry-marks (piecesOf (countsOf g)) (b .words) (start .marks) (map carried (b .words)) (λ q l. getD-map-lt carried (b .words) q fresh fresh (rw long l)))
+        (ap (λ (n : ℕ). b .tally + n) (open-runs a))

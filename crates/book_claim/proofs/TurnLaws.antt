@@ -1,8 +1,8 @@
 -- One call and the word of one piece: an averaged word stays; an open one is run, or stays open; who averages. Assumes nothing.
 use mathlib.Core.Path.{_≡_, refl, sym, ap, _∙_}
 use mathlib.Core.Bool.{Bool, true, false, not, _&&_, cond}
-use mathlib.Core.List.{List, map}
-use Prim.Native.Nat.{ℕ, zero, suc, _+_, _*_, _/_, _%_, _<_}
+use mathlib.Core.List.{List}
+use Prim.Native.Nat.{ℕ, zero, suc, _+_, _*_, _/_, _%_, _<_, _≤_}
 use native.Mathlib.Nat.{div-add-mod', mod-lt}
 use native.Mathlib.Omega.{arith}
 use lib.Arith.{digits-div}
@@ -19,9 +19,13 @@ use Rattle.list_laws.specs.Lists.{oneIf}
 use Rattle.list_laws.proofs.MapLaws.{getD-map-lt}
 use Rattle.ask.specs.Ask.{afterCall}
 use Rattle.triplet_study.specs.Given.{Given}
-use Rattle.sheet_step.specs.Marks.{markAt, isAveragedAt, alike, isMark, areMarks, isNotAveraged}
-use Rattle.sheet_step.specs.Steps.{Sheet, Call, run, carry, average, countsOf, pieceOf}
-use Rattle.book_claim.specs.Book.{wordAt, Word, fresh, computed, averagedBy, Book, markOf, isOpen, carried, render, writes, bookNo, turn}
+use Rattle.marks.specs.Bytes.{markAt, placesIn}
+use Rattle.marks.proofs.BytesLaws.{all-in}
+use Rattle.marks.specs.Marks.{isAveragedAt, alike, isMark, areMarks, isNotAveraged}
+use Rattle.book_claim.proofs.MarkWords.{mark-word}
+use Rattle.book_claim.proofs.RunLaws.{all-marked}
+use Rattle.sheet_step.specs.Steps.{piecesOf, Sheet, Call, run, carry, average, countsOf, pieceOf}
+use Rattle.book_claim.specs.Book.{wordAt, Word, fresh, computed, averagedBy, Book, markOf, marksOf, isOpen, carried, render, writes, bookNo, turn}
 use Rattle.book_claim.specs.Counts.{runsPiece, averages, isAveraged}
 use Rattle.book_claim.proofs.AcceptedLaws.{Accepted, accepted, piece-in}
 use Rattle.book_claim.proofs.AverageLaws.{all-computed}
@@ -40,24 +44,32 @@ alike-is true false e = clash e
 alike-is false true e = clash e
 alike-is false false e = refl
 
-averaged-at : (l : List Word) (q : ℕ) → q < length l → isAveragedAt (map markOf l) q ≡ isAveraged (getD l q fresh)
-unfolding isAveragedAt
-averaged-at l q h = ap (λ (m : ℕ). eqb m 2) (getD-map-lt markOf l q 1 fresh h) ∙ averaged-mark (getD l q fresh)
+-- piece q is one of a book's
+abbrev pub On : Given → Sheet → Book → ℕ → Type 0
+On g start b q = (length (b .words) ≡ piecesOf (countsOf g)) × (q < piecesOf (countsOf g))
 
--- a piece is averaged where the first of its triplet is
-triplet-alike : (l : List Word) (b q : ℕ) → areMarks b (map markOf l) ≡ true → q < length l → isAveraged (getD l q fresh) ≡ isAveragedAt (map markOf l) (q / b * b)
-unfolding areMarks isMark
-triplet-alike l b q e h =
-    let m : List ℕ = map markOf l in
-    let y : (ltb (markAt m q) 3 && alike (isAveragedAt m q) (isAveragedAt m (q / b * b))) ≡ true = below-at (length m) (isMark b m) e q (rw (length-map l markOf) h) in
-    sym (averaged-at l q h)
-    ∙ alike-is (isAveragedAt m q) (isAveragedAt m (q / b * b)) (and-right (ltb (markAt m q) 3) (alike (isAveragedAt m q) (isAveragedAt m (q / b * b))) y)
+pub on-word : (g : Given) (start : Sheet) (b : Book) (q : ℕ) → On g start b q → q < length (b .words)
+on-word g start b q h = omega (arith, h .0, h .1)
 
--- no piece of a triplet that is not yet averaged is averaged
-none-averaged : (l : List Word) (b t q : ℕ) → areMarks b (map markOf l) ≡ true → isNotAveraged b (map markOf l) t ≡ true → q / b ≡ t → q < length l
-    → isAveraged (getD l q fresh) ≡ false
-unfolding isNotAveraged
-none-averaged l b t q e n d h = triplet-alike l b q e h ∙ rw d (not-true (isAveragedAt (map markOf l) (t * b)) n)
+module _ (l : List Word) (start : List ℕ) (pieces : ℕ) (held : pieces ≤ placesIn start) where
+  averaged-at : (q : ℕ) → q < pieces → isAveragedAt (marksOf pieces l start) q ≡ isAveraged (getD l q fresh)
+  unfolding isAveragedAt
+  averaged-at q h = ap (λ (m : ℕ). eqb m 2) (mark-word pieces l start q h (omega arith)) ∙ averaged-mark (getD l q fresh)
+
+  -- a piece is averaged where the first of its triplet is
+  triplet-alike : (b q : ℕ) → areMarks b pieces (marksOf pieces l start) ≡ true → q < pieces → isAveraged (getD l q fresh) ≡ isAveragedAt (marksOf pieces l start) (q / b * b)
+  unfolding areMarks isMark
+  triplet-alike b q e h =
+      let m : List ℕ = marksOf pieces l start in
+      let y : (ltb (markAt m q) 3 && alike (isAveragedAt m q) (isAveragedAt m (q / b * b))) ≡ true = below-at pieces (isMark b m) e q h in
+      sym (averaged-at q h)
+      ∙ alike-is (isAveragedAt m q) (isAveragedAt m (q / b * b)) (and-right (ltb (markAt m q) 3) (alike (isAveragedAt m q) (isAveragedAt m (q / b * b))) y)
+
+  -- no piece of a triplet that is not yet averaged is averaged
+  none-averaged : (b t q : ℕ) → areMarks b pieces (marksOf pieces l start) ≡ true → isNotAveraged b (marksOf pieces l start) t ≡ true → q / b ≡ t → q < pieces
+      → isAveraged (getD l q fresh) ≡ false
+  unfolding isNotAveraged
+  none-averaged b t q e n d h = triplet-alike b q e h ∙ rw d (not-true (isAveragedAt (marksOf pieces l start) (t * b)) n)
 
 -- ---- one call
 
@@ -102,19 +114,19 @@ module _ (g : Given) (start : Sheet) (b : Book) where
   unfolding bookNo
   yes c e = accepted g (render g start b) c e
 
-  module _ (q : ℕ) (h : q < length (b .words)) where
+  module _ (q : ℕ) (h : On g start b q) where
     -- an accepted run is not of an averaged piece
     run-open : (t b1 b2 : ℤ) → Accepted g (render g start b) (run t b1 b2) → q ≡ pieceOf (countsOf g) t b1 b2 → isAveraged (wordAt b q) ≡ false
     unfolding render
     run-open t b1 b2 a e =
         let in-row : _ = piece-in (countsOf g) t b1 b2 (a .bands) (a .own .0) in
-        none-averaged (b .words) (countsOf g .pairs) (mag t) q (a .fine) (a .own .1 .0) (rw e (digits-div (mag t) (in-row .1))) h
+        none-averaged (b .words) (start .marks) (piecesOf (countsOf g)) (all-in (piecesOf (countsOf g)) (start .marks) (all-marked g start b (run t b1 b2) a)) (countsOf g .pairs) (mag t) q (a .fine) (a .own .1 .0) (rw e (digits-div (mag t) (in-row .1))) (h .1)
 
     -- an accepted averaging is of computed pieces
     average-computed : (t : ℤ) (ids1 ids2 : List ℤ) → Accepted g (render g start b) (average t ids1 ids2) → q / countsOf g .pairs ≡ mag t → wordAt b q ≡ computed
     average-computed t ids1 ids2 a e =
         let place : q ≡ mag t * countsOf g .pairs + q % countsOf g .pairs = sym (div-add-mod' q (countsOf g .pairs)) ∙ rw e in
-        ap (λ (n : ℕ). wordAt b n) place ∙ all-computed g start b t ids1 ids2 a (q % countsOf g .pairs) (mod-lt q (a .some))
+        ap (λ (n : ℕ). wordAt b n) place ∙ all-computed g start b (h .0) t ids1 ids2 a (q % countsOf g .pairs) (mod-lt q (a .some))
 
     -- it writes its lists beside them
     pub average-turn : (t : ℤ) (ids1 ids2 : List ℤ) → q / countsOf g .pairs ≡ mag t → bookNo g start b (average t ids1 ids2) ≡ 0
@@ -122,7 +134,7 @@ module _ (g : Given) (start : Sheet) (b : Book) where
     unfolding turn writes
     average-turn t ids1 ids2 e z =
         ap (λ (n : ℕ). wordAt (afterCall n (writes g b (average t ids1 ids2)) b) q) z
-        ∙ getD-patch (λ q. eqb (q / countsOf g .pairs) (mag t)) (λ q. averagedBy ids1 ids2) (b .words) q fresh h
+        ∙ getD-patch (λ q. eqb (q / countsOf g .pairs) (mag t)) (λ q. averagedBy ids1 ids2) (b .words) q fresh (on-word g start b q h)
         ∙ ap (λ (u : Bool). cond u (averagedBy ids1 ids2) (wordAt b q)) (eq-eqb (q / countsOf g .pairs) (mag t) e)
 
     -- ---- an averaged word stays
@@ -143,9 +155,9 @@ module _ (g : Given) (start : Sheet) (b : Book) where
 
         go : (c : Call) (n : ℕ) → bookNo g start b c ≡ n → wordAt (afterCall n (writes g b c) b) q ≡ wordAt b q
         go (run t b1 b2) zero e = at-run t b1 b2 (yes (run t b1 b2) e) (eqb q (pieceOf (countsOf g) t b1 b2)) refl
-        go carry zero e = getD-map-lt carried (b .words) q fresh fresh h ∙ carried-kept (wordAt b q) av
+        go carry zero e = getD-map-lt carried (b .words) q fresh fresh (on-word g start b q h) ∙ carried-kept (wordAt b q) av
         go (average t ids1 ids2) zero e =
-            getD-patch (λ q. eqb (q / countsOf g .pairs) (mag t)) (λ q. averagedBy ids1 ids2) (b .words) q fresh h
+            getD-patch (λ q. eqb (q / countsOf g .pairs) (mag t)) (λ q. averagedBy ids1 ids2) (b .words) q fresh (on-word g start b q h)
             ∙ at-average t ids1 ids2 (yes (average t ids1 ids2) e) (eqb (q / countsOf g .pairs) (mag t)) refl
         go c (suc n) e = refl
 
@@ -163,7 +175,7 @@ module _ (g : Given) (start : Sheet) (b : Book) where
             → isAveraged (wordAt b q) ≡ isAveraged (getD (set (b .words) (pieceOf (countsOf g) t b1 b2) computed) q fresh)
         at-run t b1 b2 a true e =
             let p : q ≡ pieceOf (countsOf g) t b1 b2 = eqb-true q (pieceOf (countsOf g) t b1 b2) e in
-            let w : getD (set (b .words) (pieceOf (countsOf g) t b1 b2) computed) q fresh ≡ computed = rw (← p) (getD-set-same (b .words) q computed fresh h) in
+            let w : getD (set (b .words) (pieceOf (countsOf g) t b1 b2) computed) q fresh ≡ computed = rw (← p) (getD-set-same (b .words) q computed fresh (on-word g start b q h)) in
             run-open t b1 b2 a p ∙ sym (ap isAveraged w)
         at-run t b1 b2 a false e = ap isAveraged (sym (getD-set-other (b .words) (pieceOf (countsOf g) t b1 b2) q computed fresh (eqb-false q (pieceOf (countsOf g) t b1 b2) e)))
 
@@ -175,10 +187,10 @@ module _ (g : Given) (start : Sheet) (b : Book) where
         go : (c : Call) (n : ℕ) → bookNo g start b c ≡ n
             → oneIf (isAveraged (wordAt b q)) + afterCall n (oneIf (averages (q / countsOf g .pairs) c)) 0 ≡ oneIf (isAveraged (wordAt (afterCall n (writes g b c) b) q))
         go (run t b1 b2) zero e = none (isAveraged (wordAt b q)) ∙ ap oneIf (at-run t b1 b2 (yes (run t b1 b2) e) (eqb q (pieceOf (countsOf g) t b1 b2)) refl)
-        go carry zero e = none (isAveraged (wordAt b q)) ∙ ap oneIf (sym (ap isAveraged (getD-map-lt carried (b .words) q fresh fresh h) ∙ carried-averaged (wordAt b q)))
+        go carry zero e = none (isAveraged (wordAt b q)) ∙ ap oneIf (sym (ap isAveraged (getD-map-lt carried (b .words) q fresh fresh (on-word g start b q h)) ∙ carried-averaged (wordAt b q)))
         go (average t ids1 ids2) zero e =
             at-average t ids1 ids2 (yes (average t ids1 ids2) e) (eqb (q / countsOf g .pairs) (mag t)) refl
-            ∙ ap (λ (w : Word). oneIf (isAveraged w)) (sym (getD-patch (λ q. eqb (q / countsOf g .pairs) (mag t)) (λ q. averagedBy ids1 ids2) (b .words) q fresh h))
+            ∙ ap (λ (w : Word). oneIf (isAveraged w)) (sym (getD-patch (λ q. eqb (q / countsOf g .pairs) (mag t)) (λ q. averagedBy ids1 ids2) (b .words) q fresh (on-word g start b q h)))
         go c (suc n) e = none (isAveraged (wordAt b q))
 
     -- ---- a word is open afterwards where it was, and the call has not run its piece
@@ -191,7 +203,7 @@ module _ (g : Given) (start : Sheet) (b : Book) where
             → isOpen (getD (set (b .words) (pieceOf (countsOf g) t b1 b2) computed) q fresh) ≡ (isOpen (wordAt b q) && not u)
         at-run t b1 b2 true e =
             let p : q ≡ pieceOf (countsOf g) t b1 b2 = eqb-true q (pieceOf (countsOf g) t b1 b2) e in
-            let w : getD (set (b .words) (pieceOf (countsOf g) t b1 b2) computed) q fresh ≡ computed = rw (← p) (getD-set-same (b .words) q computed fresh h) in
+            let w : getD (set (b .words) (pieceOf (countsOf g) t b1 b2) computed) q fresh ≡ computed = rw (← p) (getD-set-same (b .words) q computed fresh (on-word g start b q h)) in
             ap isOpen w ∙ and-false (isOpen (wordAt b q))
         at-run t b1 b2 false e =
             ap isOpen (getD-set-other (b .words) (pieceOf (countsOf g) t b1 b2) q computed fresh (eqb-false q (pieceOf (countsOf g) t b1 b2) e)) ∙ and-true (isOpen (wordAt b q))
@@ -204,9 +216,9 @@ module _ (g : Given) (start : Sheet) (b : Book) where
         go : (c : Call) (n : ℕ) → bookNo g start b c ≡ n
             → isOpen (wordAt (afterCall n (writes g b c) b) q) ≡ (isOpen (wordAt b q) && not (afterCall n (runsPiece g b q c) false))
         go (run t b1 b2) zero e = at-run t b1 b2 (eqb q (pieceOf (countsOf g) t b1 b2)) refl
-        go carry zero e = ap isOpen (getD-map-lt carried (b .words) q fresh fresh h) ∙ carried-open (wordAt b q)
+        go carry zero e = ap isOpen (getD-map-lt carried (b .words) q fresh fresh (on-word g start b q h)) ∙ carried-open (wordAt b q)
         go (average t ids1 ids2) zero e =
-            ap isOpen (getD-patch (λ q. eqb (q / countsOf g .pairs) (mag t)) (λ q. averagedBy ids1 ids2) (b .words) q fresh h)
+            ap isOpen (getD-patch (λ q. eqb (q / countsOf g .pairs) (mag t)) (λ q. averagedBy ids1 ids2) (b .words) q fresh (on-word g start b q h))
             ∙ at-average t ids1 ids2 (yes (average t ids1 ids2) e) (eqb (q / countsOf g .pairs) (mag t)) refl
             ∙ and-true (isOpen (wordAt b q))
         go c (suc n) e = and-true (isOpen (wordAt b q))

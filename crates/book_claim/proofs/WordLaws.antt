@@ -1,19 +1,20 @@
--- An entry before and after a word is written, for each kind of call; the number of open pieces by words and by marks. Assumes nothing.
-use mathlib.Core.Path.{_≡_, refl, sym, ap, _∙_}
+-- An entry before and after a word is written, for each kind of call. Assumes nothing.
+use mathlib.Core.Path.{_≡_, refl, sym}
 use mathlib.Core.Bool.{Bool, true, false, cond}
 use mathlib.Core.List.{List, map}
 use Prim.Native.Nat.{ℕ, _/_, _<_}
-use native.Mathlib.Omega.{arith}
 use lib.Dec.{eqb}
 use lib.IntN.{ℤ}
-use lib.ListN.{length, getD, set, length-map}
+use lib.ListN.{length, getD, set}
 use lib.Seq.{getD-set-same, getD-set-other}
-use borrow.Author.Tests.{eqb-true, eqb-false}
+use borrow.Author.Tests.{eqb-true, eqb-false, lt-ltb}
 use Rattle.list_laws.specs.Patch.{patch}
 use Rattle.list_laws.proofs.PatchLaws.{getD-patch}
-use Rattle.list_laws.proofs.MapLaws.{getD-map-lt, count-ext}
-use Rattle.sheet_step.specs.Marks.{isOpenAt, openPieces, closed}
-use Rattle.book_claim.specs.Book.{Word, fresh, computed, averagedBy, markOf, isOpen, openWords, carried}
+use Rattle.list_laws.proofs.MapLaws.{getD-map-lt}
+use Rattle.marks.specs.Bytes.{placesIn}
+use Rattle.marks.specs.Marks.{isOpenMark, isOpenAt}
+use Rattle.book_claim.proofs.MarkWords.{mark-word}
+use Rattle.book_claim.specs.Book.{Word, fresh, computed, averagedBy, markOf, carried, marksOf}
 
 -- ---- one entry: v is what a run writes there, x what was there at the start, by w what a word w says
 
@@ -27,10 +28,10 @@ run-entry l q n by v x h e = go (eqb n q) refl
     go false f = rw (getD-set-other l q n computed fresh (eqb-false n q f))
 
 -- a carry-on
-pub carry-entry : {A : Type 0} (l : List Word) (n : ℕ) (by : Word → A → A) (v x : A) → n < length l → by computed x ≡ v
-    → cond (isOpenAt (map markOf l) n) v (by (getD l n fresh) x) ≡ by (getD (map carried l) n fresh) x
-unfolding isOpenAt
-carry-entry l n by v x h e = rw (getD-map-lt markOf l n 1 fresh h, getD-map-lt carried l n fresh fresh h) (go (getD l n fresh))
+pub carry-entry : {A : Type 0} (l : List Word) (start : List ℕ) (pieces n : ℕ) (by : Word → A → A) (v x : A) → n < pieces → n < length l → n < placesIn start → by computed x ≡ v
+    → cond (isOpenAt pieces (marksOf pieces l start) n) v (by (getD l n fresh) x) ≡ by (getD (map carried l) n fresh) x
+unfolding isOpenAt isOpenMark
+carry-entry l start pieces n by v x k h b e = rw (lt-ltb n pieces k, mark-word pieces l start n k b, getD-map-lt carried l n fresh fresh h) (go (getD l n fresh))
   where
     go : (w : Word) → cond (eqb (markOf w) 0) v (by w x) ≡ by (carried w) x
     go fresh = sym e
@@ -46,30 +47,3 @@ average-entry l n b t ids1 ids2 by v x h e = rw (getD-patch (λ k. eqb (k / b) t
     go : (u : Bool) → eqb (n / b) t ≡ u → cond u v (by (getD l n fresh) x) ≡ by (cond u (averagedBy ids1 ids2) (getD l n fresh)) x
     go true f = e (eqb-true (n / b) t f)
     go false f = refl
-
--- ---- marks by words
-
-pub carried-mark : (w : Word) → closed (markOf w) ≡ markOf (carried w)
-carried-mark fresh = refl
-carried-mark computed = refl
-carried-mark (averagedBy ids1 ids2) = refl
-
--- a mark 0 is an open word
-pub open-mark : (w : Word) → eqb (markOf w) 0 ≡ isOpen w
-open-mark fresh = refl
-open-mark computed = refl
-open-mark (averagedBy ids1 ids2) = refl
-
--- a mark 1 is a computed word
-pub one-computed : (w : Word) → markOf w ≡ 1 → w ≡ computed
-one-computed fresh e = absurd (let z : ⊥ = omega arith in z)
-one-computed computed e = refl
-one-computed (averagedBy ids1 ids2) e = absurd (let z : ⊥ = omega arith in z)
-
--- the open pieces of the words are those of their marks
-pub open-count : (l : List Word) → openPieces (map markOf l) ≡ openWords l
-unfolding openPieces openWords isOpenAt
-open-count l =
-    rw (length-map l markOf)
-    (count-ext (length l) (λ q. eqb (getD (map markOf l) q 1) 0) (λ q. isOpen (getD l q computed))
-    (λ q b. ap (λ (m : ℕ). eqb m 0) (getD-map-lt markOf l q 1 computed b) ∙ open-mark (getD l q computed)))

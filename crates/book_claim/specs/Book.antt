@@ -3,20 +3,21 @@
 use mathlib.Core.Bool.{Bool, true, false, cond}
 use mathlib.Core.List.{List, [], _∷_, map}
 use Prim.Native.Nat.{ℕ, zero, suc, _+_, _*_, _/_, _%_}
-use lib.Dec.{eqb}
+use lib.Dec.{eqb, ltb}
 use lib.Ieee.{Float}
 use lib.IntN.{ℤ}
 use lib.ListN.{length, getD, set, replicate}
 use lib.Signed.{mag}
 use Rattle.list_laws.specs.Lists.{tabulate, countBelow}
 use Rattle.list_laws.specs.Patch.{patch}
+use Rattle.marks.specs.Bytes.{patchMarks}
 use Rattle.ask.specs.Ask.{afterCall}
 use Rattle.triplet_piece.specs.Layout.{pieceAt}
 use Rattle.triplet_piece.specs.Study.{weightAt, flagAt}
 use Rattle.triplet_study.specs.Given.{Given, studyOf}
 use Rattle.sheet_marks.specs.declared.SheetAnswer.{SheetAnswer}
 use Rattle.sheet_marks.specs.Tallies.{sheetAnswer}
-use Rattle.sheet_step.specs.Steps.{Sheet, sheet, Call, run, carry, average, countsOf, verdict, pieceOf, averagedAt, averagedFlagAt}
+use Rattle.sheet_step.specs.Steps.{Sheet, sheet, Call, run, carry, average, countsOf, piecesOf, verdict, pieceOf, averagedAt, averagedFlagAt}
 
 -- ---- what the book holds
 
@@ -36,8 +37,8 @@ abbrev pub book : List Word → ℕ → Book
 book words tally = record { words = words; tally = tally }
 
 -- "The book is fed the study, the sheet and tally at the start": "a word for each piece, at first open, and a tally"
-unfoldable pub opened : Sheet → Book
-opened start = book (replicate (length (start .marks)) fresh) (start .tally)
+unfoldable pub opened : Given → Sheet → Book
+opened g start = book (replicate (piecesOf (countsOf g)) fresh) (start .tally)
 
 -- ---- the sheet that it stands for
 
@@ -46,6 +47,10 @@ abbrev pub markOf : Word → ℕ
 markOf fresh = 0
 markOf computed = 1
 markOf (averagedBy ids1 ids2) = 2
+
+-- "the book's words as marks": the bytes of the start, in which each piece has its word's mark
+unfoldable pub marksOf : ℕ → List Word → List ℕ → List ℕ
+marksOf pieces words start = patchMarks (λ q. ltb q pieces) (λ q. markOf (getD words q fresh)) start
 
 -- "the triplet's computed entries": the weights of the band pairs that lie beside place i, of one channel, triplet and point
 abbrev pub computedRow : Given → ℕ → List Float
@@ -99,7 +104,7 @@ unfoldable pub render : Given → Sheet → Book → Sheet
 render g start b =
     sheet (eachEntry (λ i old. weightBy g (wordOfWeight g b i) i old) (start .weights))
     (eachEntry (λ j old. flagBy g (wordOfFlag g b j) j old) (start .flags))
-    (map markOf (b .words))
+    (marksOf (piecesOf (countsOf g)) (b .words) (start .marks))
     (b .tally)
 
 -- ---- what a call makes of it
@@ -112,7 +117,7 @@ isOpen (averagedBy ids1 ids2) = false
 
 -- the number of open pieces
 unfoldable pub openWords : List Word → ℕ
-openWords words = countBelow (length words) (λ q. isOpen (getD words q computed))
+openWords words = countBelow (length words) (λ q. isOpen (getD words q fresh))
 
 -- "each open piece becomes computed"
 abbrev pub carried : Word → Word

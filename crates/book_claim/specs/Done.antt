@@ -7,8 +7,8 @@ use Rattle.list_laws.specs.Lists.{oneIf}
 use Rattle.triplet_study.specs.Given.{Given}
 use Rattle.ask.specs.declared.Answer.{Answer}
 use Rattle.ask.specs.declared.Answer.the-variants.{Done, Refused}
-use Rattle.sheet_step.specs.Marks.{isOpenAt, openPieces}
-use Rattle.sheet_step.specs.Steps.{Sheet, Call, run, carry, average, countsOf, pieceOf, step, stepAnswer}
+use Rattle.marks.specs.Marks.{isOpenAt, openPieces}
+use Rattle.sheet_step.specs.Steps.{Sheet, Call, run, carry, average, countsOf, piecesOf, pieceOf, step, stepAnswer}
 use Rattle.book_claim.specs.Counts.{averages}
 
 -- the entry answered Done
@@ -17,20 +17,20 @@ isDone Done = true
 isDone (Refused n) = false
 
 -- how many runs a call makes on a sheet: a run of a piece one, a carry-on one for each mark 0, an averaging none
-abbrev pub runsOn : Sheet → Call → ℕ
-runsOn s (run t b1 b2) = 1
-runsOn s carry = openPieces (s .marks)
-runsOn s (average t ids1 ids2) = 0
+abbrev pub runsOn : Given → Sheet → Call → ℕ
+runsOn g s (run t b1 b2) = 1
+runsOn g s carry = openPieces (piecesOf (countsOf g)) (s .marks)
+runsOn g s (average t ids1 ids2) = 0
 
 -- the runs of the calls that were answered Done
 abbrev pub runsDone : Given → Sheet → List Call → ℕ
 runsDone g s [] = 0
-runsDone g s (c ∷ calls) = cond (isDone (stepAnswer g s c .answer)) (runsOn s c) 0 + runsDone g (step g s c) calls
+runsDone g s (c ∷ calls) = cond (isDone (stepAnswer g s c .answer)) (runsOn g s c) 0 + runsDone g (step g s c) calls
 
 -- whether a call runs piece q of a sheet: it names it, or carries on while its mark is 0
 abbrev pub runsPieceOn : Given → Sheet → ℕ → Call → Bool
 runsPieceOn g s q (run t b1 b2) = eqb q (pieceOf (countsOf g) t b1 b2)
-runsPieceOn g s q carry = isOpenAt (s .marks) q
+runsPieceOn g s q carry = isOpenAt (piecesOf (countsOf g)) (s .marks) q
 runsPieceOn g s q (average t ids1 ids2) = false
 
 -- whether a call that was answered Done has run it

@@ -20,22 +20,22 @@ pub record Entries (g : Given) (start : Sheet) (calls : List Call) (q : ℕ) (we
 
 -- mark 0: no accepted call has run the piece, and it holds its old content
 pub record Old (g : Given) (start : Sheet) (calls : List Call) (q : ℕ) : Type 0 where
-  pub never-run : hasRun g start (opened start) q calls ≡ false
+  pub never-run : hasRun g start (opened g start) q calls ≡ false
   pub entries : Entries g start calls q (λ i old. old) (λ j old. old)
 
 -- mark 1: one has, none has averaged its triplet, and it holds the study's weights and flag
 pub record Computed (g : Given) (start : Sheet) (calls : List Call) (q : ℕ) : Type 0 where
-  pub has-run : hasRun g start (opened start) q calls ≡ true
-  pub not-averaged : averagings g start (opened start) (q / countsOf g .pairs) calls ≡ 0
+  pub has-run : hasRun g start (opened g start) q calls ≡ true
+  pub not-averaged : averagings g start (opened g start) (q / countsOf g .pairs) calls ≡ 0
   pub entries : Entries g start calls q (λ i old. weightAt (studyOf g) i) (λ j old. flagAt (studyOf g) j)
 
 -- mark 2: one has, one accepted call and no other has averaged its triplet, and it holds the average of the study's by that call's lists
 pub record Averaged (g : Given) (start : Sheet) (calls : List Call) (q : ℕ) : Type 0 where
-  pub has-run : hasRun g start (opened start) q calls ≡ true
+  pub has-run : hasRun g start (opened g start) q calls ≡ true
   pub ids1 : List ℤ
   pub ids2 : List ℤ
-  pub averaged : AveragedBy g start (opened start) (q / countsOf g .pairs) ids1 ids2 calls
-  pub once : averagings g start (opened start) (q / countsOf g .pairs) calls ≡ 1
+  pub averaged : AveragedBy g start (opened g start) (q / countsOf g .pairs) ids1 ids2 calls
+  pub once : averagings g start (opened g start) (q / countsOf g .pairs) calls ≡ 1
   pub entries : Entries g start calls q (λ i old. averagedAt (countsOf g) ids1 ids2 (computedRow g i) i) (λ j old. averagedFlagAt (countsOf g) ids1 ids2 (computedFlagRow g j) j)
 
 -- what a mark tells; there is no mark above 2

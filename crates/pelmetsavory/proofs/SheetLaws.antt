@@ -6,15 +6,15 @@ use Rattle.triplet_study.specs.Given.{Given}
 use Rattle.sheet_marks.specs.declared.SheetAnswer.{SheetAnswer}
 use Rattle.ask.specs.Answers.{answerNumber}
 use Rattle.sheet_marks.proofs.TallyLaws.{number-is}
-use Rattle.sheet_step.specs.Steps.{Sheet, Call, verdict, step, Did}
+use Rattle.sheet_step.specs.Steps.{Sheet, Call, verdict, step, Called, Did}
 use Rattle.sheet_list.specs.Play.{Outcome, numberIn, DidPlay}
-use Rattle.pelmetsavory.specs.Sheets.{Called, CalledPlay}
+use Rattle.pelmetsavory.specs.Sheets.{CalledPlay}
 
 -- `seen` is the call as the code below sees it, `call` as its caller names it
 pub called : (g : Given) (s : Sheet) (seen call : Call) → seen ≡ call → (a : SheetAnswer) (left : Sheet) → Did g s seen a left
     → (status : ℕ) → status ≡ answerNumber (a .answer) → Called g s call status left
 called g s seen call same a left h status e = record {
-  status-is = e ∙ ap numberIn (h .answers) ∙ number-is (verdict g s seen) ∙ ap (verdict g s) same;
+  says = e ∙ ap numberIn (h .answers) ∙ number-is (verdict g s seen) ∙ ap (verdict g s) same;
   leaves = h .leaves ∙ ap (step g s) same;
 }
 

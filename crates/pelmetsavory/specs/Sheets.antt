@@ -1,16 +1,11 @@
--- What a call on a sheet did, as a status and the sheet with the tally that it left.
+-- What a list of calls on a sheet did, as a status and what it left.
 use mathlib.Core.Path.{_≡_}
 use mathlib.Core.List.{List}
 use Prim.Native.Nat.{ℕ}
 use Rattle.ask.specs.Ask.{afterCall}
 use Rattle.triplet_study.specs.Given.{Given}
-use Rattle.sheet_step.specs.Steps.{Sheet, Call, verdict, step}
+use Rattle.sheet_step.specs.Steps.{Sheet, Call}
 use Rattle.sheet_list.specs.Play.{Outcome, outcome, outcomeOf}
-
--- one call
-pub record Called (g : Given) (s : Sheet) (c : Call) (status : ℕ) (left : Sheet) : Type 0 where
-  pub status-is : status ≡ verdict g s c
-  pub leaves : left ≡ step g s c
 
 -- a list of calls, which the number of a first no may keep from being played
 pub record CalledPlay (g : Given) (s : Sheet) (calls : List Call) (number : ℕ) (answers tallies : List ℕ) (status : ℕ) (left : Outcome) : Type 0 where

@@ -13,14 +13,13 @@ use Rattle.triplet_corners.specs.Corners.{stepOf, secondArea}
 use Rattle.triplet_study.specs.Given.{Given}
 use Rattle.sheet_marks.specs.declared.SheetAnswer.{SheetAnswer}
 use Rattle.sheet_marks.specs.Tallies.{sheetAnswer}
-use Rattle.sheet_step.specs.Steps.{Sheet, sheet, Call, Did}
-use Rattle.sheet_turn.specs.Turns.{Turned}
+use Rattle.sheet_step.specs.Steps.{Sheet, sheet, Call, Did, Called}
 
 pub answer-done : (number runs : ℕ) → number ≡ 0 → sheetAnswer 0 runs ≡ sheetAnswer number runs
 answer-done number runs e = ap (λ (n : ℕ). sheetAnswer n runs) (sym e)
 
 -- what a call did, once its questions 3 to 13 said yes
-pub did : (g : Given) (s : Sheet) (c : Call) (w : List Float) (f : List ℤ) (m : List ℕ) (number runs : ℕ) (a : SheetAnswer) → Turned g s c number (sheet w f m runs) → a ≡ sheetAnswer number runs
+pub did : (g : Given) (s : Sheet) (c : Call) (w : List Float) (f : List ℤ) (m : List ℕ) (number runs : ℕ) (a : SheetAnswer) → Called g s c number (sheet w f m runs) → a ≡ sheetAnswer number runs
     → Did g s c a (sheet w f m (a .tally .runs))
 did g s c w f m number runs a t e = record {
   answers = e ∙ (λ i. sheetAnswer (t .says i) (t .leaves i .tally));

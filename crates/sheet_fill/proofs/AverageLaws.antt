@@ -11,7 +11,6 @@ use lib.Ieee.{Float, nan}
 use lib.IntN.{ℤ, pos}
 use lib.ListN.{length, take, drop}
 use borrow.Author.Tests.{lt-ltb}
-use Rattle.list_laws.specs.Lists.{part}
 use Rattle.list_laws.specs.Matrix.{eachPart}
 use Rattle.list_laws.proofs.PatchLaws.{length-patch, patch-ext}
 use Rattle.list_laws.proofs.StrideLaws.{strided}
@@ -45,6 +44,15 @@ module _ (z : Sizes) (h : Counted z) (ids1 ids2 : List ℤ) (same : z .bands1 �
   keeps-flags : (l : List ℤ) → length (averagedFlags (z .bands1) ids1 ids2 l) ≡ z .pairs
   keeps-flags l = flags-length (z .bands1) ids1 ids2 l ∙ sym square
 
+  -- a slice that is averaged row by row is a group, whatever its elements
+  slice-back : {A : Type 0} (d : A) (f : List A → List A) → ((l : List A) → length (f l) ≡ z .pairs) → (q from : ℕ) → from ≡ q * (z .points * z .pairs) → (w y : List A)
+      → from + z .points * z .pairs ≤ length w → y ≡ eachPart (z .bands1 * z .bands1) f (z .points) (take (from + z .points * z .pairs - from) (drop from w))
+      → take from w ++ (y ++ drop (from + z .points * z .pairs - from) (drop from w)) ≡ groupMade (z .points) (z .pairs) f d q w
+  slice-back d f keep q from start w y fits ey =
+      let size : from + z .points * z .pairs - from ≡ z .points * z .pairs = omega arith in
+      ap (λ (n : ℕ). take from w ++ (y ++ drop n (drop from w))) size
+      ∙ group-back d (z .points) (z .pairs) f (h .pairs-some) (h .points-some) keep q from w y start fits (ey ∙ (λ i. eachPart (sym square i) f (z .points) (take (size i) (drop from w))))
+
   -- one channel
   pub channel-back : (t c : ℕ) (w y : List Float)
       → y ≡ averagedPoints (z .bands1) ids1 ids2 (z .points) (take (c * z .cells + t * (z .points * z .pairs) + z .points * z .pairs - (c * z .cells + t * (z .points * z .pairs))) (drop (c * z .cells + t * (z .points * z .pairs)) w))
@@ -53,14 +61,9 @@ module _ (z : Sizes) (h : Counted z) (ids1 ids2 : List ℤ) (same : z .bands1 �
       ≡ groupMade (z .points) (z .pairs) (averaged (z .bands1) ids1 ids2) nan (c * z .triplets + t) w
   unfolding averagedPoints
   channel-back t c w y ey fits =
-      let k : c * z .cells + t * (z .points * z .pairs) + z .points * z .pairs - (c * z .cells + t * (z .points * z .pairs)) ≡ z .points * z .pairs = omega arith in
       let start : c * z .cells + t * (z .points * z .pairs) ≡ (c * z .triplets + t) * (z .points * z .pairs)
       = ap (λ (n : ℕ). c * n + t * (z .points * z .pairs)) (cells-by-size z h) ∙ ap (λ (n : ℕ). n + t * (z .points * z .pairs)) (sym (mul-assoc c (z .triplets) (z .points * z .pairs))) ∙ sym (add-mul (c * z .triplets) t (z .points * z .pairs)) in
-      let made : y ≡ eachPart (z .pairs) (averaged (z .bands1) ids1 ids2) (z .points) (part (c * z .cells + t * (z .points * z .pairs)) (z .points * z .pairs) w)
-      = ey ∙ ap (λ (n : ℕ). eachPart n (averaged (z .bands1) ids1 ids2) (z .points) (take (c * z .cells + t * (z .points * z .pairs) + z .points * z .pairs - (c * z .cells + t * (z .points * z .pairs))) (drop (c * z .cells + t * (z .points * z .pairs)) w))) (sym square)
-      ∙ ap (λ (n : ℕ). eachPart (z .pairs) (averaged (z .bands1) ids1 ids2) (z .points) (take n (drop (c * z .cells + t * (z .points * z .pairs)) w))) k in
-      ap (λ (n : ℕ). take (c * z .cells + t * (z .points * z .pairs)) w ++ (y ++ drop n (drop (c * z .cells + t * (z .points * z .pairs)) w))) k
-      ∙ group-back nan (z .points) (z .pairs) (averaged (z .bands1) ids1 ids2) (h .pairs-some) (h .points-some) keeps (c * z .triplets + t) (c * z .cells + t * (z .points * z .pairs)) w y start fits made
+      slice-back nan (averaged (z .bands1) ids1 ids2) keeps (c * z .triplets + t) (c * z .cells + t * (z .points * z .pairs)) start w y fits ey
 
   -- a turn over the channels
   pub channel-turn : (t c : ℕ) (l w : List Float) → t < z .triplets → length l ≡ z .channels * z .cells
@@ -106,12 +109,7 @@ module _ (z : Sizes) (h : Counted z) (ids1 ids2 : List ℤ) (same : z .bands1 �
       ≡ tripletFlagsAveraged z t ids1 ids2 l
   unfolding averagedFlagPoints groupMade tripletFlagsAveraged tripletAt
   flags-back t l y lt fits ey =
-      let k : t * (z .points * z .pairs) + z .points * z .pairs - t * (z .points * z .pairs) ≡ z .points * z .pairs = omega arith in
-      let made : y ≡ eachPart (z .pairs) (averagedFlags (z .bands1) ids1 ids2) (z .points) (part (t * (z .points * z .pairs)) (z .points * z .pairs) l)
-      = ey ∙ ap (λ (n : ℕ). eachPart n (averagedFlags (z .bands1) ids1 ids2) (z .points) (take (t * (z .points * z .pairs) + z .points * z .pairs - t * (z .points * z .pairs)) (drop (t * (z .points * z .pairs)) l))) (sym square)
-      ∙ ap (λ (n : ℕ). eachPart (z .pairs) (averagedFlags (z .bands1) ids1 ids2) (z .points) (take n (drop (t * (z .points * z .pairs)) l))) k in
-      ap (λ (n : ℕ). take (t * (z .points * z .pairs)) l ++ (y ++ drop n (drop (t * (z .points * z .pairs)) l))) k
-      ∙ group-back (pos 0) (z .points) (z .pairs) (averagedFlags (z .bands1) ids1 ids2) (h .pairs-some) (h .points-some) keeps-flags t (t * (z .points * z .pairs)) l y refl fits made
+      slice-back (pos 0) (averagedFlags (z .bands1) ids1 ids2) keeps-flags t (t * (z .points * z .pairs)) refl l y fits ey
 
   pub length-averaged : (t : ℕ) (l : List ℤ) → length (tripletFlagsAveraged z t ids1 ids2 l) ≡ length l
   unfolding tripletFlagsAveraged

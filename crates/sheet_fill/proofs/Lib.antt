@@ -1,5 +1,4 @@
 -- Laws that several proofs cite.
-pub mod WithinLaws
+pub mod OpenLaws
 pub mod PieceLaws
-pub mod CarryLaws
 pub mod AverageLaws

@@ -1,3 +1,3 @@
 -- The definitions that the contracts cite.
 pub mod Kept
-pub mod Within
+pub mod Piece

@@ -4,9 +4,10 @@ use mathlib.Core.List.{List, [], _∷_, map}
 use Prim.Native.Nat.{ℕ}
 use lib.ListN.{length, replicate}
 use Rattle.triplet_study.specs.Given.{Given}
-use Rattle.sheet_step.specs.Steps.{Sheet, Call, step}
+use Rattle.sheet_step.specs.Steps.{Sheet, Call, countsOf, piecesOf, step}
 use Rattle.book_claim.specs.Book.{Book, opened, render, turn}
-use Rattle.book_claim.proofs.Demand3.{demand-3, same-step, opened-is}
+use Rattle.book_claim.proofs.Demand3.{demand-3, same-step, opened-long, opened-is}
+use Rattle.book_claim.proofs.TurnLaws.{turn-long}
 use Rattle.sheet_list.specs.Play.{numberIn, tallies, outcome, outcomeOf}
 use Rattle.sheet_list.specs.Booked.{bookTallies, bookOutcome}
 
@@ -15,14 +16,14 @@ module _ (g : Given) (start : Sheet) where
   unfolding render
   render-tally b = refl
 
-  all-tallies : (calls : List Call) (b : Book) (s : Sheet) → s ≡ render g start b → tallies g s calls ≡ bookTallies g start b calls
-  all-tallies [] b s e = refl
-  all-tallies (c ∷ calls) b s e =
-      let k : step g s c ≡ render g start (turn g start b c) = rw e (same-step g start b c) in
-      ap₂ (λ (n : ℕ) (rest : List ℕ). n ∷ rest) (ap (λ (x : Sheet). x .tally) k ∙ render-tally (turn g start b c)) (all-tallies calls (turn g start b c) (step g s c) k)
+  all-tallies : (calls : List Call) (b : Book) → length (b .words) ≡ piecesOf (countsOf g) → (s : Sheet) → s ≡ render g start b → tallies g s calls ≡ bookTallies g start b calls
+  all-tallies [] b long s e = refl
+  all-tallies (c ∷ calls) b long s e =
+      let k : step g s c ≡ render g start (turn g start b c) = rw e (same-step g start b long c) in
+      ap₂ (λ (n : ℕ) (rest : List ℕ). n ∷ rest) (ap (λ (x : Sheet). x .tally) k ∙ render-tally (turn g start b c)) (all-tallies calls (turn g start b c) (turn-long g start b c ∙ long) (step g s c) k)
 
   -- from marks all 0, what `play` leaves is the book's
   pub played-booked : (calls : List Call) → start .marks ≡ replicate (length (start .marks)) 0 → outcomeOf g start calls ≡ bookOutcome g start calls
   unfolding outcomeOf bookOutcome
   played-booked calls o =
-      λ i. outcome (demand-3 g start o calls .0 i) (map numberIn (demand-3 g start o calls .1 i)) (all-tallies calls (opened start) start (opened-is g start o) i)
+      λ i. outcome (demand-3 g start o calls .0 i) (map numberIn (demand-3 g start o calls .1 i)) (all-tallies calls (opened g start) (opened-long g start) start (opened-is g start o) i)

@@ -1,31 +1,29 @@
 -- Questions 3 to 13 keep their yes: a call keeps the lengths, and "marks 0, 1, 2, and a triplet's all 2 or none 2". Assumes nothing.
-use mathlib.Core.Path.{_≡_, refl, sym, ap, _∙_, subst}
-use mathlib.Core.Bool.{Bool, true, false, not, _&&_, _||_, cond}
-use mathlib.Core.Logic.{_⊎_, inl, inr, ⊎-elim}
-use mathlib.Core.List.{List, map}
+use mathlib.Core.Path.{_≡_, refl, sym, _∙_, subst}
+use mathlib.Core.Bool.{Bool, true, false, not, cond}
+use mathlib.Core.List.{List}
 use Prim.Native.Nat.{ℕ, zero, suc, _+_, _*_, _/_, _≤_, _<_}
 use native.Mathlib.Nat.{div-add-mod'}
 use native.Mathlib.Omega.{arith}
-use borrow.Author.Tests.{eqb-true, eqb-false, eq-eqb, ne-eqb, not-true, not-false}
+use borrow.Author.Tests.{eqb-true, not-true}
 use lib.Arith.{digits-div}
 use lib.Dec.{eqb, ltb}
-use lib.IntN.{ℤ}
-use lib.ListN.{length, getD, set, length-set}
-use lib.Seq.{getD-set-same, getD-set-other}
+use lib.ListN.{length}
 use lib.Signed.{mag}
-use Rattle.list_laws.proofs.BoolLaws.{and-left, and-right, and-both, true-or-false, clash}
+use Rattle.list_laws.proofs.BoolLaws.{and-left, and-right, and-both, clash}
 use Rattle.list_laws.proofs.BelowLaws.{below-at, below-all}
-use Rattle.list_laws.proofs.MapLaws.{getD-map-lt}
-use Rattle.list_laws.proofs.PatchLaws.{getD-patch}
-use Rattle.ask.specs.Ask.{Question, asks, firstNo, AllYes}
+use Rattle.ask.specs.Ask.{AllYes}
 use Rattle.ask.proofs.AskLaws.{all-yes, none-no, group-yes}
 use Rattle.triplet_piece.proofs.StudyLaws.{length-computed, length-computed-flags}
-use Rattle.triplet_study.specs.Given.{Given, givenQuestions, studyOf}
+use Rattle.triplet_study.specs.Given.{Given, givenQuestions}
 use Rattle.triplet_study.proofs.GivenLaws.{given-numbered}
-use Rattle.sheet_step.specs.Marks.{markAt, isOpenAt, isAveragedAt, alike, isMark, areMarks, isNotAveraged, closed, carriedMarks, averagedMarks}
-use Rattle.sheet_step.specs.Steps.{Sheet, Call, run, carry, average, countsOf, sheetQuestions, areSheetLengths, verdict, effect, step, pieceOf}
+use Rattle.marks.specs.Bytes.{markAt, patchMarks, placesIn, Holds}
+use Rattle.marks.proofs.BytesLaws.{place-in, small-mark, length-marks, mark-patch}
+use Rattle.marks.proofs.MarkLaws.{length-carried, length-averaged, carried-mark, averaged-mark}
+use Rattle.marks.specs.Marks.{isAveragedAt, alike, isMark, areMarks, isNotAveraged, closed, carriedMarks, averagedMarks}
+use Rattle.sheet_step.specs.Steps.{Sheet, Call, run, carry, average, countsOf, piecesOf, sheetQuestions, verdict, effect, step, pieceOf}
 use Rattle.sheet_step.proofs.StepLaws.{both-yes, refused-sheet, done-sheet}
-use Rattle.sheet_turn.proofs.EntryLaws.{length-carried, length-average, length-average-flags, length-average-marks}
+use Rattle.sheet_turn.proofs.EntryLaws.{length-average, length-average-flags}
 use Rattle.book_claim.proofs.AcceptedLaws.{Accepted, accepted, named, piece-in}
 use Rattle.sheet_turn.specs.Turns.{commonNo}
 
@@ -47,105 +45,105 @@ same-alike false b e = rw (← e)
 first-in : (pairs q n : ℕ) → q < n → q / pairs * pairs < n
 first-in pairs q n h = omega (arith, div-add-mod' q pairs)
 
-module _ (pairs : ℕ) (marks : List ℕ) where
-  mark-few : areMarks pairs marks ≡ true → (q : ℕ) → q < length marks → ltb (markAt marks q) 3 ≡ true
+module _ (pairs pieces : ℕ) (marks : List ℕ) where
+  mark-few : areMarks pairs pieces marks ≡ true → (q : ℕ) → q < pieces → ltb (markAt marks q) 3 ≡ true
   unfolding areMarks isMark
-  mark-few h q l = and-left (ltb (markAt marks q) 3) (alike (isAveragedAt marks q) (isAveragedAt marks (q / pairs * pairs))) (below-at (length marks) (isMark pairs marks) h q l)
+  mark-few h q l = and-left (ltb (markAt marks q) 3) (alike (isAveragedAt marks q) (isAveragedAt marks (q / pairs * pairs))) (below-at pieces (isMark pairs marks) h q l)
 
-  mark-first : areMarks pairs marks ≡ true → (q : ℕ) → q < length marks → isAveragedAt marks q ≡ isAveragedAt marks (q / pairs * pairs)
+  mark-first : areMarks pairs pieces marks ≡ true → (q : ℕ) → q < pieces → isAveragedAt marks q ≡ isAveragedAt marks (q / pairs * pairs)
   unfolding areMarks isMark
   mark-first h q l =
       alike-same (isAveragedAt marks q) (isAveragedAt marks (q / pairs * pairs))
-      (and-right (ltb (markAt marks q) 3) (alike (isAveragedAt marks q) (isAveragedAt marks (q / pairs * pairs))) (below-at (length marks) (isMark pairs marks) h q l))
+      (and-right (ltb (markAt marks q) 3) (alike (isAveragedAt marks q) (isAveragedAt marks (q / pairs * pairs))) (below-at pieces (isMark pairs marks) h q l))
 
-  marks-are : ((q : ℕ) → q < length marks → ltb (markAt marks q) 3 ≡ true) → ((q : ℕ) → q < length marks → isAveragedAt marks q ≡ isAveragedAt marks (q / pairs * pairs))
-      → areMarks pairs marks ≡ true
+  marks-are : ((q : ℕ) → q < pieces → ltb (markAt marks q) 3 ≡ true) → ((q : ℕ) → q < pieces → isAveragedAt marks q ≡ isAveragedAt marks (q / pairs * pairs))
+      → areMarks pairs pieces marks ≡ true
   unfolding areMarks isMark
   marks-are few first =
-      below-all (length marks) (isMark pairs marks) (λ q l. and-both (few q l) (same-alike (isAveragedAt marks q) (isAveragedAt marks (q / pairs * pairs)) (first q l)))
+      below-all pieces (isMark pairs marks) (λ q l. and-both (few q l) (same-alike (isAveragedAt marks q) (isAveragedAt marks (q / pairs * pairs)) (first q l)))
 
 -- a call that changes no mark to 2 and none from 2
-same-averaged : (pairs : ℕ) (m m′ : List ℕ) → areMarks pairs m ≡ true → length m′ ≡ length m
-    → ((q : ℕ) → q < length m → ltb (markAt m′ q) 3 ≡ true) → ((q : ℕ) → q < length m → isAveragedAt m′ q ≡ isAveragedAt m q)
-    → areMarks pairs m′ ≡ true
-same-averaged pairs m m′ h e few same =
-    marks-are pairs m′ (λ q l. few q (rw e at l))
-    (λ q l. let k : q < length m = rw e at l in same q k ∙ mark-first pairs m h q k ∙ sym (same (q / pairs * pairs) (first-in pairs q (length m) k)))
+same-averaged : (pairs pieces : ℕ) (m m′ : List ℕ) → areMarks pairs pieces m ≡ true
+    → ((q : ℕ) → q < pieces → ltb (markAt m′ q) 3 ≡ true) → ((q : ℕ) → q < pieces → isAveragedAt m′ q ≡ isAveragedAt m q)
+    → areMarks pairs pieces m′ ≡ true
+same-averaged pairs pieces m m′ h few same =
+    marks-are pairs pieces m′ few
+    (λ q l. same q l ∙ mark-first pairs pieces m h q l ∙ sym (same (q / pairs * pairs) (first-in pairs q pieces l)))
 
--- ---- run: the piece is of a triplet that is not averaged
+module _ (pairs pieces : ℕ) (m : List ℕ) (h : areMarks pairs pieces m ≡ true) (held : Holds pieces m) where
+  on : (q : ℕ) → q < pieces → q < placesIn m
+  on q l = place-in pieces m q held l
 
-run-marks : (pairs p : ℕ) (m : List ℕ) → areMarks pairs m ≡ true → p < length m → isAveragedAt m (p / pairs * pairs) ≡ false → areMarks pairs (set m p 1) ≡ true
-unfolding isAveragedAt
-run-marks pairs p m h l a =
-    same-averaged pairs m (set m p 1) h (length-set m p 1)
-    (λ q k. ⊎-elim (λ e. few-here q (eqb-true q p e)) (λ e. few-else q k (eqb-false q p e)) (true-or-false (eqb q p)))
-    (λ q k. ⊎-elim (λ e. same-here q (eqb-true q p e)) (λ e. same-else q (eqb-false q p e)) (true-or-false (eqb q p)))
-  where
-    few-here : (q : ℕ) → q ≡ p → ltb (markAt (set m p 1) q) 3 ≡ true
-    few-here q e = rw (e, getD-set-same m p 1 1 l)
+  -- ---- run: the piece is of a triplet that is not averaged
 
-    few-else : (q : ℕ) → q < length m → (q ≡ p → ⊥) → ltb (markAt (set m p 1) q) 3 ≡ true
-    few-else q k ne = rw (getD-set-other m p q 1 1 (λ e. ne e)) (mark-few pairs m h q k)
+  run-marks : (p : ℕ) → p < pieces → isAveragedAt m (p / pairs * pairs) ≡ false → areMarks pairs pieces (patchMarks (λ q. eqb q p) (λ q. 1) m) ≡ true
+  unfolding isAveragedAt
+  run-marks p l a =
+      same-averaged pairs pieces m (patchMarks (λ q. eqb q p) (λ q. 1) m) h (λ q k. rw (entry q k) (few q k (eqb q p))) (λ q k. rw (entry q k) (same q k (eqb q p) refl))
+    where
+      entry : (q : ℕ) → q < pieces → markAt (patchMarks (λ q. eqb q p) (λ q. 1) m) q ≡ cond (eqb q p) 1 (markAt m q)
+      entry q k = mark-patch (λ q. eqb q p) (λ q. 1) m (λ q _. small-mark 1 (omega arith)) q (on q k)
 
-    same-here : (q : ℕ) → q ≡ p → isAveragedAt (set m p 1) q ≡ isAveragedAt m q
-    same-here q e = rw (e, getD-set-same m p 1 1 l) (sym a ∙ sym (mark-first pairs m h p l))
+      few : (q : ℕ) → q < pieces → (u : Bool) → ltb (cond u 1 (markAt m q)) 3 ≡ true
+      few q k true = refl
+      few q k false = mark-few pairs pieces m h q k
 
-    same-else : (q : ℕ) → (q ≡ p → ⊥) → isAveragedAt (set m p 1) q ≡ isAveragedAt m q
-    same-else q ne = rw (getD-set-other m p q 1 1 (λ e. ne e))
+      same : (q : ℕ) → q < pieces → (u : Bool) → eqb q p ≡ u → eqb (cond u 1 (markAt m q)) 2 ≡ eqb (markAt m q) 2
+      same q k true e = let f : q ≡ p = eqb-true q p e in rw f (sym a ∙ sym (mark-first pairs pieces m h p l))
+      same q k false e = refl
 
--- ---- carry on: an open piece becomes computed, and no other changes
+  -- ---- carry on: an open piece becomes computed, and no other changes
 
-closed-few : (m : ℕ) → ltb m 3 ≡ true → ltb (closed m) 3 ≡ true
-closed-few m h = go (eqb m 0)
-  where
-    go : (u : Bool) → ltb (cond u 1 m) 3 ≡ true
-    go true = refl
-    go false = h
+  closed-few : (x : ℕ) → ltb x 3 ≡ true → ltb (closed x) 3 ≡ true
+  closed-few x e = go (eqb x 0)
+    where
+      go : (u : Bool) → ltb (cond u 1 x) 3 ≡ true
+      go true = refl
+      go false = e
 
-closed-averaged : (m : ℕ) → eqb (closed m) 2 ≡ eqb m 2
-closed-averaged m = go (eqb m 0) refl
-  where
-    go : (u : Bool) → eqb m 0 ≡ u → eqb (cond u 1 m) 2 ≡ eqb m 2
-    go true e = let z : m ≡ 0 = eqb-true m 0 e in rw z
-    go false e = refl
+  closed-averaged : (x : ℕ) → eqb (closed x) 2 ≡ eqb x 2
+  closed-averaged x = go (eqb x 0) refl
+    where
+      go : (u : Bool) → eqb x 0 ≡ u → eqb (cond u 1 x) 2 ≡ eqb x 2
+      go true e = let z : x ≡ 0 = eqb-true x 0 e in rw z
+      go false e = refl
 
-carry-marks : (pairs : ℕ) (m : List ℕ) → areMarks pairs m ≡ true → areMarks pairs (carriedMarks m) ≡ true
-unfolding isAveragedAt carriedMarks
-carry-marks pairs m h =
-    same-averaged pairs m (map closed m) h (length-carried m)
-    (λ q k. rw (getD-map-lt closed m q 1 1 k) (closed-few (markAt m q) (mark-few pairs m h q k)))
-    (λ q k. rw (getD-map-lt closed m q 1 1 k) (closed-averaged (markAt m q)))
+  carry-marks : areMarks pairs pieces (carriedMarks pieces m) ≡ true
+  unfolding isAveragedAt
+  carry-marks =
+      same-averaged pairs pieces m (carriedMarks pieces m) h
+      (λ q k. rw (carried-mark pieces q m k (on q k)) (closed-few (markAt m q) (mark-few pairs pieces m h q k)))
+      (λ q k. rw (carried-mark pieces q m k (on q k)) (closed-averaged (markAt m q)))
 
--- ---- average: all of a triplet's become 2
+  -- ---- average: all of a triplet's become 2
 
-average-marks : (pairs t : ℕ) (m : List ℕ) → 1 ≤ pairs → areMarks pairs m ≡ true → areMarks pairs (averagedMarks pairs t m) ≡ true
-unfolding isAveragedAt averagedMarks
-average-marks pairs t m some h =
-    marks-are pairs (averagedMarks pairs t m) (λ q l. let k : q < length m = rw (length-average-marks pairs t m) at l in rw (entry q k) (few (eqb (q / pairs) t) (markAt m q) (mark-few pairs m h q k)))
-    (λ q l. let k : q < length m = rw (length-average-marks pairs t m) at l in
-    let f : q / pairs * pairs < length m = first-in pairs q (length m) k in
-    let d : q / pairs * pairs / pairs ≡ q / pairs = whole (q / pairs) in
-    rw (entry q k, entry (q / pairs * pairs) f, d) (both (eqb (q / pairs) t) (markAt m q) (markAt m (q / pairs * pairs)) (mark-first pairs m h q k)))
-  where
-    entry : (q : ℕ) → q < length m → markAt (averagedMarks pairs t m) q ≡ cond (eqb (q / pairs) t) 2 (markAt m q)
-    entry q k = getD-patch (λ q. eqb (q / pairs) t) (λ q. 2) m q 1 k
+  average-marks : (t : ℕ) → 1 ≤ pairs → areMarks pairs pieces (averagedMarks pairs t m) ≡ true
+  unfolding isAveragedAt
+  average-marks t some =
+      marks-are pairs pieces (averagedMarks pairs t m) (λ q k. rw (entry q k) (few (eqb (q / pairs) t) (markAt m q) (mark-few pairs pieces m h q k)))
+      (λ q k. let f : q / pairs * pairs < pieces = first-in pairs q pieces k in
+      let d : q / pairs * pairs / pairs ≡ q / pairs = whole (q / pairs) in
+      rw (entry q k, entry (q / pairs * pairs) f, d) (both (eqb (q / pairs) t) (markAt m q) (markAt m (q / pairs * pairs)) (mark-first pairs pieces m h q k)))
+    where
+      entry : (q : ℕ) → q < pieces → markAt (averagedMarks pairs t m) q ≡ cond (eqb (q / pairs) t) 2 (markAt m q)
+      entry q k = averaged-mark pairs t q m (on q k)
 
-    few : (u : Bool) (x : ℕ) → ltb x 3 ≡ true → ltb (cond u 2 x) 3 ≡ true
-    few true x e = refl
-    few false x e = e
+      few : (u : Bool) (x : ℕ) → ltb x 3 ≡ true → ltb (cond u 2 x) 3 ≡ true
+      few true x e = refl
+      few false x e = e
 
-    both : (u : Bool) (x y : ℕ) → eqb x 2 ≡ eqb y 2 → eqb (cond u 2 x) 2 ≡ eqb (cond u 2 y) 2
-    both true x y e = refl
-    both false x y e = e
+      both : (u : Bool) (x y : ℕ) → eqb x 2 ≡ eqb y 2 → eqb (cond u 2 x) 2 ≡ eqb (cond u 2 y) 2
+      both true x y e = refl
+      both false x y e = e
 
-    whole : (n : ℕ) → n * pairs / pairs ≡ n
-    whole n = let e : n * pairs + 0 ≡ n * pairs = omega arith in rw e at (digits-div n {m = pairs} {r = 0} some)
+      whole : (n : ℕ) → n * pairs / pairs ≡ n
+      whole n = let e : n * pairs + 0 ≡ n * pairs = omega arith in rw e at (digits-div n {m = pairs} {r = 0} some)
 
 -- ---- every call keeps them
 
 module _ (g : Given) (s : Sheet) where
   abbrev same-sheet : Sheet → Type 0
-  same-sheet x = (length (x .weights) ≡ length (s .weights)) × ((length (x .flags) ≡ length (s .flags)) × ((length (x .marks) ≡ length (s .marks)) × (areMarks (countsOf g .pairs) (x .marks) ≡ true)))
+  same-sheet x = (length (x .weights) ≡ length (s .weights)) × ((length (x .flags) ≡ length (s .flags)) × ((length (x .marks) ≡ length (s .marks)) × (areMarks (countsOf g .pairs) (piecesOf (countsOf g)) (x .marks) ≡ true)))
 
   effect-kept : (c : Call) → Accepted g s c → same-sheet (effect g s c)
   unfolding effect isNotAveraged
@@ -153,10 +151,10 @@ module _ (g : Given) (s : Sheet) where
       let p : ℕ = pieceOf (countsOf g) t b1 b2 in
       let on : _ = piece-in (countsOf g) t b1 b2 (a .bands) (a .own .0) in
       let d : p / countsOf g .pairs ≡ mag t = digits-div (mag t) (on .1) in
-      (length-computed _ _ (s .weights), (length-computed-flags _ _ (s .flags), (length-set (s .marks) p 1, run-marks (countsOf g .pairs) p (s .marks) (a .fine) (named g s t b1 b2 a) (rw d (not-true (isAveragedAt (s .marks) (mag t * countsOf g .pairs)) (a .own .1 .0))))))
-  effect-kept carry a = (length-computed _ _ (s .weights), (length-computed-flags _ _ (s .flags), (length-carried (s .marks), carry-marks (countsOf g .pairs) (s .marks) (a .fine))))
+      (length-computed _ _ (s .weights), (length-computed-flags _ _ (s .flags), (length-marks _ _ (s .marks), run-marks (countsOf g .pairs) (piecesOf (countsOf g)) (s .marks) (a .fine) (a .marked) p (named g s t b1 b2 a) (rw d (not-true (isAveragedAt (s .marks) (mag t * countsOf g .pairs)) (a .own .1 .0))))))
+  effect-kept carry a = (length-computed _ _ (s .weights), (length-computed-flags _ _ (s .flags), (length-carried _ (s .marks), carry-marks (countsOf g .pairs) (piecesOf (countsOf g)) (s .marks) (a .fine) (a .marked))))
   effect-kept (average t ids1 ids2) a =
-      (length-average _ _ ids1 ids2 (s .weights), (length-average-flags _ _ ids1 ids2 (s .flags), (length-average-marks _ _ (s .marks), average-marks (countsOf g .pairs) (mag t) (s .marks) (a .some) (a .fine))))
+      (length-average _ _ ids1 ids2 (s .weights), (length-average-flags _ _ ids1 ids2 (s .flags), (length-averaged _ _ (s .marks), average-marks (countsOf g .pairs) (piecesOf (countsOf g)) (s .marks) (a .fine) (a .marked) (mag t) (a .some))))
 
   same-no : (x : Sheet) → same-sheet x → commonNo g s ≡ 0 → commonNo g x ≡ 0
   same-no x k e =

@@ -2,29 +2,29 @@
 -- one of 3 to 13 refuses. Assumes nothing.
 use mathlib.Core.Path.{_≡_, refl, sym, ap, _∙_, subst}
 use mathlib.Core.List.{List, [], _∷_, _++_, map, map-append}
-use Prim.Native.Nat.{ℕ, zero, suc, _+_, _*_, _/_}
+use Prim.Native.Nat.{ℕ, zero, suc, _+_, _*_}
 use native.Mathlib.Numerals.{add-one}
 use native.Mathlib.Omega.{arith}
 use lib.Ieee.{Float}
 use lib.IntN.{ℤ}
 use lib.ListN.{length, replicate}
 use Rattle.list_laws.specs.Lists.{tabulate, fronted}
-use Rattle.list_laws.proofs.FillLaws.{front-all, length-tabulate, tabulate-ext}
+use Rattle.list_laws.proofs.FillLaws.{front-all, length-tabulate}
 use borrow.Author.Tests.{eqb-true}
 use lib.Dec.{eqb}
 use Rattle.list_laws.proofs.BoolLaws.{and-left, and-right}
-use Rattle.ask.specs.Ask.{asks, firstNo, afterCall}
+use Rattle.ask.specs.Ask.{asks}
 use Rattle.ask.proofs.AskLaws.{all-yes, after-done, after-refused}
 use Rattle.sheet_marks.specs.Tallies.{refusedWith, sheetAnswer}
 use Rattle.sheet_marks.proofs.TallyLaws.{refused-is, number-is as number-of}
 use Rattle.triplet_study.specs.Given.{Given}
 use Rattle.sheet_marks.specs.declared.SheetAnswer.{SheetAnswer}
-use Rattle.sheet_step.specs.Steps.{Sheet, sheet, Call, verdict, step, stepAnswer}
+use Rattle.sheet_step.specs.Steps.{Sheet, sheet, Call, Called, verdict, step, stepAnswer}
 use Rattle.sheet_step.proofs.StepLaws.{verdict-common, refused-sheet}
 use Rattle.book_claim.specs.Lists.{played, answers}
 use Rattle.book_claim.proofs.CutLaws.{played-cut, answers-cut}
 use Rattle.sheet_list.specs.Calls.{callAt, callsOf}
-use Rattle.sheet_turn.specs.Turns.{commonNo, Turned}
+use Rattle.sheet_turn.specs.Turns.{commonNo}
 use Rattle.sheet_list.specs.Play.{areListLengths, listNo, numberIn, numbers, tallies, outcome, outcomeOf, DidPlay}
 use Rattle.sheet_list.proofs.KeptLaws.{common-kept}
 
@@ -61,7 +61,7 @@ module _ (g : Given) (start : Sheet) (call : ℕ → Call) where
   common-after e (suc i) = subst (λ (x : Sheet). commonNo g x ≡ 0) (after-next i) (common-kept g (after i) (call i) (common-after e i))
 
   -- one call more
-  module _ (i : ℕ) (s : Sheet) (e : s ≡ after i) {number : ℕ} {left : Sheet} (t : Turned g s (call i) number left) where
+  module _ (i : ℕ) (s : Sheet) (e : s ≡ after i) {number : ℕ} {left : Sheet} (t : Called g s (call i) number left) where
     pub sheet-next : left ≡ after (i + 1)
     sheet-next = t .leaves ∙ ap (λ (x : Sheet). step g x (call i)) e ∙ after-next i ∙ ap after (sym (add-one i))
 

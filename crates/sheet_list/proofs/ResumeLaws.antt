@@ -1,11 +1,11 @@
 -- "A cut leaves sheet and tally as the call before it left them": a list that is cut after any call and played in two goes. Assumes nothing.
-use mathlib.Core.Path.{_≡_, refl, sym, ap, _∙_}
+use mathlib.Core.Path.{_≡_, sym, ap, _∙_}
 use mathlib.Core.List.{List, [], _∷_, _++_, map, map-append, append-assoc, append-nil}
 use Prim.Native.Nat.{ℕ, zero, suc, _+_, _*_, _/_, _<_}
 use native.Mathlib.Nat.{add-suc}
 use native.Mathlib.Omega.{arith}
 use lib.IntN.{ℤ, pos}
-use lib.ListN.{length, getD, length-append, List·getD-append}
+use lib.ListN.{length, length-append, List·getD-append}
 use lib.Seq.{getD-append-add}
 use Rattle.list_laws.specs.Lists.{tabulate, at}
 use Rattle.list_laws.proofs.FillLaws.{tabulate-ext}

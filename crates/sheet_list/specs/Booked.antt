@@ -14,4 +14,4 @@ bookTallies g start b (c ∷ calls) = turn g start b c .tally ∷ bookTallies g 
 -- the sheet of the book that was opened at the start, after the calls; "for each call accepted or which number"; the tallies
 unfoldable pub bookOutcome : Given → Sheet → List Call → Outcome
 bookOutcome g start calls =
-    outcome (render g start (booked g start (opened start) calls)) (map numberIn (bookAnswers g start (opened start) calls)) (bookTallies g start (opened start) calls)
+    outcome (render g start (booked g start (opened g start) calls)) (map numberIn (bookAnswers g start (opened g start) calls)) (bookTallies g start (opened g start) calls)

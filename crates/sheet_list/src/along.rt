@@ -2,9 +2,9 @@
 ghost use mathlib.Core.Path.{_≡_};
 ghost use Prim.Native.Nat.{_*_};
 ghost use lib.ListN.{length};
-ghost use Rattle.triplet_study.specs.Lent.{studyIn};
+ghost use Rattle.triplet_study.specs.Lent.{studyNow, studyIn};
 ghost use Rattle.sheet_step.specs.Lent.{sheetIn, sheetOut};
-ghost use Rattle.sheet_turn.specs.Turns.{studyNow, sheetNow, commonNo, Prepared};
+ghost use Rattle.sheet_turn.specs.Turns.{sheetNow, commonNo, Prepared};
 ghost use Rattle.sheet_list.specs.Calls.{callsOf};
 ghost use Rattle.sheet_list.specs.Play.{outcome, outcomeOf};
 use crate::asks;

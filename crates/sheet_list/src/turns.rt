@@ -4,10 +4,11 @@ ghost use Prim.Native.Nat.{_+_, _*_, _≤_};
 ghost use lib.ListN.{length};
 ghost use Rattle.triplet_piece.specs.Layout.{Areas};
 ghost use Rattle.triplet_study.specs.Given.{studyOf};
-ghost use Rattle.triplet_study.specs.Lent.{studyIn};
+ghost use Rattle.triplet_study.specs.Lent.{studyNow, studyIn};
 ghost use Rattle.sheet_step.specs.Lent.{sheetIn, sheetOut};
+ghost use Rattle.sheet_step.specs.Steps.{Called};
 ghost use Rattle.sheet_fill.specs.Kept.{CornersKept};
-ghost use Rattle.sheet_turn.specs.Turns.{studyNow, sheetNow, commonNo, Prepared, Turned};
+ghost use Rattle.sheet_turn.specs.Turns.{sheetNow, commonNo, Prepared};
 ghost use Rattle.sheet_list.specs.Calls.{callAt};
 use crate::calls;
 use bzgrid::BzGrid;
@@ -54,7 +55,7 @@ pub fn one_turn(
     requires { ⌜ i * 6 + 6 ≤ length (now list) ⌝ }
     requires { ⌜ (commonNo (studyNow shape addresses «gp_map» steps frequencies1 frequencies2 points triplets) (sheetNow weights flags marks runs) ≡ 0) × Prepared (studyNow shape addresses «gp_map» steps frequencies1 frequencies2 points triplets) z tp grid (now second) rows ⌝ }
     requires { ⌜ CornersKept (studyOf (studyNow shape addresses «gp_map» steps frequencies1 frequencies2 points triplets)) (z .triplets) held (now numbers1) (now numbers2) × Areas (now f1) (now f2) (now a0) (now a1) (now a2) (now p0) (now p1) (now p2) ⌝ }
-    ensures { λ r. ⌜ Turned (studyIn shape addresses «gp_map» steps frequencies1 frequencies2 points triplets) (sheetIn weights flags marks runs) (callAt (now (list .entry)) (now (ids .entry)) i) (r .no) (sheetOut weights flags marks (r .runs)) ⌝ }
+    ensures { λ r. ⌜ Called (studyIn shape addresses «gp_map» steps frequencies1 frequencies2 points triplets) (sheetIn weights flags marks runs) (callAt (now (list .entry)) (now (ids .entry)) i) (r .no) (sheetOut weights flags marks (r .runs)) ⌝ }
     ensures { λ r. ⌜ CornersKept (studyOf (studyIn shape addresses «gp_map» steps frequencies1 frequencies2 points triplets)) (z .triplets) (r .held) (now (numbers1 .exit)) (now (numbers2 .exit)) × Areas (now (f1 .exit)) (now (f2 .exit)) (now (a0 .exit)) (now (a1 .exit)) (now (a2 .exit)) (now (p0 .exit)) (now (p1 .exit)) (now (p2 .exit)) ⌝ }
 {
     let kind = calls::number(list, i, 0);

@@ -3,9 +3,8 @@ use mathlib.Core.Path.{_≡_, refl, sym, ap, _∙_}
 use Prim.Native.Nat.{ℕ, zero, suc, _+_, _^_, _≤_, _<_}
 use native.Mathlib.Omega.{arith}
 use borrow.Author.Tests.{le-ltb, lt-ltb}
-use Rattle.ask.specs.Ask.{firstNo, afterCall}
+use Rattle.ask.specs.Ask.{firstNo}
 use Rattle.ask.proofs.AskLaws.{after-done, after-refused}
-use Rattle.ask.specs.declared.Answer.{Answer}
 use Rattle.ask.specs.declared.Answer.the-variants.{Done, Refused}
 use Rattle.sheet_marks.specs.declared.SheetAnswer.{SheetAnswer}
 use Rattle.ask.specs.Answers.{answerOf, answerNumber}

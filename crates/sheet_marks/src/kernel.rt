@@ -3,7 +3,6 @@ ghost use mathlib.Core.Path.{_≡_};
 ghost use mathlib.Core.Bool.{true};
 ghost use Prim.Native.Nat.{_+_, _*_, _≤_, _<_};
 ghost use lib.ListN.{length};
-ghost use Rattle.list_laws.specs.Lists.{oneIf};
 ghost use Rattle.ask.specs.Ask.{firstNo};
 ghost use Rattle.sheet_marks.specs.OpenCount.{areSheetCounts, cellsPerTriplet, openQuestions, isZeroAt, zerosFrom};
 ghost use Rattle.sheet_marks.specs.Tallies.{refusedWith};
@@ -11,6 +10,7 @@ use crate::Counts;
 use crate::SheetAnswer;
 use crate::Tally;
 use ask::Answer;
+use marks::kernel::one_if;
 
 // 2^63
 pub const FULL: u64 = 0x8000_0000_0000_0000;
@@ -71,13 +71,6 @@ fn is_zero_at(flags: &[i8], k: usize) -> bool
     ensures { λ r. ⌜ r ≡ isZeroAt (now (flags .entry)) k ⌝ }
 {
     flags[k] == 0
-}
-
-// 1 where the test holds, otherwise 0.
-pub fn one_if(yes: bool) -> u64
-    ensures { λ r. ⌜ r ≡ oneIf yes ⌝ }
-{
-    if yes { 1 } else { 0 }
 }
 
 // How many of `n` flags from `start` on are 0.

@@ -1,5 +1,7 @@
 -- The counts of a tested study, and where a triplet's weights and marks lie. Assumes nothing.
 use mathlib.Core.Path.{_≡_, refl, _∙_}
+use mathlib.Core.List.{List}
+use lib.ListN.{length}
 use Prim.Native.Nat.{ℕ, _+_, _*_, _≤_, _<_}
 use native.Mathlib.Nat.{mul-le-mul, mul-assoc, one-le-mul}
 use native.Mathlib.Omega.{arith}
@@ -9,7 +11,9 @@ use Rattle.triplet_piece.specs.declared.Sizes.{Sizes}
 use Rattle.triplet_piece.specs.Study.{sizesOf, Ready}
 use Rattle.triplet_study.specs.Given.{Given, givenQuestions, studyOf, FewSizes}
 use Rattle.triplet_study.proofs.GivenLaws.{few-counts, few-sizes, given-ready}
-use Rattle.sheet_step.specs.Steps.{countsOf, Counted}
+use Rattle.marks.specs.Bytes.{placesIn, bytesFor, FewPieces, Few, Holds}
+use Rattle.marks.proofs.BytesLaws.{holds, all-in}
+use Rattle.sheet_step.specs.Steps.{countsOf, piecesOf, Counted}
 
 pub counted : (g : Given) → firstNo (givenQuestions g) ≡ 0 → Counted (countsOf g)
 unfolding sizesOf studyOf
@@ -42,7 +46,7 @@ module _ (z : Sizes) (h : Counted z) where
   pub few : FewSizes z
   few = (h .channels-few, let c : z .triplets * (z .points * z .pairs) ≤ 274877906944 = mul-le-mul (h .triplets-few) size-few in rw cells-by-size c)
 
-  pub pieces-few : z .triplets * z .pairs ≤ 268435456
+  pub pieces-few : FewPieces (piecesOf z)
   pieces-few = mul-le-mul (h .triplets-few) (h .pairs-few)
 
   pub entries-few : z .channels * z .cells ≤ 824633720832
@@ -60,5 +64,13 @@ module _ (z : Sizes) (h : Counted z) where
       (r, omega (arith, triplet-place t l))
 
   -- its marks
-  pub marks-place : (t n : ℕ) → t < z .triplets → n ≡ z .triplets * z .pairs → t * z .pairs + z .pairs ≤ n
-  marks-place t n l e = rw e (row-le (z .pairs) l)
+  module _ (marks : List ℕ) (e : Holds (piecesOf z) marks) (t : ℕ) (l : t < z .triplets) where
+    pub marks-place : Few marks × (t * z .pairs + z .pairs ≤ placesIn marks)
+    marks-place = let r : t * z .pairs + z .pairs ≤ piecesOf z = row-le (z .pairs) l in (e .0, omega (arith, r, all-in (piecesOf z) marks e))
+
+    pub first-place : Few marks × (t * z .pairs < placesIn marks)
+    first-place = (e .0, omega (arith, marks-place .1, h .pairs-some))
+
+  -- the marks of a tested sheet
+  pub marks-held : (marks : List ℕ) → length marks ≡ bytesFor (piecesOf z) → Holds (piecesOf z) marks
+  marks-held marks e = holds (piecesOf z) marks pieces-few e

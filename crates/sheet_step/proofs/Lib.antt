@@ -1,4 +1,3 @@
 -- Laws that several proofs cite.
-pub mod MarkLaws
 pub mod CountLaws
 pub mod StepLaws

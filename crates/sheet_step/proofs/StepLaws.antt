@@ -20,11 +20,12 @@ use Rattle.ask.proofs.AskLaws.{group-no, group-yes, all-yes, after-done, after-
 use Rattle.triplet_piece.specs.declared.Sizes.{Sizes}
 use Rattle.triplet_study.specs.Given.{Given, givenQuestions, areLengths}
 use Rattle.triplet_study.proofs.GivenLaws.{given-numbered, lengths-say}
+use Rattle.marks.specs.Bytes.{bytesFor, Holds}
 use Rattle.sheet_marks.specs.declared.SheetAnswer.{SheetAnswer}
 use Rattle.sheet_marks.specs.Tallies.{sheetAnswer, refusedWith}
 use Rattle.sheet_marks.proofs.TallyLaws.{refused-is}
-use Rattle.sheet_step.specs.Steps.{Sheet, sheet, Call, Did, countsOf, commonQuestions, Counted, areSheetLengths, isPiece, areIdLists, sheetQuestions, pieceQuestions, averageQuestions, ownQuestions, verdict, effect, step}
-use Rattle.sheet_step.proofs.CountLaws.{counted}
+use Rattle.sheet_step.specs.Steps.{Sheet, sheet, Call, Did, countsOf, piecesOf, commonQuestions, Counted, areSheetLengths, isPiece, areIdLists, sheetQuestions, pieceQuestions, averageQuestions, ownQuestions, verdict, effect, step}
+use Rattle.sheet_step.proofs.CountLaws.{counted, marks-held}
 
 -- a yes to all is a yes to each group
 pub both-yes : (qs rest : List Question) → Numbered qs → firstNo (qs ++ rest) ≡ 0 → (firstNo qs ≡ 0) × (firstNo rest ≡ 0)
@@ -34,11 +35,11 @@ both-yes (asks n true ∷ qs) rest h e = both-yes qs rest (h .1) e
 both-yes (asks n false ∷ qs) rest h e = absurd (omega (arith, h .0))
 
 -- question 12's yes
-pub sheet-lengths : (z : Sizes) (w f m : ℕ) → areSheetLengths z w f m ≡ true → (w ≡ z .channels * z .cells) × ((f ≡ z .cells) × (m ≡ z .triplets * z .pairs))
+pub sheet-lengths : (z : Sizes) (w f m : ℕ) → areSheetLengths z w f m ≡ true → (w ≡ z .channels * z .cells) × ((f ≡ z .cells) × (m ≡ bytesFor (piecesOf z)))
 unfolding areSheetLengths
 sheet-lengths z w f m e =
-    let l : _ = lengths-say z w f (and-left (areLengths z w f) (eqb m (z .triplets * z .pairs)) e) in
-    (l .0, (l .1, eqb-true m (z .triplets * z .pairs) (and-right (areLengths z w f) (eqb m (z .triplets * z .pairs)) e)))
+    let l : _ = lengths-say z w f (and-left (areLengths z w f) (eqb m (bytesFor (piecesOf z))) e) in
+    (l .0, (l .1, eqb-true m (bytesFor (piecesOf z)) (and-right (areLengths z w f) (eqb m (bytesFor (piecesOf z))) e)))
 
 module _ (g : Given) (s : Sheet) (c : Call) where
   -- the questions that every call asks
@@ -70,10 +71,11 @@ module _ (g : Given) (s : Sheet) (c : Call) where
   counts-yes e = counted g (given-yes e)
 
   pub lengths-yes : firstNo commonOf ≡ 0
-      → (length (s .weights) ≡ countsOf g .channels * countsOf g .cells) × ((length (s .flags) ≡ countsOf g .cells) × (length (s .marks) ≡ countsOf g .triplets * countsOf g .pairs))
+      → (length (s .weights) ≡ countsOf g .channels * countsOf g .cells) × ((length (s .flags) ≡ countsOf g .cells) × Holds (piecesOf (countsOf g)) (s .marks))
   lengths-yes e =
       let y : AllYes (sheetQuestions (countsOf g) (length (s .weights)) (length (s .flags)) (s .marks)) = all-yes (sheetQuestions (countsOf g) (length (s .weights)) (length (s .flags)) (s .marks)) sheet-numbered (sheet-yes e) in
-      sheet-lengths (countsOf g) (length (s .weights)) (length (s .flags)) (length (s .marks)) (y .0)
+      let l : _ = sheet-lengths (countsOf g) (length (s .weights)) (length (s .flags)) (length (s .marks)) (y .0) in
+      (l .0, (l .1 .0, marks-held (countsOf g) (counts-yes e) (s .marks) (l .1 .1)))
 
   -- ---- a refused call
 

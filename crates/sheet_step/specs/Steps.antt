@@ -6,7 +6,7 @@ use Prim.Native.Nat.{ℕ, _+_, _*_, _/_, _%_, _≤_}
 use lib.Dec.{eqb}
 use lib.IntN.{ℤ, pos}
 use lib.Ieee.{Float, nan}
-use lib.ListN.{getD, length, set}
+use lib.ListN.{getD, length}
 use lib.Signed.{mag}
 use Rattle.list_laws.specs.Lists.{allBelow, part, rowOf}
 use Rattle.list_laws.specs.Patch.{patch}
@@ -21,7 +21,8 @@ use Rattle.averaging_blocks.specs.Weights.{averaged}
 use Rattle.averaging_blocks.specs.Flags.{averagedFlags}
 use Rattle.sheet_marks.specs.declared.SheetAnswer.{SheetAnswer}
 use Rattle.sheet_marks.specs.Tallies.{tallyQuestions, sheetAnswer}
-use Rattle.sheet_step.specs.Marks.{isOpenAt, areMarks, isNotAveraged, areComputed, openPieces, carriedMarks, averagedMarks}
+use Rattle.marks.specs.Bytes.{bytesFor, patchMarks}
+use Rattle.marks.specs.Marks.{isOpenAt, areMarks, isNotAveraged, areComputed, openPieces, carriedMarks, averagedMarks}
 
 -- "Weights, flags, marks, tally"
 pub record Sheet : Type 0 where
@@ -45,6 +46,10 @@ pub data Call : Type 0 where
 abbrev pub countsOf : Given → Sizes
 countsOf g = sizesOf (studyOf g)
 
+-- how many pieces a sheet has
+abbrev pub piecesOf : Sizes → ℕ
+piecesOf z = z .triplets * z .pairs
+
 -- what the questions on a study say of its counts
 pub record Counted (z : Sizes) : Type 0 where
   pub channels-few : z .channels ≤ 3
@@ -63,7 +68,7 @@ pub record Counted (z : Sizes) : Type 0 where
 
 -- Question 12: "Is each lent buffer exactly as long as its record?" Marks: "one byte a piece".
 unfoldable pub areSheetLengths : Sizes → ℕ → ℕ → ℕ → Bool
-areSheetLengths z weights flags marks = areLengths z weights flags && eqb marks (z .triplets * z .pairs)
+areSheetLengths z weights flags marks = areLengths z weights flags && eqb marks (bytesFor (piecesOf z))
 
 -- Question 14: "Is the named triplet or piece on the sheet?"
 unfoldable pub isPiece : Sizes → ℤ → ℤ → ℤ → Bool
@@ -84,7 +89,7 @@ areTripletWeights z t weights = allBelow (z .channels) (λ c. areWeights (triple
 -- questions 12 and 13, which every call asks after those on the study
 abbrev pub sheetQuestions : Sizes → ℕ → ℕ → List ℕ → List Question
 sheetQuestions z weights flags marks =
-    asks 12 (areSheetLengths z weights flags (length marks)) ∷ asks 13 (areMarks (z .pairs) marks) ∷ []
+    asks 12 (areSheetLengths z weights flags (length marks)) ∷ asks 13 (areMarks (z .pairs) (piecesOf z) marks) ∷ []
 
 -- 3 to 13, which every call asks
 abbrev pub commonQuestions : Given → ℕ → ℕ → List ℕ → List Question
@@ -108,7 +113,7 @@ averageQuestions z weights marks t ids1 ids2 =
 -- what the kinds of call ask each: to run 14, 15, 20; to carry on 20; to average 14 to 19
 abbrev pub ownQuestions : Given → Sheet → Call → List Question
 ownQuestions g s (run t b1 b2) = pieceQuestions (countsOf g) (s .marks) t b1 b2 ++ tallyQuestions (s .tally) 1
-ownQuestions g s carry = tallyQuestions (s .tally) (openPieces (s .marks))
+ownQuestions g s carry = tallyQuestions (s .tally) (openPieces (piecesOf (countsOf g)) (s .marks))
 ownQuestions g s (average t ids1 ids2) = averageQuestions (countsOf g) (s .weights) (s .marks) t ids1 ids2
 
 -- "A call asks, in this order, those that concern what it takes": the study's 3 to 11, the sheet's 12 and 13, its own
@@ -149,13 +154,13 @@ unfoldable pub effect : Given → Sheet → Call → Sheet
 effect g s (run t b1 b2) =
     sheet (computedWeights (studyOf g) (λ n. eqb n (pieceOf (countsOf g) t b1 b2)) (s .weights))
     (computedFlags (studyOf g) (λ n. eqb n (pieceOf (countsOf g) t b1 b2)) (s .flags))
-    (set (s .marks) (pieceOf (countsOf g) t b1 b2) 1)
+    (patchMarks (λ n. eqb n (pieceOf (countsOf g) t b1 b2)) (λ n. 1) (s .marks))
     (s .tally + 1)
 effect g s carry =
-    sheet (computedWeights (studyOf g) (isOpenAt (s .marks)) (s .weights))
-    (computedFlags (studyOf g) (isOpenAt (s .marks)) (s .flags))
-    (carriedMarks (s .marks))
-    (s .tally + openPieces (s .marks))
+    sheet (computedWeights (studyOf g) (isOpenAt (piecesOf (countsOf g)) (s .marks)) (s .weights))
+    (computedFlags (studyOf g) (isOpenAt (piecesOf (countsOf g)) (s .marks)) (s .flags))
+    (carriedMarks (piecesOf (countsOf g)) (s .marks))
+    (s .tally + openPieces (piecesOf (countsOf g)) (s .marks))
 effect g s (average t ids1 ids2) =
     sheet (tripletAveraged (countsOf g) (mag t) ids1 ids2 (s .weights))
     (tripletFlagsAveraged (countsOf g) (mag t) ids1 ids2 (s .flags))
@@ -169,6 +174,11 @@ step g s c = afterCall (verdict g s c) (effect g s c) s
 -- the answer of a call: done, or refused with the number of the first no, and the tally beside it
 abbrev pub stepAnswer : Given → Sheet → Call → SheetAnswer
 stepAnswer g s c = sheetAnswer (verdict g s c) (step g s c .tally)
+
+-- What a call came to: the number of its first no, 0 where it is done, and the sheet that it left.
+pub record Called (g : Given) (s : Sheet) (c : Call) (number : ℕ) (left : Sheet) : Type 0 where
+  pub says : number ≡ verdict g s c
+  pub leaves : left ≡ step g s c
 
 -- What a call did: its answer, and the sheet that it left.
 pub record Did (g : Given) (s : Sheet) (c : Call) (answer : SheetAnswer) (left : Sheet) : Type 0 where

@@ -1,3 +1,2 @@
 // For the crates above.
 pub mod asks;
-pub mod marks;

@@ -1,2 +1,2 @@
-// The marks of a run sheet, and the questions of the calls on it.
+// A run sheet, and the questions of the calls on it.
 pub mod kernel;

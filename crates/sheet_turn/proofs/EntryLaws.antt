@@ -4,7 +4,7 @@ use mathlib.Core.List.{List}
 use Prim.Native.Nat.{ℕ, _*_}
 use lib.Ieee.{Float}
 use lib.IntN.{ℤ}
-use lib.ListN.{length, length-map}
+use lib.ListN.{length}
 use Rattle.list_laws.proofs.PatchLaws.{length-patch}
 use Rattle.ask.specs.Ask.{firstNo}
 use Rattle.bzgrid.specs.declared.BzGrid.{BzGrid}
@@ -15,7 +15,6 @@ use Rattle.triplet_piece.specs.declared.Sizes.{Sizes}
 use Rattle.triplet_piece.specs.Study.{study, sizesOf, Ready}
 use Rattle.triplet_study.specs.Given.{Given, givenQuestions, studyOf}
 use Rattle.triplet_study.proofs.GivenLaws.{given-ready}
-use Rattle.sheet_step.specs.Marks.{closed, carriedMarks, averagedMarks}
 use Rattle.sheet_step.specs.Steps.{countsOf, tripletAveraged, tripletFlagsAveraged}
 
 module _ (g : Given) (z : Sizes) (tp : TpType) (grid : BzGrid) (ez : z ≡ countsOf g) (et : tp ≡ tpTypeOf (g .shape .«tp_type»)) (eg : grid ≡ gridOf (g .shape .«bz_grid_type») (g .shape .«d_diag»)) where
@@ -31,10 +30,6 @@ module _ (g : Given) (z : Sizes) (tp : TpType) (grid : BzGrid) (ez : z ≡ count
 
 -- ---- a call keeps the lengths
 
-pub length-carried : (marks : List ℕ) → length (carriedMarks marks) ≡ length marks
-unfolding carriedMarks
-length-carried marks = length-map marks closed
-
 pub length-average : (z : Sizes) (t : ℕ) (ids1 ids2 : List ℤ) (l : List Float) → length (tripletAveraged z t ids1 ids2 l) ≡ length l
 unfolding tripletAveraged
 length-average z t ids1 ids2 l = length-patch _ _ l
@@ -42,7 +37,3 @@ length-average z t ids1 ids2 l = length-patch _ _ l
 pub length-average-flags : (z : Sizes) (t : ℕ) (ids1 ids2 : List ℤ) (l : List ℤ) → length (tripletFlagsAveraged z t ids1 ids2 l) ≡ length l
 unfolding tripletFlagsAveraged
 length-average-flags z t ids1 ids2 l = length-patch _ _ l
-
-pub length-average-marks : (pairs t : ℕ) (marks : List ℕ) → length (averagedMarks pairs t marks) ≡ length marks
-unfolding averagedMarks
-length-average-marks pairs t marks = length-patch _ _ marks

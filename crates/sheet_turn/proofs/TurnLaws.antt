@@ -8,7 +8,7 @@ use native.Mathlib.Omega.{arith}
 use lib.Dec.{eqb}
 use lib.Ieee.{Float}
 use lib.IntN.{ℤ}
-use lib.ListN.{length, set}
+use lib.ListN.{length}
 use lib.Signed.{mag}
 use Rattle.list_laws.proofs.ProductLaws.{digit-lt}
 use Rattle.ask.specs.Ask.{Question, firstNo}
@@ -25,11 +25,13 @@ use Rattle.sheet_marks.specs.declared.SheetAnswer.{SheetAnswer}
 use Rattle.ask.specs.Answers.{answerNumber}
 use Rattle.sheet_marks.specs.Tallies.{addedTo, tallyQuestions}
 use Rattle.sheet_marks.proofs.TallyLaws.{number-is}
-use Rattle.sheet_step.specs.Marks.{isOpenAt, openPieces, carriedMarks, averagedMarks}
-use Rattle.sheet_step.specs.Steps.{Sheet, sheet, Call, run, carry, average, countsOf, Counted, pieceQuestions, averageQuestions, pieceOf, tripletAveraged, tripletFlagsAveraged, verdict, effect, step}
+use Rattle.marks.specs.Bytes.{patchMarks, placesIn, Few, Holds}
+use Rattle.marks.specs.Marks.{isOpenAt, openPieces, carriedMarks, averagedMarks}
+use Rattle.marks.proofs.BytesLaws.{place-in}
+use Rattle.sheet_step.specs.Steps.{Sheet, sheet, Call, run, carry, average, countsOf, Counted, pieceQuestions, averageQuestions, pieceOf, tripletAveraged, tripletFlagsAveraged, piecesOf, verdict, effect, Called}
 use Rattle.sheet_step.proofs.CountLaws.{marks-place, pieces-few}
 use Rattle.sheet_step.proofs.StepLaws.{verdict-own, counts-yes, lengths-yes, given-yes, piece-numbered, piece-named, average-named, refused-sheet, done-sheet}
-use Rattle.sheet_turn.specs.Turns.{commonNo, Prepared, Turned}
+use Rattle.sheet_turn.specs.Turns.{commonNo, Prepared}
 use Rattle.sheet_turn.proofs.EntryLaws.{study-made, ready-made}
 
 -- ---- the tally's answer by its number
@@ -44,12 +46,12 @@ module _ (tally runs : ℕ) {a : SheetAnswer} (e : a ≡ addedTo tally runs) whe
 -- ---- one call, refused or done
 
 module _ (g : Given) (s : Sheet) (c : Call) where
-  turned-no : (n : ℕ) → verdict g s c ≡ n → (n ≡ 0 → ⊥) → Turned g s c n s
-  turned-no n e h = record { says = sym e; leaves = refused-sheet g s c n e h }
+  called-no : (n : ℕ) → verdict g s c ≡ n → (n ≡ 0 → ⊥) → Called g s c n s
+  called-no n e h = record { says = sym e; leaves = refused-sheet g s c n e h }
 
-  turned-yes : (runs : ℕ) (w : List Float) (f : List ℤ) (m : List ℕ) → verdict g s c ≡ 0 → runs ≡ effect g s c .tally
-      → w ≡ effect g s c .weights → f ≡ effect g s c .flags → m ≡ effect g s c .marks → Turned g s c 0 (sheet w f m runs)
-  turned-yes runs w f m e er ew ef em = record { says = sym e; leaves = (λ i. sheet (ew i) (ef i) (em i) (er i)) ∙ done-sheet g s c e }
+  called-yes : (runs : ℕ) (w : List Float) (f : List ℤ) (m : List ℕ) → verdict g s c ≡ 0 → runs ≡ effect g s c .tally
+      → w ≡ effect g s c .weights → f ≡ effect g s c .flags → m ≡ effect g s c .marks → Called g s c 0 (sheet w f m runs)
+  called-yes runs w f m e er ew ef em = record { says = sym e; leaves = (λ i. sheet (ew i) (ef i) (em i) (er i)) ∙ done-sheet g s c e }
 
 -- the steps of a tested study
 pub steps-yes : (g : Given) (s : Sheet) → commonNo g s ≡ 0 → (areTriples (g .steps) ≡ true) × ((length (g .steps) ≡ rowsIn (g .steps) * 12) × (rowsIn (g .steps) ≤ 96))
@@ -65,7 +67,7 @@ module _ (g : Given) (s : Sheet) {z : Sizes} (y : commonNo g s ≡ 0) (ez : z �
   pub counted-yes : Counted z
   counted-yes = rw (ez) (counts-yes g s carry y)
 
-  pub long-yes : (length (s .weights) ≡ z .channels * z .cells) × ((length (s .flags) ≡ z .cells) × (length (s .marks) ≡ z .triplets * z .pairs))
+  pub long-yes : (length (s .weights) ≡ z .channels * z .cells) × ((length (s .flags) ≡ z .cells) × Holds (piecesOf z) (s .marks))
   long-yes = rw (ez) (lengths-yes g s carry y)
 
   -- ---- an averaging
@@ -75,8 +77,8 @@ module _ (g : Given) (s : Sheet) {z : Sizes} (y : commonNo g s ≡ 0) (ez : z �
     own-average = ap (λ (x : Sizes). firstNo (averageQuestions x (s .weights) (s .marks) t ids1 ids2)) (ez) ∙ sym (verdict-own g s (average t ids1 ids2) y)
 
     pub average-no : {n : ℕ} → n ≡ firstNo (averageQuestions z (s .weights) (s .marks) t ids1 ids2) → (n ≡ 0 → ⊥)
-        → Turned g s (average t ids1 ids2) n s
-    average-no {n} e h = turned-no g s (average t ids1 ids2) n (sym (e ∙ own-average)) h
+        → Called g s (average t ids1 ids2) n s
+    average-no {n} e h = called-no g s (average t ids1 ids2) n (sym (e ∙ own-average)) h
 
     module _ (e : firstNo (averageQuestions z (s .weights) (s .marks) t ids1 ids2) ≡ 0) (nt : ℕ) (et : nt ≡ mag t) where
       -- what the averages of weights and of flags require
@@ -85,15 +87,15 @@ module _ (g : Given) (s : Sheet) {z : Sizes} (y : commonNo g s ≡ 0) (ez : z �
           let n : _ = average-named z (s .weights) (s .marks) t ids1 ids2 e in
           ((counted-yes, (rw et (n .0), (n .1 .0, counted-yes .bands1-few))), n .1 .1)
 
-      pub average-place : nt * z .pairs + z .pairs ≤ length (s .marks)
-      average-place = marks-place z counted-yes nt (length (s .marks)) (average-on .0 .1 .0) (long-yes .1 .1)
+      pub average-place : Few (s .marks) × (nt * z .pairs + z .pairs ≤ placesIn (s .marks))
+      average-place = marks-place z counted-yes (s .marks) (long-yes .1 .1) nt (average-on .0 .1 .0)
 
       pub average-done : {w : List Float} {f : List ℤ} {m : List ℕ} → w ≡ tripletAveraged z nt ids1 ids2 (s .weights)
           → f ≡ tripletFlagsAveraged z nt ids1 ids2 (s .flags) → m ≡ averagedMarks (z .pairs) nt (s .marks)
-          → Turned g s (average t ids1 ids2) 0 (sheet w f m (s .tally))
+          → Called g s (average t ids1 ids2) 0 (sheet w f m (s .tally))
       unfolding effect
       average-done {w} {f} {m} ew ef em =
-          turned-yes g s (average t ids1 ids2) (s .tally) w f m (sym own-average ∙ e) refl
+          called-yes g s (average t ids1 ids2) (s .tally) w f m (sym own-average ∙ e) refl
           (ew ∙ (λ i. tripletAveraged (ez i) (et i) ids1 ids2 (s .weights)))
           (ef ∙ (λ i. tripletFlagsAveraged (ez i) (et i) ids1 ids2 (s .flags)))
           (em ∙ (λ i. averagedMarks (ez i .pairs) (et i) (s .marks)))
@@ -122,9 +124,9 @@ module _ (g : Given) (s : Sheet) {z : Sizes} {tp : TpType} {grid : BzGrid} {seco
     own-is : firstNo asking ≡ firstNo (pieceQuestions (countsOf g) (s .marks) t b1 b2)
     own-is = ap (λ (x : Sizes). firstNo (pieceQuestions x (s .marks) t b1 b2)) (p .counts)
 
-    pub run-no : {n : ℕ} → n ≡ firstNo asking → (n ≡ 0 → ⊥) → Turned g s (run t b1 b2) n s
+    pub run-no : {n : ℕ} → n ≡ firstNo asking → (n ≡ 0 → ⊥) → Called g s (run t b1 b2) n s
     run-no {n} e h =
-        turned-no g s (run t b1 b2) n
+        called-no g s (run t b1 b2) n
         (verdict-own g s (run t b1 b2) y ∙ group-no (pieceQuestions (countsOf g) (s .marks) t b1 b2) (tallyQuestions (s .tally) 1) (λ k. h (e ∙ own-is ∙ k)) ∙ sym (e ∙ own-is)) h
 
     module _ (e : firstNo asking ≡ 0) where
@@ -133,21 +135,24 @@ module _ (g : Given) (s : Sheet) {z : Sizes} {tp : TpType} {grid : BzGrid} {seco
           verdict-own g s (run t b1 b2) y
           ∙ group-yes (pieceQuestions (countsOf g) (s .marks) t b1 b2) (tallyQuestions (s .tally) 1) (piece-numbered (countsOf g) (s .marks) t b1 b2) (sym own-is ∙ e)
 
-      pub run-full : {n : ℕ} → n ≡ firstNo (tallyQuestions (s .tally) 1) → (n ≡ 0 → ⊥) → Turned g s (run t b1 b2) n s
-      run-full {n} f h = turned-no g s (run t b1 b2) n (room-left ∙ sym f) h
+      pub run-full : {n : ℕ} → n ≡ firstNo (tallyQuestions (s .tally) 1) → (n ≡ 0 → ⊥) → Called g s (run t b1 b2) n s
+      run-full {n} f h = called-no g s (run t b1 b2) n (room-left ∙ sym f) h
 
       -- the piece by numbers
       module _ (nt n1 n2 : ℕ) (et : nt ≡ mag t) (e1 : n1 ≡ mag b1) (e2 : n2 ≡ mag b2) where
         pub run-on : (nt < z .triplets) × ((n1 < z .bands1) × (n2 < z .bands2))
         run-on = rw (et, e1, e2) (piece-named z (s .marks) t b1 b2 e)
 
-        pub run-place : nt * z .pairs + (n1 * z .bands2 + n2) < length (s .marks)
-        run-place =
+        run-in : nt * z .pairs + (n1 * z .bands2 + n2) < piecesOf z
+        run-in =
             let k : n1 * z .bands2 + n2 < z .bands1 * z .bands2 = digit-lt n1 (z .bands1) n2 (z .bands2) (run-on .1 .0) (run-on .1 .1) in
-            rw (long-yes g s y (p .counts) .1 .1) (digit-lt nt (z .triplets) (n1 * z .bands2 + n2) (z .pairs) (run-on .0) (rw (counted-yes g s y (p .counts) .pairs-are) k))
+            (digit-lt nt (z .triplets) (n1 * z .bands2 + n2) (z .pairs) (run-on .0) (rw (counted-yes g s y (p .counts) .pairs-are) k))
+
+        pub run-place : nt * z .pairs + (n1 * z .bands2 + n2) < placesIn (s .marks)
+        run-place = place-in (piecesOf z) (s .marks) _ (long-yes g s y (p .counts) .1 .1) run-in
 
         pub run-small : nt * z .pairs + (n1 * z .bands2 + n2) < 268435456
-        run-small = omega (arith, run-place, long-yes g s y (p .counts) .1 .1, pieces-few z (counted-yes g s y (p .counts)))
+        run-small = omega (arith, run-in, pieces-few z (counted-yes g s y (p .counts)))
 
         place-is : nt * z .pairs + (n1 * z .bands2 + n2) ≡ pieceOf (countsOf g) t b1 b2
         place-is = rw (et, e1, e2, p .counts)
@@ -155,25 +160,40 @@ module _ (g : Given) (s : Sheet) {z : Sizes} {tp : TpType} {grid : BzGrid} {seco
         pub run-done : {runs : ℕ} {w : List Float} {f : List ℤ} {m : List ℕ} → firstNo (tallyQuestions (s .tally) 1) ≡ 0 → runs ≡ s .tally + 1
             → w ≡ computedWeights made (λ n. eqb n (nt * z .pairs + (n1 * z .bands2 + n2))) (s .weights)
             → f ≡ computedFlags made (λ n. eqb n (nt * z .pairs + (n1 * z .bands2 + n2))) (s .flags)
-            → m ≡ set (s .marks) (nt * z .pairs + (n1 * z .bands2 + n2)) 1
-            → Turned g s (run t b1 b2) 0 (sheet w f m runs)
+            → m ≡ patchMarks (λ k. eqb k (nt * z .pairs + (n1 * z .bands2 + n2))) (λ k. 1) (s .marks)
+            → Called g s (run t b1 b2) 0 (sheet w f m runs)
         unfolding effect
         run-done {runs} {w} {f} {m} a er ew ef em =
-            turned-yes g s (run t b1 b2) runs w f m (room-left ∙ a) er
+            called-yes g s (run t b1 b2) runs w f m (room-left ∙ a) er
             (ew ∙ (λ i. computedWeights (made-is i) (λ k. eqb k (place-is i)) (s .weights)))
             (ef ∙ (λ i. computedFlags (made-is i) (λ k. eqb k (place-is i)) (s .flags)))
-            (em ∙ ap (λ (k : ℕ). set (s .marks) k 1) place-is)
+            (em ∙ (λ i. patchMarks (λ k. eqb k (place-is i)) (λ k. 1) (s .marks)))
 
   -- ---- a carry-on
 
-  pub carry-full : {n : ℕ} → n ≡ firstNo (tallyQuestions (s .tally) (openPieces (s .marks))) → (n ≡ 0 → ⊥) → Turned g s carry n s
-  carry-full {n} f h = turned-no g s carry n (verdict-own g s carry y ∙ sym f) h
+  -- the pieces by the counts that are made once
+  pieces-are : piecesOf z ≡ piecesOf (countsOf g)
+  pieces-are = ap (λ (x : Sizes). piecesOf x) (p .counts)
 
-  pub carry-done : {runs : ℕ} {w : List Float} {f : List ℤ} {m : List ℕ} → firstNo (tallyQuestions (s .tally) (openPieces (s .marks))) ≡ 0 → runs ≡ s .tally + openPieces (s .marks)
-      → w ≡ computedWeights made (isOpenAt (s .marks)) (s .weights) → f ≡ computedFlags made (isOpenAt (s .marks)) (s .flags) → m ≡ carriedMarks (s .marks)
-      → Turned g s carry 0 (sheet w f m runs)
+  -- its runs
+  abbrev pub opens : ℕ
+  opens = openPieces (piecesOf z) (s .marks)
+
+  opens-are : opens ≡ openPieces (piecesOf (countsOf g)) (s .marks)
+  opens-are = ap (λ (n : ℕ). openPieces n (s .marks)) pieces-are
+
+  room-for : verdict g s carry ≡ firstNo (tallyQuestions (s .tally) opens)
+  room-for = verdict-own g s carry y ∙ ap (λ (n : ℕ). firstNo (tallyQuestions (s .tally) n)) (sym opens-are)
+
+  pub carry-full : {n : ℕ} → n ≡ firstNo (tallyQuestions (s .tally) opens) → (n ≡ 0 → ⊥) → Called g s carry n s
+  carry-full {n} f h = called-no g s carry n (room-for ∙ sym f) h
+
+  pub carry-done : {runs : ℕ} {w : List Float} {f : List ℤ} {m : List ℕ} → firstNo (tallyQuestions (s .tally) opens) ≡ 0 → runs ≡ s .tally + opens
+      → w ≡ computedWeights made (isOpenAt (piecesOf z) (s .marks)) (s .weights) → f ≡ computedFlags made (isOpenAt (piecesOf z) (s .marks)) (s .flags)
+      → m ≡ carriedMarks (piecesOf z) (s .marks) → Called g s carry 0 (sheet w f m runs)
   unfolding effect
   carry-done {runs} {w} {f} {m} a er ew ef em =
-      turned-yes g s carry runs w f m (verdict-own g s carry y ∙ a) er
-      (ew ∙ (λ i. computedWeights (made-is i) (isOpenAt (s .marks)) (s .weights)))
-      (ef ∙ (λ i. computedFlags (made-is i) (isOpenAt (s .marks)) (s .flags))) em
+      called-yes g s carry runs w f m (room-for ∙ a) (er ∙ ap (λ (n : ℕ). s .tally + n) opens-are)
+      (ew ∙ (λ i. computedWeights (made-is i) (isOpenAt (pieces-are i) (s .marks)) (s .weights)))
+      (ef ∙ (λ i. computedFlags (made-is i) (isOpenAt (pieces-are i) (s .marks)) (s .flags)))
+      (em ∙ (λ i. carriedMarks (pieces-are i) (s .marks)))

@@ -1,4 +1,4 @@
--- One call on its way: the study and the sheet as it finds them, what is made once for all calls, and what it leaves.
+-- One call on its way: the sheet as it finds it, and what is made once for all calls.
 use mathlib.Core.Path.{_≡_}
 use mathlib.Core.List.{List}
 use Prim.Native.Nat.{ℕ}
@@ -14,15 +14,10 @@ use Rattle.triplet_channels.specs.declared.TpType.{TpType}
 use Rattle.triplet_channels.specs.Types.{tpTypeOf}
 use Rattle.triplet_corners.specs.Corners.{secondSteps}
 use Rattle.triplet_piece.specs.declared.Sizes.{Sizes}
-use Rattle.triplet_study.specs.declared.Shape.{Shape}
-use Rattle.triplet_study.specs.Given.{Given, given}
-use Rattle.sheet_step.specs.Steps.{Sheet, sheet, Call, countsOf, commonQuestions, verdict, step}
+use Rattle.triplet_study.specs.Given.{Given}
+use Rattle.sheet_step.specs.Steps.{Sheet, sheet, countsOf, commonQuestions}
 
--- the study and the sheet of lent lists, at the moment
-abbrev pub studyNow : Shape → RefT (List ℤ) → RefT (List ℤ) → RefT (List ℤ) → RefT (List Float) → RefT (List Float) → RefT (List Float) → RefT (List ℤ) → Given
-studyNow shape addresses gp-map steps frequencies1 frequencies2 points triplets =
-    given shape (now addresses) (now gp-map) (now steps) (now frequencies1) (now frequencies2) (now points) (now triplets)
-
+-- the sheet of lists that are lent, as a `requires` names them
 abbrev pub sheetNow : RefT (List Float) → RefT (List ℤ) → RefT (List ℕ) → ℕ → Sheet
 sheetNow weights flags marks tally = sheet (now weights) (now flags) (now marks) tally
 
@@ -37,8 +32,3 @@ pub record Prepared (g : Given) (z : Sizes) (tp : TpType) (grid : BzGrid) (secon
   pub mesh : grid ≡ gridOf (g .shape .«bz_grid_type») (g .shape .«d_diag»)
   pub copy : second ≡ secondSteps tp (g .steps)
   pub all-rows : rows ≡ rowsIn (g .steps)
-
--- a call that is over, by its number and the sheet that it left
-pub record Turned (g : Given) (s : Sheet) (c : Call) (number : ℕ) (left : Sheet) : Type 0 where
-  pub says : number ≡ verdict g s c
-  pub leaves : left ≡ step g s c

@@ -2,17 +2,17 @@
 ghost use mathlib.Core.Path.{_≡_};
 ghost use Rattle.triplet_piece.specs.Layout.{Areas};
 ghost use Rattle.triplet_study.specs.Given.{studyOf};
-ghost use Rattle.triplet_study.specs.Lent.{studyIn};
+ghost use Rattle.triplet_study.specs.Lent.{studyNow, studyIn};
 ghost use Rattle.sheet_step.specs.Lent.{sheetIn, sheetOut};
-ghost use Rattle.sheet_step.specs.Steps.{run, carry, average, countsOf};
+ghost use Rattle.sheet_step.specs.Steps.{run, carry, average, countsOf, Called};
 ghost use Rattle.sheet_fill.specs.Kept.{CornersKept};
-ghost use Rattle.sheet_turn.specs.Turns.{studyNow, sheetNow, commonNo, Prepared, Turned};
+ghost use Rattle.sheet_turn.specs.Turns.{sheetNow, commonNo, Prepared};
 use crate::Turn;
 use ask::kernel::number_of;
 use bzgrid::BzGrid;
+use marks::kernel as mark;
 use sheet_marks::Tally;
 use sheet_step::kernel::asks;
-use sheet_step::kernel::marks as mark;
 use triplet_channels::TpType;
 use triplet_piece::Sizes;
 use triplet_study::Shape;
@@ -53,7 +53,7 @@ pub fn run_asked(
 ) -> Turn
     requires { ⌜ (commonNo (studyNow shape addresses «gp_map» steps frequencies1 frequencies2 points triplets) (sheetNow weights flags marks runs) ≡ 0) × Prepared (studyNow shape addresses «gp_map» steps frequencies1 frequencies2 points triplets) z tp grid (now second) rows ⌝ }
     requires { ⌜ CornersKept (studyOf (studyNow shape addresses «gp_map» steps frequencies1 frequencies2 points triplets)) (z .triplets) held (now numbers1) (now numbers2) × Areas (now f1) (now f2) (now a0) (now a1) (now a2) (now p0) (now p1) (now p2) ⌝ }
-    ensures { λ r. ⌜ Turned (studyIn shape addresses «gp_map» steps frequencies1 frequencies2 points triplets) (sheetIn weights flags marks runs) (run triplet b1 b2) (r .no) (sheetOut weights flags marks (r .runs)) ⌝ }
+    ensures { λ r. ⌜ Called (studyIn shape addresses «gp_map» steps frequencies1 frequencies2 points triplets) (sheetIn weights flags marks runs) (run triplet b1 b2) (r .no) (sheetOut weights flags marks (r .runs)) ⌝ }
     ensures { λ r. ⌜ CornersKept (studyOf (studyIn shape addresses «gp_map» steps frequencies1 frequencies2 points triplets)) (z .triplets) (r .held) (now (numbers1 .exit)) (now (numbers2 .exit)) × Areas (now (f1 .exit)) (now (f2 .exit)) (now (a0 .exit)) (now (a1 .exit)) (now (a2 .exit)) (now (p0 .exit)) (now (p1 .exit)) (now (p2 .exit)) ⌝ }
 {
     let own = asks::piece_no(z, marks, triplet, b1, b2);
@@ -154,10 +154,11 @@ pub fn carry_asked(
 ) -> Turn
     requires { ⌜ (commonNo (studyNow shape addresses «gp_map» steps frequencies1 frequencies2 points triplets) (sheetNow weights flags marks runs) ≡ 0) × Prepared (studyNow shape addresses «gp_map» steps frequencies1 frequencies2 points triplets) z tp grid (now second) rows ⌝ }
     requires { ⌜ CornersKept (studyOf (studyNow shape addresses «gp_map» steps frequencies1 frequencies2 points triplets)) (z .triplets) held (now numbers1) (now numbers2) × Areas (now f1) (now f2) (now a0) (now a1) (now a2) (now p0) (now p1) (now p2) ⌝ }
-    ensures { λ r. ⌜ Turned (studyIn shape addresses «gp_map» steps frequencies1 frequencies2 points triplets) (sheetIn weights flags marks runs) carry (r .no) (sheetOut weights flags marks (r .runs)) ⌝ }
+    ensures { λ r. ⌜ Called (studyIn shape addresses «gp_map» steps frequencies1 frequencies2 points triplets) (sheetIn weights flags marks runs) carry (r .no) (sheetOut weights flags marks (r .runs)) ⌝ }
     ensures { λ r. ⌜ CornersKept (studyOf (studyIn shape addresses «gp_map» steps frequencies1 frequencies2 points triplets)) (z .triplets) (r .held) (now (numbers1 .exit)) (now (numbers2 .exit)) × Areas (now (f1 .exit)) (now (f2 .exit)) (now (a0 .exit)) (now (a1 .exit)) (now (a2 .exit)) (now (p0 .exit)) (now (p1 .exit)) (now (p2 .exit)) ⌝ }
 {
-    let count = mark::open_pieces(marks);
+    let pieces = z.triplets * z.pairs;
+    let count = mark::open_pieces(pieces, marks);
     let tally = Tally { runs };
     let added = tally.add(count);
     let room = added.answer;
@@ -227,7 +228,7 @@ pub fn average_asked(
     ids2: &[i64],
 ) -> u64
     requires { ⌜ (commonNo (studyNow shape addresses «gp_map» steps frequencies1 frequencies2 points triplets) (sheetNow weights flags marks runs) ≡ 0) × (z ≡ countsOf (studyNow shape addresses «gp_map» steps frequencies1 frequencies2 points triplets)) ⌝ }
-    ensures { λ r. ⌜ Turned (studyIn shape addresses «gp_map» steps frequencies1 frequencies2 points triplets) (sheetIn weights flags marks runs) (average triplet (now (ids1 .entry)) (now (ids2 .entry))) r (sheetOut weights flags marks runs) ⌝ }
+    ensures { λ r. ⌜ Called (studyIn shape addresses «gp_map» steps frequencies1 frequencies2 points triplets) (sheetIn weights flags marks runs) (average triplet (now (ids1 .entry)) (now (ids2 .entry))) r (sheetOut weights flags marks runs) ⌝ }
 {
     let own = asks::average_no(z, weights, marks, triplet, ids1, ids2);
     if own != 0 {

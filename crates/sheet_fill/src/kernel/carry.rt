@@ -1,17 +1,19 @@
 // All open pieces, in ascending order.
 ghost use mathlib.Core.Path.{_≡_};
-ghost use Prim.Native.Nat.{_+_, _*_, _<_};
+ghost use Prim.Native.Nat.{_<_};
 ghost use lib.ListN.{length};
 ghost use Rattle.question_grids.specs.Tables.{rowsIn};
 ghost use Rattle.triplet_corners.specs.Corners.{secondSteps};
 ghost use Rattle.triplet_piece.specs.Layout.{Areas};
 ghost use Rattle.triplet_piece.specs.Study.{study, Ready, computedWeights, computedFlags};
-ghost use Rattle.sheet_step.specs.Marks.{isOpenAt, carriedMarks};
+ghost use Rattle.marks.specs.Bytes.{Holds};
+ghost use Rattle.marks.specs.Marks.{isOpenAt, carriedMarks};
+ghost use Rattle.sheet_step.specs.Steps.{piecesOf};
 ghost use Rattle.sheet_fill.specs.Kept.{CornersKept};
-ghost use Rattle.sheet_fill.specs.Within.{openWithin, closedWithin};
+ghost use Rattle.sheet_fill.specs.Piece.{isOpenPiece, closedPiece};
 use crate::kernel::run;
 use bzgrid::BzGrid;
-use sheet_step::kernel::marks;
+use marks::kernel as mark;
 use triplet_channels::TpType;
 use triplet_piece::Sizes;
 
@@ -46,14 +48,14 @@ fn fill_if_open(
     q: usize,
 ) -> usize
     requires { ⌜ Ready (study tp grid (now addresses) (now «gp_map») (now steps) (z .bands1) (z .bands2) (now frequencies1) (now frequencies2) (now points) (now triplets)) z (length (now weights)) (length (now flags)) ⌝ }
-    requires { ⌜ (now second ≡ secondSteps tp (now steps)) × ((rows ≡ rowsIn (now steps)) × ((q < length (now marks)) × (length (now marks) ≡ z .triplets * z .pairs))) ⌝ }
+    requires { ⌜ (now second ≡ secondSteps tp (now steps)) × ((rows ≡ rowsIn (now steps)) × ((q < piecesOf z) × Holds (piecesOf z) (now marks))) ⌝ }
     requires { ⌜ CornersKept (study tp grid (now addresses) (now «gp_map») (now steps) (z .bands1) (z .bands2) (now frequencies1) (now frequencies2) (now points) (now triplets)) (z .triplets) held (now numbers1) (now numbers2) × Areas (now f1) (now f2) (now a0) (now a1) (now a2) (now p0) (now p1) (now p2) ⌝ }
     ensures { λ r. ⌜ CornersKept (study tp grid (now (addresses .entry)) (now («gp_map» .entry)) (now (steps .entry)) (z .bands1) (z .bands2) (now (frequencies1 .entry)) (now (frequencies2 .entry)) (now (points .entry)) (now (triplets .entry))) (z .triplets) r (now (numbers1 .exit)) (now (numbers2 .exit)) × Areas (now (f1 .exit)) (now (f2 .exit)) (now (a0 .exit)) (now (a1 .exit)) (now (a2 .exit)) (now (p0 .exit)) (now (p1 .exit)) (now (p2 .exit)) ⌝ }
-    ensures { λ _. ⌜ now (weights .exit) ≡ computedWeights (study tp grid (now (addresses .entry)) (now («gp_map» .entry)) (now (steps .entry)) (z .bands1) (z .bands2) (now (frequencies1 .entry)) (now (frequencies2 .entry)) (now (points .entry)) (now (triplets .entry))) (openWithin (now (marks .entry)) q (q + 1)) (now (weights .entry)) ⌝ }
-    ensures { λ _. ⌜ now (flags .exit) ≡ computedFlags (study tp grid (now (addresses .entry)) (now («gp_map» .entry)) (now (steps .entry)) (z .bands1) (z .bands2) (now (frequencies1 .entry)) (now (frequencies2 .entry)) (now (points .entry)) (now (triplets .entry))) (openWithin (now (marks .entry)) q (q + 1)) (now (flags .entry)) ⌝ }
-    ensures { λ _. ⌜ now (marks .exit) ≡ closedWithin (now (marks .entry)) q (q + 1) ⌝ }
+    ensures { λ _. ⌜ now (weights .exit) ≡ computedWeights (study tp grid (now (addresses .entry)) (now («gp_map» .entry)) (now (steps .entry)) (z .bands1) (z .bands2) (now (frequencies1 .entry)) (now (frequencies2 .entry)) (now (points .entry)) (now (triplets .entry))) (isOpenPiece (now (marks .entry)) q) (now (weights .entry)) ⌝ }
+    ensures { λ _. ⌜ now (flags .exit) ≡ computedFlags (study tp grid (now (addresses .entry)) (now («gp_map» .entry)) (now (steps .entry)) (z .bands1) (z .bands2) (now (frequencies1 .entry)) (now (frequencies2 .entry)) (now (points .entry)) (now (triplets .entry))) (isOpenPiece (now (marks .entry)) q) (now (flags .entry)) ⌝ }
+    ensures { λ _. ⌜ now (marks .exit) ≡ closedPiece (now (marks .entry)) q ⌝ }
 {
-    if marks::mark_at(marks, q) != marks::OPEN {
+    if mark::mark_at(marks, q) != mark::OPEN {
         return held;
     }
     let pairs = z.pairs;
@@ -90,7 +92,7 @@ fn fill_if_open(
         pair / bands2,
         pair % bands2,
     );
-    marks::set_mark(marks, q, marks::COMPUTED);
+    mark::set_mark(marks, q, mark::COMPUTED);
     t
 }
 
@@ -124,15 +126,15 @@ pub fn fill_open(
     held: usize,
 ) -> usize
     requires { ⌜ Ready (study tp grid (now addresses) (now «gp_map») (now steps) (z .bands1) (z .bands2) (now frequencies1) (now frequencies2) (now points) (now triplets)) z (length (now weights)) (length (now flags)) ⌝ }
-    requires { ⌜ (now second ≡ secondSteps tp (now steps)) × ((rows ≡ rowsIn (now steps)) × (length (now marks) ≡ z .triplets * z .pairs)) ⌝ }
+    requires { ⌜ (now second ≡ secondSteps tp (now steps)) × ((rows ≡ rowsIn (now steps)) × Holds (piecesOf z) (now marks)) ⌝ }
     requires { ⌜ CornersKept (study tp grid (now addresses) (now «gp_map») (now steps) (z .bands1) (z .bands2) (now frequencies1) (now frequencies2) (now points) (now triplets)) (z .triplets) held (now numbers1) (now numbers2) × Areas (now f1) (now f2) (now a0) (now a1) (now a2) (now p0) (now p1) (now p2) ⌝ }
     ensures { λ r. ⌜ CornersKept (study tp grid (now (addresses .entry)) (now («gp_map» .entry)) (now (steps .entry)) (z .bands1) (z .bands2) (now (frequencies1 .entry)) (now (frequencies2 .entry)) (now (points .entry)) (now (triplets .entry))) (z .triplets) r (now (numbers1 .exit)) (now (numbers2 .exit)) × Areas (now (f1 .exit)) (now (f2 .exit)) (now (a0 .exit)) (now (a1 .exit)) (now (a2 .exit)) (now (p0 .exit)) (now (p1 .exit)) (now (p2 .exit)) ⌝ }
-    ensures { λ _. ⌜ now (weights .exit) ≡ computedWeights (study tp grid (now (addresses .entry)) (now («gp_map» .entry)) (now (steps .entry)) (z .bands1) (z .bands2) (now (frequencies1 .entry)) (now (frequencies2 .entry)) (now (points .entry)) (now (triplets .entry))) (isOpenAt (now (marks .entry))) (now (weights .entry)) ⌝ }
-    ensures { λ _. ⌜ now (flags .exit) ≡ computedFlags (study tp grid (now (addresses .entry)) (now («gp_map» .entry)) (now (steps .entry)) (z .bands1) (z .bands2) (now (frequencies1 .entry)) (now (frequencies2 .entry)) (now (points .entry)) (now (triplets .entry))) (isOpenAt (now (marks .entry))) (now (flags .entry)) ⌝ }
-    ensures { λ _. ⌜ now (marks .exit) ≡ carriedMarks (now (marks .entry)) ⌝ }
+    ensures { λ _. ⌜ now (weights .exit) ≡ computedWeights (study tp grid (now (addresses .entry)) (now («gp_map» .entry)) (now (steps .entry)) (z .bands1) (z .bands2) (now (frequencies1 .entry)) (now (frequencies2 .entry)) (now (points .entry)) (now (triplets .entry))) (isOpenAt (piecesOf z) (now (marks .entry))) (now (weights .entry)) ⌝ }
+    ensures { λ _. ⌜ now (flags .exit) ≡ computedFlags (study tp grid (now (addresses .entry)) (now («gp_map» .entry)) (now (steps .entry)) (z .bands1) (z .bands2) (now (frequencies1 .entry)) (now (frequencies2 .entry)) (now (points .entry)) (now (triplets .entry))) (isOpenAt (piecesOf z) (now (marks .entry))) (now (flags .entry)) ⌝ }
+    ensures { λ _. ⌜ now (marks .exit) ≡ carriedMarks (piecesOf z) (now (marks .entry)) ⌝ }
 {
     let mut last = held;
-    let pieces = marks.len();
+    let pieces = z.triplets * z.pairs;
     for q in 0..pieces {
         last = fill_if_open(
             f1,

@@ -1,3 +1,4 @@
+-- `sheet_list::play` meets its contract. Assumes nothing.
 use Rattle.sheet_list.proofs.ListLaws.{list-yes, play-done, play-refused}
 use Rattle.sheet_list.specs.Play.{listNo}
 use Rattle.sheet_list.specs.Calls.{callsOf}
@@ -10,13 +11,6 @@ use mathlib.Core.Path.{_∙_, _≡_, sym}
 use borrow.Author.Needs.{needs}
 use Rattle.sheet_list.proofs.play.Statement.{statement}
 use Rattle.sheet_list.proofs.play.Tie as tie
-use Rattle.sheet_list.proofs.play.Reads as reads
-use Rattle.sheet_list.proofs.play.Lts as lts
-use Rattle.sheet_marks.proofs.kernel.refused.Reads as refused-reads
-use Rattle.sheet_list.proofs.along.play_all.Reads as play-all-reads
-use Rattle.sheet_list.proofs.asks.list_no.Reads as list-no-reads
-
--- src/lib.rt:60:9
 
 -- ---- what the list takes
 
@@ -38,48 +32,38 @@ list-no-requires c κs = search needs
 refused-requires : tie.Need-refused-requires
 refused-requires c κs = search needs
 
--- src/lib.rt:62:9
 same-length : tie.Need-same-length
 same-length c = search needs
 
--- src/lib.rt:62:9
 same-length-2 : tie.Need-same-length-2
 same-length-2 c = search needs
 
--- src/lib.rt:62:9
 returns : tie.Need-returns
 returns c =
     let s : _ = c .before .before .before .before .before .before .before .before .before .before .before .before in
     play-refused (asked s) (start s) (calls s) (number s) (s .args .answers .now) (s .args .tallies .now) _ (c .before .before .list-no .ensures) (c .before .if1 .taken) (c .refused .ensures)
 
--- src/lib.rt:65:9
 play-all-requires : tie.Need-play-all-requires
 play-all-requires c κs =
     let s : _ = c .before .before .before .before .before .before .before .before .before .before .before .before .before .before .before .before in
     let y : number s ≡ 0 = sym (c .before .before .before .before .before .before .list-no .ensures) ∙ c .before .before .before .before .before .if1 .left in
     list-yes (length (s .args .list .now)) (length (s .args .answers .now)) (length (s .args .tallies .now)) y
 
--- src/lib.rt:23:1
 same-length-3 : tie.Need-same-length-3
 same-length-3 c = search needs
 
--- src/lib.rt:23:1
 same-length-4 : tie.Need-same-length-4
 same-length-4 c = search needs
 
--- src/lib.rt:23:1
 same-length-5 : tie.Need-same-length-5
 same-length-5 c = search needs
 
--- src/lib.rt:23:1
 same-length-6 : tie.Need-same-length-6
 same-length-6 c = search needs
 
--- src/lib.rt:23:1
 same-length-7 : tie.Need-same-length-7
 same-length-7 c = search needs
 
--- src/lib.rt:23:1
 returns-2 : tie.Need-returns-2
 returns-2 c =
     let s : _ = c .before .before .before .before .before .before .before .before .before .before .before .before .before .before .before .before .before .before .before .before .before .before .before .before .before .before in

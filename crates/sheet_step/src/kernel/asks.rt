@@ -3,9 +3,10 @@ ghost use mathlib.Core.Path.{_≡_};
 ghost use Prim.Native.Nat.{_+_, _*_, _<_};
 ghost use lib.ListN.{length};
 ghost use Rattle.ask.specs.Ask.{firstNo};
+ghost use Rattle.marks.specs.Bytes.{Holds};
 ghost use Rattle.triplet_study.specs.Lent.{studyIn};
-ghost use Rattle.sheet_step.specs.Steps.{commonQuestions, sheetQuestions, pieceQuestions, averageQuestions, areTripletWeights, Counted};
-use crate::kernel::marks;
+ghost use Rattle.sheet_step.specs.Steps.{commonQuestions, sheetQuestions, pieceQuestions, averageQuestions, areTripletWeights, Counted, piecesOf};
+use marks::kernel as mark;
 use triplet_piece::Sizes;
 use triplet_study::Shape;
 
@@ -16,10 +17,11 @@ fn sheet_no(z: Sizes, weights: usize, flags: usize, marks: &[u8]) -> u64
 {
     let pairs = z.pairs;
     let pieces = z.triplets * pairs;
-    if !(triplet_study::kernel::lengths_ok(z, weights, flags) & (marks.len() == pieces)) {
+    if !(triplet_study::kernel::lengths_ok(z, weights, flags)
+        & (marks.len() == mark::bytes_for(pieces))) {
         return questions::BAD_LENGTH;
     }
-    if !marks::marks_ok(pairs, marks) {
+    if !mark::marks_ok(pairs, pieces, marks) {
         return questions::BAD_MARKS;
     }
     0
@@ -61,7 +63,7 @@ pub fn common_no(
 
 // Questions 14 and 15, of a named piece.
 pub fn piece_no(z: Sizes, marks: &[u8], triplet: i64, b1: i64, b2: i64) -> u64
-    requires { ⌜ Counted z × (length (now marks) ≡ z .triplets * z .pairs) ⌝ }
+    requires { ⌜ Counted z × Holds (piecesOf z) (now marks) ⌝ }
     ensures { λ r. ⌜ r ≡ firstNo (pieceQuestions z (now (marks .entry)) triplet b1 b2) ⌝ }
 {
     let pairs = z.pairs;
@@ -71,7 +73,7 @@ pub fn piece_no(z: Sizes, marks: &[u8], triplet: i64, b1: i64, b2: i64) -> u64
         return questions::NOT_ON_SHEET;
     }
     let t = common::kernel::magnitude(triplet);
-    if !marks::not_averaged(pairs, marks, t) {
+    if !mark::not_averaged(pairs, marks, t) {
         return questions::ALREADY_AVERAGED;
     }
     0
@@ -106,7 +108,7 @@ pub fn average_no(
     degenerate_ids1: &[i64],
     degenerate_ids2: &[i64],
 ) -> u64
-    requires { ⌜ Counted z × ((length (now weights) ≡ z .channels * z .cells) × (length (now marks) ≡ z .triplets * z .pairs)) ⌝ }
+    requires { ⌜ Counted z × ((length (now weights) ≡ z .channels * z .cells) × Holds (piecesOf z) (now marks)) ⌝ }
     ensures { λ r. ⌜ r ≡ firstNo (averageQuestions z (now (weights .entry)) (now (marks .entry)) triplet (now («degenerate_ids1» .entry)) (now («degenerate_ids2» .entry))) ⌝ }
 {
     let pairs = z.pairs;
@@ -115,7 +117,7 @@ pub fn average_no(
         return questions::NOT_ON_SHEET;
     }
     let t = common::kernel::magnitude(triplet);
-    if !marks::not_averaged(pairs, marks, t) {
+    if !mark::not_averaged(pairs, marks, t) {
         return questions::ALREADY_AVERAGED;
     }
     if bands != z.bands2 {
@@ -125,7 +127,7 @@ pub fn average_no(
         & question_values::kernel::averages::degenerate_ids_ok(bands, degenerate_ids2)) {
         return questions::BAD_DEGENERATE_IDS;
     }
-    if !marks::all_computed(pairs, marks, t) {
+    if !mark::all_computed(pairs, marks, t) {
         return questions::NOT_COMPUTED;
     }
     if !triplet_weights_ok(z, t, weights) {

@@ -1,20 +1,14 @@
+-- `sheet_list::along::play_all` meets its contract. Assumes nothing.
 use Rattle.sheet_list.proofs.ListLaws.{outcome-refused}
 use Rattle.sheet_list.specs.Play.{outcome}
 use Rattle.sheet_step.specs.Steps.{Sheet, sheet}
 use Rattle.triplet_study.specs.Given.{Given, given}
 use lib.ListN.{length, replicate}
 use Prim.Native.Nat.{ℕ}
-use mathlib.Core.Path.{_∙_, _≡_, ap, sym}
+use mathlib.Core.Path.{_∙_, ap, sym}
 use borrow.Author.Needs.{needs}
 use Rattle.sheet_list.proofs.along.play_all.Statement.{statement}
 use Rattle.sheet_list.proofs.along.play_all.Tie as tie
-use Rattle.sheet_list.proofs.along.play_all.Reads as reads
-use Rattle.sheet_list.proofs.along.play_all.Lts as lts
-use Rattle.sheet_list.proofs.along.play_asked.Reads as play-asked-reads
-use Rattle.sheet_list.proofs.asks.fill_with.Reads as fill-with-reads
-use Rattle.sheet_step.proofs.kernel.asks.common_no.Reads as common-no-reads
-
--- src/along.rt:182:9
 
 -- ---- what the list takes
 
@@ -27,27 +21,21 @@ start s = sheet (s .args .weights .now) (s .args .flags .now) (s .args .marks .n
 common-no-requires : tie.Need-common-no-requires
 common-no-requires c κs = search needs
 
--- src/along.rt:196:9
 fill-with-requires : tie.Need-fill-with-requires
 fill-with-requires c κs = search needs
 
--- src/along.rt:197:9
 fill-with-requires-2 : tie.Need-fill-with-requires-2
 fill-with-requires-2 c κs = search needs
 
--- src/along.rt:198:9
 same-length : tie.Need-same-length
 same-length c = search needs
 
--- src/along.rt:198:9
 same-length-2 : tie.Need-same-length-2
 same-length-2 c = search needs
 
--- src/along.rt:198:9
 same-length-3 : tie.Need-same-length-3
 same-length-3 c = search needs
 
--- src/along.rt:198:9
 returns : tie.Need-returns
 returns c =
     let s : _ = c .before .before .before .before .before .before .before .before .before .before .before .before .before .before .before .before .before .before in
@@ -55,33 +43,26 @@ returns c =
     let t = c .before .before .fill-with2 .ensures ∙ ap (λ (k : ℕ). replicate k (s .args .before)) (s .pre .1) in
     (λ i. outcome (start s) (c .before .before .before .before .before .before .fill-with .ensures i) (t i)) ∙ outcome-refused (asked s) (start s) (s .args .list .now) (s .args .ids .now) (length (s .args .answers .now)) (s .pre .0) n (c .before .before .before .before .before .before .before .before .before .common-no .ensures) (c .before .before .before .before .before .before .before .before .if1 .taken)
 
--- src/along.rt:200:5
 play-asked-requires : tie.Need-play-asked-requires
 play-asked-requires c κs =
     let s : _ = c .before .before .before .before .before .before .before .before .before .before .before .before .before .before .before in
     (sym (c .before .before .before .before .before .before .common-no .ensures) ∙ c .before .before .before .before .before .if1 .left, s .pre)
 
--- src/along.rt:160:1
 same-length-4 : tie.Need-same-length-4
 same-length-4 c = search needs
 
--- src/along.rt:160:1
 same-length-5 : tie.Need-same-length-5
 same-length-5 c = search needs
 
--- src/along.rt:160:1
 same-length-6 : tie.Need-same-length-6
 same-length-6 c = search needs
 
--- src/along.rt:160:1
 same-length-7 : tie.Need-same-length-7
 same-length-7 c = search needs
 
--- src/along.rt:160:1
 same-length-8 : tie.Need-same-length-8
 same-length-8 c = search needs
 
--- src/along.rt:160:1
 returns-2 : tie.Need-returns-2
 returns-2 c =
     c .before .before .before .before .before .before .before .before .before .play-asked .ensures

@@ -1,3 +1,4 @@
+-- `sheet_list::along::play_prepared` meets its contract. Assumes nothing.
 use Rattle.sheet_list.proofs.ListLaws.{after, after-none, common-after, number-next, numberAfter, outcome-end, sheet-next, tally-next, tallyAfter}
 use Rattle.sheet_list.specs.Calls.{callAt}
 use Rattle.sheet_turn.specs.Turns.{commonNo}
@@ -7,16 +8,12 @@ use Rattle.triplet_study.specs.Given.{Given, given, studyOf}
 use Rattle.triplet_piece.specs.Layout.{Areas}
 use Rattle.list_laws.specs.Lists.{fronted}
 use Rattle.list_laws.proofs.FillLaws.{front-next, front-none}
-use borrow.Author.Needs.{needs}
 use native.Mathlib.Omega.{arith}
-use mathlib.Core.Path.{_∙_, _≡_, ap, refl, sym, subst}
+use mathlib.Core.Path.{_∙_, _≡_, refl, sym, subst}
 use lib.ListN.{length, length-set}
 use Prim.Native.Nat.{_-_, _<_, _≤_, _*_, ℕ}
 use Rattle.sheet_list.proofs.along.play_prepared.Statement.{statement}
 use Rattle.sheet_list.proofs.along.play_prepared.Tie as tie
-use Rattle.sheet_list.proofs.along.play_prepared.Reads as reads
-use Rattle.sheet_list.proofs.along.play_prepared.Lts as lts
-use Rattle.sheet_list.proofs.turns.one_turn.Reads as one-turn-reads
 
 abbrev Inv-loop : tie.InvT-loop
 Inv-loop weights₀ flags₀ marks₀ shape z tp grid addresses gp-map steps second rows frequencies1 frequencies2 points triplets before list ids answers₀ tallies₀ f1₀ f2₀ a0₀ a1₀ a2₀ p0₀ p1₀ p2₀ numbers1₀ numbers2₀ held₀ runs₀ i₀ weights flags marks answers tallies f1 f2 a0 a1 a2 p0 p1 p2 numbers1 numbers2 held runs i =
@@ -43,7 +40,6 @@ start s = sheet (s .args .weights .now) (s .args .flags .now) (s .args .marks .n
 abbrev call : tie.Start Inv-loop μ-loop → ℕ → Call
 call s = callAt (s .args .list .now) (s .args .ids .now)
 
--- src/along.rt:58:5
 loop-holds : tie.Need-loop-holds Inv-loop μ-loop
 loop-holds c =
     let s : _ = c .before .before .before .before .before .before .before in (
@@ -60,7 +56,6 @@ loop-holds c =
       record { size1 = refl; size2 = refl; channel0 = refl; channel1 = refl; channel2 = refl; places0 = refl; places1 = refl; places2 = refl },
     )
 
--- src/along.rt:59:13
 one-turn-requires : tie.Need-one-turn-requires Inv-loop μ-loop
 one-turn-requires c κs =
     let s : _ = c .before .before .before .before .before .before .before .before .before .before .before .before .before .before .before .before .before .before .before .before .before .before in
@@ -68,7 +63,6 @@ one-turn-requires c κs =
     let at-i : c .before .before .before .before .before .before .before .before .before .before .before .before .before .before .loop .i < length (s .args .answers .now) = omega (arith, v .4, c .before .before .before .before .before .before .before .before .before .before .before .before .before .loop-test .taken) in
     (omega (arith, at-i, s .pre .1 .0), ((subst (λ (x : Sheet). commonNo (asked s) x ≡ 0) (sym (v .6)) (common-after (asked s) (start s) (call s) (s .pre .0 .0) (c .before .before .before .before .before .before .before .before .before .before .before .before .before .before .loop .i)), s .pre .0 .1), (v .9, v .10)))
 
--- src/along.rt:94:9
 mul-answers : tie.Need-mul-answers Inv-loop μ-loop
 mul-answers c =
     let s : _ = c .before .before .before .before .before .before .before .before .before .before .before .before .before .before .before .before .before .before .before .before .before .before .before .before .before .before .before .before in
@@ -76,7 +70,6 @@ mul-answers c =
     let at-i : c .before .before .before .before .before .before .before .before .before .before .before .before .before .before .before .before .before .before .before .before .loop .i < length (s .args .answers .now) = omega (arith, v .4, c .before .before .before .before .before .before .before .before .before .before .before .before .before .before .before .before .before .before .before .loop-test .taken) in
     omega (arith, at-i, s .good .1 .1 .1 .1 .1 .1 .1 .1 .1 .1 .1 .1 .1 .1 .1 .1 .1 .1 .1 .0)
 
--- src/along.rt:94:9
 slice-write-answers : tie.Need-slice-write-answers Inv-loop μ-loop
 slice-write-answers c =
     let s : _ = c .before .before .before .before .before .before .before .before .before .before .before .before .before .before .before .before .before .before .before .before .before .before .before .before .before .before .before .before in
@@ -84,7 +77,6 @@ slice-write-answers c =
     let at-i : c .before .before .before .before .before .before .before .before .before .before .before .before .before .before .before .before .before .before .before .before .loop .i < length (s .args .answers .now) = omega (arith, v .4, c .before .before .before .before .before .before .before .before .before .before .before .before .before .before .before .before .before .before .before .loop-test .taken) in
     omega (arith, at-i, v .4)
 
--- src/along.rt:95:9
 mul-tallies : tie.Need-mul-tallies Inv-loop μ-loop
 mul-tallies c =
     let s : _ = c .before .before .before .before .before .before .before .before .before .before .before .before .before .before .before .before .before .before .before .before .before .before .before .before .before .before .before .before in
@@ -92,7 +84,6 @@ mul-tallies c =
     let at-i : c .before .before .before .before .before .before .before .before .before .before .before .before .before .before .before .before .before .before .before .before .loop .i < length (s .args .answers .now) = omega (arith, v .4, c .before .before .before .before .before .before .before .before .before .before .before .before .before .before .before .before .before .before .before .loop-test .taken) in
     omega (arith, at-i, s .good .1 .1 .1 .1 .1 .1 .1 .1 .1 .1 .1 .1 .1 .1 .1 .1 .1 .1 .1 .0)
 
--- src/along.rt:95:9
 slice-write-tallies : tie.Need-slice-write-tallies Inv-loop μ-loop
 slice-write-tallies c =
     let s : _ = c .before .before .before .before .before .before .before .before .before .before .before .before .before .before .before .before .before .before .before .before .before .before .before .before .before .before .before .before in
@@ -100,7 +91,6 @@ slice-write-tallies c =
     let at-i : c .before .before .before .before .before .before .before .before .before .before .before .before .before .before .before .before .before .before .before .before .loop .i < length (s .args .answers .now) = omega (arith, v .4, c .before .before .before .before .before .before .before .before .before .before .before .before .before .before .before .before .before .before .before .loop-test .taken) in
     omega (arith, at-i, v .5, s .pre .1 .1)
 
--- src/along.rt:96:9
 add-i : tie.Need-add-i Inv-loop μ-loop
 add-i c =
     let s : _ = c .before .before .before .before .before .before .before .before .before .before .before .before .before .before .before .before .before .before .before .before .before .before .before .before .before .before .before .before in
@@ -108,7 +98,6 @@ add-i c =
     let at-i : c .before .before .before .before .before .before .before .before .before .before .before .before .before .before .before .before .before .before .before .before .loop .i < length (s .args .answers .now) = omega (arith, v .4, c .before .before .before .before .before .before .before .before .before .before .before .before .before .before .before .before .before .before .before .loop-test .taken) in
     omega (arith, at-i, s .good .1 .1 .1 .1 .1 .1 .1 .1 .1 .1 .1 .1 .1 .1 .1 .1 .1 .1 .1 .0)
 
--- src/along.rt:58:5
 loop-less : tie.Need-loop-less Inv-loop μ-loop
 loop-less c =
     let s : _ = c .before .before .before .before .before .before .before .before .before .before .before .before .before .before .before .before .before .before .before .before .before .before .before .before .before .before .before .before in
@@ -116,7 +105,6 @@ loop-less c =
     let at-i : c .before .before .before .before .before .before .before .before .before .before .before .before .before .before .before .before .before .before .before .before .loop .i < length (s .args .answers .now) = omega (arith, v .4, c .before .before .before .before .before .before .before .before .before .before .before .before .before .before .before .before .before .before .before .loop-test .taken) in
     omega (arith, at-i)
 
--- src/along.rt:58:5
 loop-again : tie.Need-loop-again Inv-loop μ-loop
 loop-again c =
     let s : _ = c .before .before .before .before .before .before .before .before .before .before .before .before .before .before .before .before .before .before .before .before .before .before .before .before .before .before .before .before in
@@ -137,32 +125,26 @@ loop-again c =
       d .1 .1,
     )
 
--- src/along.rt:17:1
 same-length : tie.Need-same-length Inv-loop μ-loop
 same-length c =
     c .before .loop .inv .1
 
--- src/along.rt:17:1
 same-length-2 : tie.Need-same-length-2 Inv-loop μ-loop
 same-length-2 c =
     c .before .loop .inv .2
 
--- src/along.rt:17:1
 same-length-3 : tie.Need-same-length-3 Inv-loop μ-loop
 same-length-3 c =
     c .before .loop .inv .3
 
--- src/along.rt:17:1
 same-length-4 : tie.Need-same-length-4 Inv-loop μ-loop
 same-length-4 c =
     c .before .loop .inv .4
 
--- src/along.rt:17:1
 same-length-5 : tie.Need-same-length-5 Inv-loop μ-loop
 same-length-5 c =
     c .before .loop .inv .5
 
--- src/along.rt:17:1
 returns : tie.Need-returns Inv-loop μ-loop
 returns c =
     let s : _ = c .before .before .before .before .before .before .before .before .before in

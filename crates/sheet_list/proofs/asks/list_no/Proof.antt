@@ -1,3 +1,4 @@
+-- `sheet_list::asks::list_no` meets its contract. Assumes nothing.
 use Rattle.ask.specs.Ask.{firstNo}
 use Rattle.list_laws.proofs.BoolLaws.{no-of, yes-of}
 use Rattle.sheet_list.specs.Play.{areListLengths, listNo}
@@ -9,20 +10,15 @@ use Prim.Native.Nat.{_*_}
 use borrow.Author.Needs.{needs}
 use Rattle.sheet_list.proofs.asks.list_no.Statement.{statement}
 use Rattle.sheet_list.proofs.asks.list_no.Tie as tie
-use Rattle.sheet_list.proofs.asks.list_no.Reads as reads
-use Rattle.sheet_list.proofs.asks.list_no.Lts as lts
 
--- src/asks.rt:11:25
 mul-if1 : tie.Need-mul-if1
 mul-if1 c = search needs
 
--- src/asks.rt:12:9
 returns : tie.Need-returns
 unfolding listNo firstNo areListLengths
 returns c =
     let s : _ = c .before in let l : (eqb (length (s .args .list .now)) (length (s .args .answers .now) * 6) && eqb (length (s .args .tallies .now)) (length (s .args .answers .now))) ≡ areListLengths (length (s .args .list .now)) (length (s .args .answers .now)) (length (s .args .tallies .now)) = refl in rw (no-of l (c .if1 .taken))
 
--- src/asks.rt:7:1
 returns-2 : tie.Need-returns-2
 unfolding listNo firstNo areListLengths
 returns-2 c =

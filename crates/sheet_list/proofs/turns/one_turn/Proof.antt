@@ -1,3 +1,4 @@
+-- `sheet_list::turns::one_turn` meets its contract. Assumes nothing.
 use Rattle.list_laws.specs.Signed.{isNat}
 use Rattle.list_laws.proofs.SignedLaws.{back}
 use Rattle.sheet_list.specs.Calls.{idsFrom, numberAt}
@@ -9,81 +10,60 @@ use mathlib.Core.Bool.{false, true}
 use borrow.Author.Needs.{needs}
 use Rattle.sheet_list.proofs.turns.one_turn.Statement.{statement}
 use Rattle.sheet_list.proofs.turns.one_turn.Tie as tie
-use Rattle.sheet_list.proofs.turns.one_turn.Reads as reads
-use Rattle.sheet_list.proofs.turns.one_turn.Lts as lts
-use Rattle.common.proofs.kernel.is_nat.Reads as is-nat-reads
-use Rattle.sheet_list.proofs.calls.ids_from.Reads as ids-from-reads
-use Rattle.sheet_list.proofs.calls.number.Reads as number-reads
-use Rattle.sheet_turn.proofs.kernel.average_asked.Reads as average-asked-reads
-use Rattle.sheet_turn.proofs.kernel.carry_asked.Reads as carry-asked-reads
-use Rattle.sheet_turn.proofs.kernel.run_asked.Reads as run-asked-reads
 
--- src/turns.rt:59:9
 number-requires : tie.Need-number-requires
 number-requires c κs = search needs
 
--- src/turns.rt:60:9
 number-requires-2 : tie.Need-number-requires-2
 number-requires-2 c κs = search needs
 
--- src/turns.rt:61:9
 number-requires-3 : tie.Need-number-requires-3
 number-requires-3 c κs = search needs
 
--- src/turns.rt:62:9
 number-requires-4 : tie.Need-number-requires-4
 number-requires-4 c κs = search needs
 
--- src/turns.rt:63:8
 is-nat-requires : tie.Need-is-nat-requires
 is-nat-requires c κs = search needs
 
--- src/turns.rt:64:9
 run-asked-requires : tie.Need-run-asked-requires
 run-asked-requires c κs =
     c .before .before .before .before .before .before .before .before .before .before .before .before .before .before .before .before .before .before .before .before .before .before .before .before .pre .1
 
--- src/turns.rt:64:9
 same-length : tie.Need-same-length
 same-length c = search needs
 
--- src/turns.rt:64:9
 same-length-2 : tie.Need-same-length-2
 same-length-2 c = search needs
 
--- src/turns.rt:64:9
 same-length-3 : tie.Need-same-length-3
 same-length-3 c = search needs
 
--- src/turns.rt:64:9
 returns : tie.Need-returns
 returns c =
     let s : _ = c .before .before .before .before .before .before .before .before .before .before .before .before .before .before .before .before .before .before .before .before .before .before .before .before .before .before .before .before .before .before in
     let h0 : isNat (numberAt (s .args .list .now) (s .args .i) 0) 0 ≡ true = rw (back (c .before .before .before .before .before .before .before .before .before .before .before .before .before .before .before .before .before .before .before .before .before .before .before .before .number .result) (c .before .before .before .before .before .before .before .before .before .before .before .before .before .before .before .before .before .before .before .before .before .before .before .before .number .ok), c .before .before .before .before .before .before .before .before .before .before .before .before .before .before .before .before .before .before .before .before .before .before .before .before .number .ensures) at (sym (c .before .before .before .before .before .before .before .before .before .before .before .before .before .before .before .before .before .before .before .before .is-nat .ensures) ∙ c .before .before .before .before .before .before .before .before .before .before .before .before .before .before .before .before .before .before .before .if1 .taken) in
-    (rw (call-run (s .args .list .now) (s .args .ids .now) (s .args .i) h0) (rw (back (c .before .before .before .before .before .before .before .before .before .before .before .before .before .before .before .before .before .before .before .before .before .before .before .number2 .result) (c .before .before .before .before .before .before .before .before .before .before .before .before .before .before .before .before .before .before .before .before .before .before .before .number2 .ok), back (c .before .before .before .before .before .before .before .before .before .before .before .before .before .before .before .before .before .before .before .before .before .before .number3 .result) (c .before .before .before .before .before .before .before .before .before .before .before .before .before .before .before .before .before .before .before .before .before .before .number3 .ok), back (c .before .before .before .before .before .before .before .before .before .before .before .before .before .before .before .before .before .before .before .before .before .number4 .result) (c .before .before .before .before .before .before .before .before .before .before .before .before .before .before .before .before .before .before .before .before .before .number4 .ok), c .before .before .before .before .before .before .before .before .before .before .before .before .before .before .before .before .before .before .before .before .before .before .before .number2 .ensures, c .before .before .before .before .before .before .before .before .before .before .before .before .before .before .before .before .before .before .before .before .before .before .number3 .ensures, c .before .before .before .before .before .before .before .before .before .before .before .before .before .before .before .before .before .before .before .before .before .number4 .ensures) at (c .before .before .before .before .before .run-asked .ensures .0)), c .before .before .before .before .before .run-asked .ensures .1)
+    let n2 = c .before .before .before .before .before .before .before .before .before .before .before .before .before .before .before .before .before .before .before .before .before .before .before .number2 in
+    let n3 = c .before .before .before .before .before .before .before .before .before .before .before .before .before .before .before .before .before .before .before .before .before .before .number3 in
+    let n4 = c .before .before .before .before .before .before .before .before .before .before .before .before .before .before .before .before .before .before .before .before .before .number4 in
+    (rw (call-run (s .args .list .now) (s .args .ids .now) (s .args .i) h0) (rw (back (n2 .result) (n2 .ok), back (n3 .result) (n3 .ok), back (n4 .result) (n4 .ok), n2 .ensures, n3 .ensures, n4 .ensures) at (c .before .before .before .before .before .run-asked .ensures .0)), c .before .before .before .before .before .run-asked .ensures .1)
 
--- src/turns.rt:98:8
 is-nat-requires-2 : tie.Need-is-nat-requires-2
 is-nat-requires-2 c κs = search needs
 
--- src/turns.rt:99:9
 carry-asked-requires : tie.Need-carry-asked-requires
 carry-asked-requires c κs =
     c .before .before .before .before .before .before .before .before .before .before .before .before .before .before .before .before .before .before .before .before .before .before .before .before .before .before .pre .1
 
--- src/turns.rt:99:9
 same-length-4 : tie.Need-same-length-4
 same-length-4 c = search needs
 
--- src/turns.rt:99:9
 same-length-5 : tie.Need-same-length-5
 same-length-5 c = search needs
 
--- src/turns.rt:99:9
 same-length-6 : tie.Need-same-length-6
 same-length-6 c = search needs
 
--- src/turns.rt:99:9
 returns-2 : tie.Need-returns-2
 returns-2 c =
     let s : _ = c .before .before .before .before .before .before .before .before .before .before .before .before .before .before .before .before .before .before .before .before .before .before .before .before .before .before .before .before .before .before .before .before in
@@ -91,40 +71,31 @@ returns-2 c =
     let h1 : isNat (numberAt (s .args .list .now) (s .args .i) 0) 1 ≡ true = rw (back (c .before .before .before .before .before .before .before .before .before .before .before .before .before .before .before .before .before .before .before .before .before .before .before .before .before .before .number .result) (c .before .before .before .before .before .before .before .before .before .before .before .before .before .before .before .before .before .before .before .before .before .before .before .before .before .before .number .ok), c .before .before .before .before .before .before .before .before .before .before .before .before .before .before .before .before .before .before .before .before .before .before .before .before .before .before .number .ensures) at (sym (c .before .before .before .before .before .before .before .before .before .before .before .before .before .before .before .before .before .before .before .before .is-nat2 .ensures) ∙ c .before .before .before .before .before .before .before .before .before .before .before .before .before .before .before .before .before .before .before .if2 .taken) in
     (rw (call-carry (s .args .list .now) (s .args .ids .now) (s .args .i) h0 h1) (c .before .before .before .before .before .carry-asked .ensures .0), c .before .before .before .before .before .carry-asked .ensures .1)
 
--- src/turns.rt:130:9
 number-requires-5 : tie.Need-number-requires-5
 number-requires-5 c κs = search needs
 
--- src/turns.rt:131:9
 number-requires-6 : tie.Need-number-requires-6
 number-requires-6 c κs = search needs
 
--- src/turns.rt:132:9
 ids-from-requires : tie.Need-ids-from-requires
 ids-from-requires c κs = search needs
 
--- src/turns.rt:133:9
 ids-from-requires-2 : tie.Need-ids-from-requires-2
 ids-from-requires-2 c κs = search needs
 
--- src/turns.rt:134:9
 average-asked-requires : tie.Need-average-asked-requires
 average-asked-requires c κs =
     (c .before .before .before .before .before .before .before .before .before .before .before .before .before .before .before .before .before .before .before .before .pre .1 .0 .0, c .before .before .before .before .before .before .before .before .before .before .before .before .before .before .before .before .before .before .before .before .pre .1 .0 .1 .counts)
 
--- src/turns.rt:20:1
 same-length-7 : tie.Need-same-length-7
 same-length-7 c = search needs
 
--- src/turns.rt:20:1
 same-length-8 : tie.Need-same-length-8
 same-length-8 c = search needs
 
--- src/turns.rt:20:1
 same-length-9 : tie.Need-same-length-9
 same-length-9 c = search needs
 
--- src/turns.rt:20:1
 returns-3 : tie.Need-returns-3
 returns-3 c =
     let s : _ = c .before .before .before .before .before .before .before .before .before .before .before .before .before .before .before .before .before .before .before .before .before .before .before .before .before .before in

@@ -1,27 +1,15 @@
-use Rattle.sheet_step.specs.Marks.{openPieces}
-use Rattle.sheet_marks.specs.declared.SheetAnswer.{SheetAnswer}
+-- `sheet_turn::kernel::average_asked` meets its contract. Assumes nothing.
 use Rattle.sheet_turn.proofs.TurnLaws.{average-done, average-no, average-on, average-place, counted-yes, long-yes}
 use Rattle.sheet_step.specs.Steps.{Sheet, sheet}
-use Rattle.sheet_marks.specs.Tallies.{addedTo}
 use Rattle.triplet_study.specs.Given.{Given, given}
-use Rattle.triplet_piece.specs.Study.{Study, firstCorners, secondCorners}
 use lib.Signed.{mag}
 use mir.ValLaws.{toZ-ofZ}
 use mir.Syntax.{w64}
-use mathlib.Core.Path.{_∙_, _≡_, ap, sym, refl}
-use native.Mathlib.Omega.{arith}
+use mathlib.Core.Path.{_∙_, ap, sym}
 use borrow.Author.Needs.{needs}
 use Rattle.sheet_turn.proofs.kernel.average_asked.Statement.{statement}
 use Rattle.sheet_turn.proofs.kernel.average_asked.Tie as tie
-use Rattle.sheet_turn.proofs.kernel.average_asked.Reads as reads
-use Rattle.sheet_turn.proofs.kernel.average_asked.Lts as lts
-use Rattle.common.proofs.kernel.magnitude.Reads as magnitude-reads
-use Rattle.sheet_fill.proofs.kernel.average.average_flags.Reads as average-flags-reads
-use Rattle.sheet_fill.proofs.kernel.average.average_weights.Reads as average-weights-reads
-use Rattle.sheet_step.proofs.kernel.asks.average_no.Reads as average-no-reads
-use Rattle.sheet_step.proofs.kernel.marks.average_marks.Reads as average-marks-reads
 
--- src/kernel.rt:222:9
 -- ---- what the call takes
 
 abbrev asked : tie.Start → Given
@@ -39,15 +27,12 @@ average-no-requires c κs =
     let p = s .pre .1 in
     (counted-yes (asked s) (start s) y p, (long-yes (asked s) (start s) y p .0, long-yes (asked s) (start s) y p .1 .1))
 
--- src/kernel.rt:224:9
 same-length : tie.Need-same-length
 same-length c = search needs
 
--- src/kernel.rt:224:9
 same-length-2 : tie.Need-same-length-2
 same-length-2 c = search needs
 
--- src/kernel.rt:224:9
 returns : tie.Need-returns
 returns c =
     let s : _ = c .before .before .before .before .before .before .before .before .before in
@@ -56,11 +41,9 @@ returns c =
     let o = rw (toZ-ofZ w64 (s .args .triplet) (s .fits .triplet)) at (c .before .average-no .ensures) in
     average-no (asked s) (start s) y p (s .args .triplet) (s .args .ids1 .now) (s .args .ids2 .now) o (c .if1 .taken)
 
--- src/kernel.rt:226:9
 magnitude-requires : tie.Need-magnitude-requires
 magnitude-requires c κs = search needs
 
--- src/kernel.rt:227:5
 average-weights-requires : tie.Need-average-weights-requires
 average-weights-requires c κs =
     let s : _ = c .before .before .before .before .before .before .before .before .before .before .before in
@@ -73,7 +56,6 @@ average-weights-requires c κs =
     let l = long-yes (asked s) (start s) y p in
     (n .0, (l .0, n .1))
 
--- src/kernel.rt:228:5
 average-flags-requires : tie.Need-average-flags-requires
 average-flags-requires c κs =
     let s : _ = c .before .before .before .before .before .before .before .before .before .before .before .before .before .before .before in
@@ -86,7 +68,6 @@ average-flags-requires c κs =
     let l = long-yes (asked s) (start s) y p in
     (n .0, (l .1 .0, n .1))
 
--- src/kernel.rt:230:5
 average-marks-requires : tie.Need-average-marks-requires
 average-marks-requires c κs =
     let s : _ = c .before .before .before .before .before .before .before .before .before .before .before .before .before .before .before .before .before .before in
@@ -99,19 +80,15 @@ average-marks-requires c κs =
     let l = long-yes (asked s) (start s) y p in
     (n .0 .0 .pairs-some, average-place (asked s) (start s) y p (s .args .triplet) (s .args .ids1 .now) (s .args .ids2 .now) e (c .before .before .before .before .before .before .before .before .magnitude .result) nt)
 
--- src/kernel.rt:201:1
 same-length-3 : tie.Need-same-length-3
 same-length-3 c = search needs
 
--- src/kernel.rt:201:1
 same-length-4 : tie.Need-same-length-4
 same-length-4 c = search needs
 
--- src/kernel.rt:201:1
 same-length-5 : tie.Need-same-length-5
 same-length-5 c = search needs
 
--- src/kernel.rt:201:1
 returns-2 : tie.Need-returns-2
 returns-2 c =
     let s : _ = c .before .before .before .before .before .before .before .before .before .before .before .before .before .before .before .before .before .before .before .before .before in

@@ -1,25 +1,16 @@
-use Rattle.sheet_turn.proofs.TurnLaws.{added-no, added-runs, carry-done, carry-full, long-yes, made-is, made-ready}
-use Rattle.sheet_step.specs.Marks.{openPieces}
-use Rattle.sheet_marks.specs.declared.SheetAnswer.{SheetAnswer}
-use Rattle.sheet_step.specs.Steps.{Sheet, sheet}
+-- `sheet_turn::kernel::carry_asked` meets its contract. Assumes nothing.
+use Rattle.sheet_turn.proofs.TurnLaws.{added-no, added-runs, carry-done, carry-full, long-yes, made-is, made-ready, opens}
+use Rattle.marks.proofs.BytesLaws.{held-few}
+use Rattle.sheet_step.specs.Steps.{Sheet, sheet, piecesOf}
 use Rattle.sheet_marks.specs.Tallies.{addedTo}
 use Rattle.triplet_study.specs.Given.{Given, given}
 use Rattle.triplet_piece.specs.Study.{Study, firstCorners, secondCorners}
-use lib.Signed.{mag}
-use mir.ValLaws.{toZ-ofZ}
-use mir.Syntax.{w64}
-use mathlib.Core.Path.{_∙_, _≡_, ap, sym, refl}
+use mathlib.Core.Path.{_∙_, ap, sym}
 use native.Mathlib.Omega.{arith}
 use borrow.Author.Needs.{needs}
 use Rattle.sheet_turn.proofs.kernel.carry_asked.Statement.{statement}
 use Rattle.sheet_turn.proofs.kernel.carry_asked.Tie as tie
-use Rattle.sheet_turn.proofs.kernel.carry_asked.Reads as reads
-use Rattle.sheet_turn.proofs.kernel.carry_asked.Lts as lts
-use Rattle.sheet_fill.proofs.kernel.carry.fill_open.Reads as fill-open-reads
-use Rattle.sheet_marks.proofs.Tally.add.Reads as add-reads
-use Rattle.sheet_step.proofs.kernel.marks.open_pieces.Reads as open-pieces-reads
 
--- src/kernel.rt:154:9
 -- ---- what the call takes
 
 abbrev asked : tie.Start → Given
@@ -30,64 +21,64 @@ start s = sheet (s .args .weights .now) (s .args .flags .now) (s .args .marks .n
 
 -- ---- the facts that the checker asks for
 
-open-pieces-requires : tie.Need-open-pieces-requires
-open-pieces-requires c κs = search needs
+mul-pieces : tie.Need-mul-pieces
+mul-pieces c =
+    let s : _ = c .before .before .before .before .before .before in
+    omega (arith, held-few (piecesOf (s .args .z)) (s .args .marks .now) (long-yes (asked s) (start s) (s .pre .0 .0) (s .pre .0 .1 .counts) .1 .1))
 
--- src/kernel.rt:156:27
+open-pieces-requires : tie.Need-open-pieces-requires
+open-pieces-requires c κs =
+    let s : _ = c .before .before .before .before .before .before .before in
+    long-yes (asked s) (start s) (s .pre .0 .0) (s .pre .0 .1 .counts) .1 .1
+
 add-requires : tie.Need-add-requires
 add-requires c κs = search needs
 
 number-of-requires : tie.Need-number-of-requires
 number-of-requires c κs = search needs
 
--- src/kernel.rt:157:9
 same-length : tie.Need-same-length
 same-length c = search needs
 
--- src/kernel.rt:157:9
 returns : tie.Need-returns
 returns c =
-    let s : _ = c .before .before .before .before .before .before .before .before .before .before in
+    let s : _ = c .before .before .before .before .before .before .before .before .before .before .before in
     let y = s .pre .0 .0 in
     let p = s .pre .0 .1 in
     let a = c .before .before .add .ensures ∙ ap (addedTo (s .args .runs)) (c .before .before .before .open-pieces .ensures) in
-    (carry-full (asked s) (start s) y p (added-no (s .args .runs) (openPieces (s .args .marks .now)) a (c .before .number-of .ensures)) (c .if1 .taken), s .pre .1)
+    (carry-full (asked s) (start s) y p (added-no (s .args .runs) (opens (asked s) (start s) y p) a (c .before .number-of .ensures)) (c .if1 .taken), s .pre .1)
 
--- src/kernel.rt:163:9
 fill-open-requires : tie.Need-fill-open-requires
 fill-open-requires c κs =
-    let s : _ = c .before .before .before .before .before .before .before .before .before .before .before .before .before .before .before .before .before .before .before .before .before .before .before in
+    let s : _ = c .before .before .before .before .before .before .before .before .before .before .before .before .before .before .before .before .before .before .before .before .before .before .before .before in
     let y = s .pre .0 .0 in
     let p = s .pre .0 .1 in
     (made-ready (asked s) (start s) y p, ((p .copy, (p .all-rows, long-yes (asked s) (start s) y (p .counts) .1 .1)), ((λ h. let k = s .pre .1 .0 h in (k .0 ∙ ap (λ (q : Study). firstCorners q (s .args .held)) (sym (made-is (asked s) (start s) y p)), k .1 ∙ ap (λ (q : Study). secondCorners q (s .args .held)) (sym (made-is (asked s) (start s) y p)))), s .pre .1 .1)))
 
--- src/kernel.rt:119:1
 same-length-2 : tie.Need-same-length-2
 same-length-2 c = search needs
 
--- src/kernel.rt:119:1
 same-length-3 : tie.Need-same-length-3
 same-length-3 c = search needs
 
--- src/kernel.rt:119:1
 same-length-4 : tie.Need-same-length-4
 same-length-4 c = search needs
 
--- src/kernel.rt:119:1
 returns-2 : tie.Need-returns-2
 returns-2 c =
-    let s : _ = c .before .before .before .before .before .before .before .before .before .before .before .before .before .before .before .before .before .before .before .before .before .before .before .before .before .before .before .before .before .before in
+    let s : _ = c .before .before .before .before .before .before .before .before .before .before .before .before .before .before .before .before .before .before .before .before .before .before .before .before .before .before .before .before .before .before .before in
     let y = s .pre .0 .0 in
     let p = s .pre .0 .1 in
     let a = c .before .before .before .before .before .before .before .before .before .before .before .before .before .before .before .before .before .before .before .before .before .before .add .ensures ∙ ap (addedTo (s .args .runs)) (c .before .before .before .before .before .before .before .before .before .before .before .before .before .before .before .before .before .before .before .before .before .before .before .open-pieces .ensures) in
-    let u = sym (added-no (s .args .runs) (openPieces (s .args .marks .now)) a (c .before .before .before .before .before .before .before .before .before .before .before .before .before .before .before .before .before .before .before .before .before .number-of .ensures)) ∙ c .before .before .before .before .before .before .before .before .before .before .before .before .before .before .before .before .before .before .before .before .if1 .left in
+    let u = sym (added-no (s .args .runs) (opens (asked s) (start s) y p) a (c .before .before .before .before .before .before .before .before .before .before .before .before .before .before .before .before .before .before .before .before .before .number-of .ensures)) ∙ c .before .before .before .before .before .before .before .before .before .before .before .before .before .before .before .before .before .before .before .before .if1 .left in
     let f = c .before .before .before .before .before .before .fill-open .ensures in
-    (carry-done (asked s) (start s) y p u (added-runs (s .args .runs) (openPieces (s .args .marks .now)) a u) (f .1 .0) (f .1 .1 .0) (f .1 .1 .1), ((λ h. let k = f .0 .0 h in (k .0 ∙ ap (λ (q : Study). firstCorners q (c .before .before .before .before .before .before .fill-open .result)) (made-is (asked s) (start s) y p), k .1 ∙ ap (λ (q : Study). secondCorners q (c .before .before .before .before .before .before .fill-open .result)) (made-is (asked s) (start s) y p))), f .0 .1))
+    (carry-done (asked s) (start s) y p u (added-runs (s .args .runs) (opens (asked s) (start s) y p) a u) (f .1 .0) (f .1 .1 .0) (f .1 .1 .1), ((λ h. let k = f .0 .0 h in (k .0 ∙ ap (λ (q : Study). firstCorners q (c .before .before .before .before .before .before .fill-open .result)) (made-is (asked s) (start s) y p), k .1 ∙ ap (λ (q : Study). secondCorners q (c .before .before .before .before .before .before .fill-open .result)) (made-is (asked s) (start s) y p))), f .0 .1))
 
 pub carry-asked-spec : {M : Type 1} → statement M
 carry-asked-spec =
     tie.close
     (tie.spec
+    mul-pieces
     open-pieces-requires
     add-requires
     number-of-requires

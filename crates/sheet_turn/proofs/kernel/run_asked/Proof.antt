@@ -1,27 +1,18 @@
+-- `sheet_turn::kernel::run_asked` meets its contract. Assumes nothing.
 use Rattle.sheet_turn.proofs.TurnLaws.{added-no, added-runs, counted-yes, long-yes, made-is, made-ready, run-done, run-full, run-no, run-on, run-place, run-small}
-use Rattle.sheet_step.specs.Marks.{openPieces}
-use Rattle.sheet_marks.specs.declared.SheetAnswer.{SheetAnswer}
+use Rattle.marks.proofs.BytesLaws.{small-mark}
 use Rattle.sheet_step.specs.Steps.{Sheet, sheet}
-use Rattle.sheet_marks.specs.Tallies.{addedTo}
 use Rattle.triplet_study.specs.Given.{Given, given}
 use Rattle.triplet_piece.specs.Study.{Study, firstCorners, secondCorners}
 use lib.Signed.{mag}
 use mir.ValLaws.{toZ-ofZ}
 use mir.Syntax.{w64}
-use mathlib.Core.Path.{_∙_, _≡_, ap, sym, refl}
+use mathlib.Core.Path.{_∙_, ap, sym}
 use native.Mathlib.Omega.{arith}
 use borrow.Author.Needs.{needs}
 use Rattle.sheet_turn.proofs.kernel.run_asked.Statement.{statement}
 use Rattle.sheet_turn.proofs.kernel.run_asked.Tie as tie
-use Rattle.sheet_turn.proofs.kernel.run_asked.Reads as reads
-use Rattle.sheet_turn.proofs.kernel.run_asked.Lts as lts
-use Rattle.common.proofs.kernel.magnitude.Reads as magnitude-reads
-use Rattle.sheet_fill.proofs.kernel.run.fill_named.Reads as fill-named-reads
-use Rattle.sheet_marks.proofs.Tally.add.Reads as add-reads
-use Rattle.sheet_step.proofs.kernel.asks.piece_no.Reads as piece-no-reads
-use Rattle.sheet_step.proofs.kernel.marks.set_mark.Reads as set-mark-reads
 
--- src/kernel.rt:58:9
 -- ---- what the call takes
 
 abbrev asked : tie.Start → Given
@@ -39,11 +30,9 @@ piece-no-requires c κs =
     let p = s .pre .0 .1 in
     (counted-yes (asked s) (start s) y (p .counts), long-yes (asked s) (start s) y (p .counts) .1 .1)
 
--- src/kernel.rt:60:9
 same-length : tie.Need-same-length
 same-length c = search needs
 
--- src/kernel.rt:60:9
 returns : tie.Need-returns
 returns c =
     let s : _ = c .before .before .before .before .before .before .before .before in
@@ -52,18 +41,15 @@ returns c =
     let o = rw (toZ-ofZ w64 (s .args .triplet) (s .fits .triplet), toZ-ofZ w64 (s .args .b1) (s .fits .b1), toZ-ofZ w64 (s .args .b2) (s .fits .b2)) at (c .before .piece-no .ensures) in
     (run-no (asked s) (start s) y p (s .args .triplet) (s .args .b1) (s .args .b2) o (c .if1 .taken), s .pre .1)
 
--- src/kernel.rt:67:27
 add-requires : tie.Need-add-requires
 add-requires c κs = search needs
 
 number-of-requires : tie.Need-number-of-requires
 number-of-requires c κs = search needs
 
--- src/kernel.rt:68:9
 same-length-2 : tie.Need-same-length-2
 same-length-2 c = search needs
 
--- src/kernel.rt:68:9
 returns-2 : tie.Need-returns-2
 returns-2 c =
     let s : _ = c .before .before .before .before .before .before .before .before .before .before .before in
@@ -73,19 +59,15 @@ returns-2 c =
     let e = sym o ∙ c .before .before .before .if1 .left in
     (run-full (asked s) (start s) y p (s .args .triplet) (s .args .b1) (s .args .b2) e (added-no (s .args .runs) 1 (c .before .before .add .ensures) (c .before .number-of .ensures)) (c .if2 .taken), s .pre .1)
 
--- src/kernel.rt:74:9
 magnitude-requires : tie.Need-magnitude-requires
 magnitude-requires c κs = search needs
 
--- src/kernel.rt:75:9
 magnitude-requires-2 : tie.Need-magnitude-requires-2
 magnitude-requires-2 c κs = search needs
 
--- src/kernel.rt:76:9
 magnitude-requires-3 : tie.Need-magnitude-requires-3
 magnitude-requires-3 c κs = search needs
 
--- src/kernel.rt:77:5
 fill-named-requires : tie.Need-fill-named-requires
 fill-named-requires c κs =
     let s : _ = c .before .before .before .before .before .before .before .before .before .before .before .before .before .before .before .before .before .before .before .before .before .before .before .before .before .before in
@@ -98,7 +80,6 @@ fill-named-requires c κs =
     let n2 = c .before .before .before .before .before .before .before .before .before .before .before .before .magnitude3 .ensures ∙ ap mag (toZ-ofZ w64 (s .args .b2) (s .fits .b2)) in
     (made-ready (asked s) (start s) y p, ((p .copy, (p .all-rows, run-on (asked s) (start s) y p (s .args .triplet) (s .args .b1) (s .args .b2) e (c .before .before .before .before .before .before .before .before .before .before .before .before .before .before .magnitude .result) (c .before .before .before .before .before .before .before .before .before .before .before .before .before .magnitude2 .result) (c .before .before .before .before .before .before .before .before .before .before .before .before .magnitude3 .result) nt n1 n2)), ((λ h. let k = s .pre .1 .0 h in (k .0 ∙ ap (λ (q : Study). firstCorners q (s .args .held)) (sym (made-is (asked s) (start s) y p)), k .1 ∙ ap (λ (q : Study). secondCorners q (s .args .held)) (sym (made-is (asked s) (start s) y p)))), s .pre .1 .1)))
 
--- src/kernel.rt:109:27
 mul-set-mark : tie.Need-mul-set-mark
 mul-set-mark c =
     let s : _ = c .before .before .before .before .before .before .before .before .before .before .before .before .before .before .before .before .before .before .before .before .before .before .before .before .before .before .before .before .before .before .before in
@@ -111,7 +92,6 @@ mul-set-mark c =
     let n2 = c .before .before .before .before .before .before .before .before .before .before .before .before .before .before .before .before .before .magnitude3 .ensures ∙ ap mag (toZ-ofZ w64 (s .args .b2) (s .fits .b2)) in
     omega (arith, run-small (asked s) (start s) y p (s .args .triplet) (s .args .b1) (s .args .b2) e (c .before .before .before .before .before .before .before .before .before .before .before .before .before .before .before .before .before .before .before .magnitude .result) (c .before .before .before .before .before .before .before .before .before .before .before .before .before .before .before .before .before .before .magnitude2 .result) (c .before .before .before .before .before .before .before .before .before .before .before .before .before .before .before .before .before .magnitude3 .result) nt n1 n2)
 
--- src/kernel.rt:109:40
 mul-set-mark-2 : tie.Need-mul-set-mark-2
 mul-set-mark-2 c =
     let s : _ = c .before .before .before .before .before .before .before .before .before .before .before .before .before .before .before .before .before .before .before .before .before .before .before .before .before .before .before .before .before .before .before in
@@ -124,7 +104,6 @@ mul-set-mark-2 c =
     let n2 = c .before .before .before .before .before .before .before .before .before .before .before .before .before .before .before .before .before .magnitude3 .ensures ∙ ap mag (toZ-ofZ w64 (s .args .b2) (s .fits .b2)) in
     omega (arith, run-small (asked s) (start s) y p (s .args .triplet) (s .args .b1) (s .args .b2) e (c .before .before .before .before .before .before .before .before .before .before .before .before .before .before .before .before .before .before .before .magnitude .result) (c .before .before .before .before .before .before .before .before .before .before .before .before .before .before .before .before .before .before .magnitude2 .result) (c .before .before .before .before .before .before .before .before .before .before .before .before .before .before .before .before .before .magnitude3 .result) nt n1 n2)
 
--- src/kernel.rt:109:40
 add-set-mark : tie.Need-add-set-mark
 add-set-mark c =
     let s : _ = c .before .before .before .before .before .before .before .before .before .before .before .before .before .before .before .before .before .before .before .before .before .before .before .before .before .before .before .before .before .before .before in
@@ -137,7 +116,6 @@ add-set-mark c =
     let n2 = c .before .before .before .before .before .before .before .before .before .before .before .before .before .before .before .before .before .magnitude3 .ensures ∙ ap mag (toZ-ofZ w64 (s .args .b2) (s .fits .b2)) in
     omega (arith, run-small (asked s) (start s) y p (s .args .triplet) (s .args .b1) (s .args .b2) e (c .before .before .before .before .before .before .before .before .before .before .before .before .before .before .before .before .before .before .before .magnitude .result) (c .before .before .before .before .before .before .before .before .before .before .before .before .before .before .before .before .before .before .magnitude2 .result) (c .before .before .before .before .before .before .before .before .before .before .before .before .before .before .before .before .before .magnitude3 .result) nt n1 n2)
 
--- src/kernel.rt:109:27
 add-set-mark-2 : tie.Need-add-set-mark-2
 add-set-mark-2 c =
     let s : _ = c .before .before .before .before .before .before .before .before .before .before .before .before .before .before .before .before .before .before .before .before .before .before .before .before .before .before .before .before .before .before .before in
@@ -150,7 +128,6 @@ add-set-mark-2 c =
     let n2 = c .before .before .before .before .before .before .before .before .before .before .before .before .before .before .before .before .before .magnitude3 .ensures ∙ ap mag (toZ-ofZ w64 (s .args .b2) (s .fits .b2)) in
     omega (arith, run-small (asked s) (start s) y p (s .args .triplet) (s .args .b1) (s .args .b2) e (c .before .before .before .before .before .before .before .before .before .before .before .before .before .before .before .before .before .before .before .magnitude .result) (c .before .before .before .before .before .before .before .before .before .before .before .before .before .before .before .before .before .before .magnitude2 .result) (c .before .before .before .before .before .before .before .before .before .before .before .before .before .before .before .before .before .magnitude3 .result) nt n1 n2)
 
--- src/kernel.rt:109:5
 set-mark-requires : tie.Need-set-mark-requires
 set-mark-requires c κs =
     let s : _ = c .before .before .before .before .before .before .before .before .before .before .before .before .before .before .before .before .before .before .before .before .before .before .before .before .before .before .before .before .before .before .before in
@@ -161,21 +138,17 @@ set-mark-requires c κs =
     let nt = c .before .before .before .before .before .before .before .before .before .before .before .before .before .before .before .before .before .before .before .magnitude .ensures ∙ ap mag (toZ-ofZ w64 (s .args .triplet) (s .fits .triplet)) in
     let n1 = c .before .before .before .before .before .before .before .before .before .before .before .before .before .before .before .before .before .before .magnitude2 .ensures ∙ ap mag (toZ-ofZ w64 (s .args .b1) (s .fits .b1)) in
     let n2 = c .before .before .before .before .before .before .before .before .before .before .before .before .before .before .before .before .before .magnitude3 .ensures ∙ ap mag (toZ-ofZ w64 (s .args .b2) (s .fits .b2)) in
-    run-place (asked s) (start s) y p (s .args .triplet) (s .args .b1) (s .args .b2) e (c .before .before .before .before .before .before .before .before .before .before .before .before .before .before .before .before .before .before .before .magnitude .result) (c .before .before .before .before .before .before .before .before .before .before .before .before .before .before .before .before .before .before .magnitude2 .result) (c .before .before .before .before .before .before .before .before .before .before .before .before .before .before .before .before .before .magnitude3 .result) nt n1 n2
+    (run-place (asked s) (start s) y p (s .args .triplet) (s .args .b1) (s .args .b2) e (c .before .before .before .before .before .before .before .before .before .before .before .before .before .before .before .before .before .before .before .magnitude .result) (c .before .before .before .before .before .before .before .before .before .before .before .before .before .before .before .before .before .before .magnitude2 .result) (c .before .before .before .before .before .before .before .before .before .before .before .before .before .before .before .before .before .magnitude3 .result) nt n1 n2, small-mark 1 (omega arith))
 
--- src/kernel.rt:20:1
 same-length-3 : tie.Need-same-length-3
 same-length-3 c = search needs
 
--- src/kernel.rt:20:1
 same-length-4 : tie.Need-same-length-4
 same-length-4 c = search needs
 
--- src/kernel.rt:20:1
 same-length-5 : tie.Need-same-length-5
 same-length-5 c = search needs
 
--- src/kernel.rt:20:1
 returns-3 : tie.Need-returns-3
 returns-3 c =
     let s : _ = c .before .before .before .before .before .before .before .before .before .before .before .before .before .before .before .before .before .before .before .before .before .before .before .before .before .before .before .before .before .before .before .before .before .before .before in

@@ -1,21 +1,14 @@
-use Rattle.triplet_piece.specs.Study.{Study, study, firstCorners, secondCorners}
+-- `sheet_fill::kernel::run::fill_named` meets its contract. Assumes nothing.
+use Rattle.triplet_piece.specs.Study.{Study, study, secondCorners}
 use Rattle.triplet_iw.proofs.TripletLaws.{fitting, held-first, held-second, triplet-in}
-use Rattle.triplet_corners.specs.Corners.{cornerNumbers}
 use Rattle.triplet_corners.proofs.CornerLaws.{second-length, second-triples}
 use Rattle.sheet_fill.proofs.PieceLaws.{named-flags, named-weights}
-use lib.ListN.{length}
-use Prim.Native.Nat.{ℕ, _+_, _*_, _<_}
-use mathlib.Core.Path.{_∙_, _≡_, ap, sym}
+use mathlib.Core.Path.{_∙_, _≡_}
 use native.Mathlib.Omega.{arith}
 use borrow.Author.Needs.{needs}
 use Rattle.sheet_fill.proofs.kernel.run.fill_named.Statement.{statement}
 use Rattle.sheet_fill.proofs.kernel.run.fill_named.Tie as tie
-use Rattle.sheet_fill.proofs.kernel.run.fill_named.Reads as reads
-use Rattle.sheet_fill.proofs.kernel.run.fill_named.Lts as lts
-use Rattle.sheet_fill.proofs.kernel.run.keep_corners.Reads as keep-corners-reads
-use Rattle.triplet_piece.proofs.kernel.fill_piece.Reads as fill-piece-reads
 
--- src/kernel/run.rt:87:5
 -- the study that the arguments make
 abbrev studied : tie.Start → Study
 studied s = study (s .args .tp) (s .args .grid) (s .args .addresses .now) (s .args .gp-map .now) (s .args .steps .now) (s .args .z .bands1) (s .args .z .bands2) (s .args .frequencies1 .now) (s .args .frequencies2 .now) (s .args .points .now) (s .args .triplets .now)
@@ -29,7 +22,6 @@ keep-corners-requires c κs =
       ((triplet-in r (s .args .t) (q .1 .1 .0), r .triplets-at), λ e. rw (q .0) (rw e at (s .pre .1 .1 .0 (rw e (q .1 .1 .0))))),
     )
 
--- src/kernel/run.rt:99:5
 fill-piece-requires : tie.Need-fill-piece-requires
 fill-piece-requires c κs =
     let s : _ = c .before .before .before .before .before .before .before .before .before .before .before .before .before .before .before .before .before .before .before in
@@ -42,15 +34,12 @@ fill-piece-requires c κs =
       ),
     )
 
--- src/kernel/run.rt:49:1
 same-length : tie.Need-same-length
 same-length c = search needs
 
--- src/kernel/run.rt:49:1
 same-length-2 : tie.Need-same-length-2
 same-length-2 c = search needs
 
--- src/kernel/run.rt:49:1
 returns : tie.Need-returns
 returns c =
     let s : _ = c .before .before .before .before .before .before .before .before .before .before .before .before .before .before .before .before .before .before .before .before .before .before .before in

@@ -1,55 +1,42 @@
+-- `sheet_fill::kernel::run::keep_corners` meets its contract. Assumes nothing.
 use Rattle.triplet_corners.specs.Corners.{cornerNumbers}
 use Prim.Native.Nat.{ℕ, _+_, _*_}
-use mathlib.Core.Path.{_∙_, _≡_, ap}
+use mathlib.Core.Path.{_∙_, ap}
 use native.Mathlib.Omega.{arith}
 use borrow.Author.Needs.{needs}
 use Rattle.sheet_fill.proofs.kernel.run.keep_corners.Statement.{statement}
 use Rattle.sheet_fill.proofs.kernel.run.keep_corners.Tie as tie
-use Rattle.sheet_fill.proofs.kernel.run.keep_corners.Reads as reads
-use Rattle.sheet_fill.proofs.kernel.run.keep_corners.Lts as lts
-use Rattle.common.proofs.kernel.magnitude_at.Reads as magnitude-at-reads
-use Rattle.triplet_corners.proofs.kernel.corner_numbers.Reads as corner-numbers-reads
 
--- src/fill.rt:40:9
 returns : tie.Need-returns
 returns c =
     c .before .pre .1 .1 (c .if1 .taken)
 
--- src/fill.rt:42:53
 mul-magnitude-at : tie.Need-mul-magnitude-at
 mul-magnitude-at c = search needs
 
--- src/fill.rt:42:53
 add-magnitude-at : tie.Need-add-magnitude-at
 add-magnitude-at c = search needs
 
--- src/fill.rt:42:9
 magnitude-at-requires : tie.Need-magnitude-at-requires
 magnitude-at-requires c κs = search needs
 
--- src/fill.rt:43:53
 mul-magnitude-at-2 : tie.Need-mul-magnitude-at-2
 mul-magnitude-at-2 c = search needs
 
--- src/fill.rt:43:53
 add-magnitude-at-2 : tie.Need-add-magnitude-at-2
 add-magnitude-at-2 c = search needs
 
--- src/fill.rt:43:9
 magnitude-at-requires-2 : tie.Need-magnitude-at-requires-2
 magnitude-at-requires-2 c κs = search needs
 
--- src/fill.rt:44:17
 corner-numbers-requires : tie.Need-corner-numbers-requires
 corner-numbers-requires c κs =
     let p = c .before .before .before .pre in (p .0 .0, (p .0 .1 .0 .0, (rw (c .before .magnitude-at .ensures) (p .1 .0 .1 (3 * c .before .before .before .args .t + 1) (omega (arith, p .1 .0 .0))), p .0 .1 .0 .1)))
 
--- src/fill.rt:45:17
 corner-numbers-requires-2 : tie.Need-corner-numbers-requires-2
 corner-numbers-requires-2 c κs =
     let p = c .before .before .before .before .pre in (p .0 .0, (p .0 .1 .1 .0, (rw (c .before .magnitude-at2 .ensures) (p .1 .0 .1 (3 * c .before .before .before .before .args .t + 2) (p .1 .0 .0)), p .0 .1 .1 .1)))
 
--- src/fill.rt:21:1
 returns-2 : tie.Need-returns-2
 returns-2 c =
     let a = c .before .before .before .before .before .args in (c .before .corner-numbers .ensures ∙ ap (λ (g : ℕ). cornerNumbers (a .grid) (a .addresses .now) (a .gp-map .now) (a .steps .now) g) (c .before .before .before .magnitude-at .ensures), c .corner-numbers2 .ensures ∙ ap (λ (g : ℕ). cornerNumbers (a .grid) (a .addresses .now) (a .gp-map .now) (a .second .now) g) (c .before .before .magnitude-at2 .ensures))

@@ -1,21 +1,19 @@
 -- `sheet_step::kernel::asks::average_no` meets its contract. Assumes nothing.
-use Prim.Native.Nat.{_*_, _+_, _<_, _≤_}
+use Prim.Native.Nat.{_<_}
 use borrow.Author.Needs.{needs}
 use borrow.Author.Tests.{eq-eqb, ne-eqb}
 use lib.IntN.{ℤ}
-use lib.ListN.{length}
 use lib.Signed.{mag}
 use mathlib.Core.Bool.{_&&_}
 use mathlib.Core.Path.{_∙_, _≡_, ap}
 use mir.Syntax.{w64}
 use mir.ValLaws.{toZ-ofZ}
-use native.Mathlib.Omega.{arith}
 use Rattle.list_laws.proofs.BoolLaws.{no-of, yes-of}
 use Rattle.list_laws.proofs.SignedLaws.{below-lt}
 use Rattle.list_laws.specs.Signed.{isBelow}
 use Rattle.ask.specs.Ask.{firstNo}
-use Rattle.sheet_step.proofs.CountLaws.{marks-place}
-use Rattle.sheet_step.specs.Marks.{areComputed, isNotAveraged}
+use Rattle.sheet_step.proofs.CountLaws.{first-place, marks-place}
+use Rattle.marks.specs.Marks.{areComputed, isNotAveraged}
 use Rattle.sheet_step.specs.Steps.{areIdLists, areTripletWeights}
 use Rattle.sheet_step.proofs.kernel.asks.average_no.Statement.{statement}
 use Rattle.sheet_step.proofs.kernel.asks.average_no.Tie as tie
@@ -41,9 +39,7 @@ not-averaged-requires c κs =
     let b : c .before .before .is-below .result ≡ isBelow (s .args .triplet) ((s .args .z) .triplets) = c .before .before .is-below .ensures ∙ ap (λ (t : ℤ). isBelow t ((s .args .z) .triplets)) (toZ-ofZ w64 (s .args .triplet) (s .fits .triplet)) in
     let tn : c .magnitude .result ≡ mag (s .args .triplet) = c .magnitude .ensures ∙ ap mag (toZ-ofZ w64 (s .args .triplet) (s .fits .triplet)) in
     let i : mag (s .args .triplet) < (s .args .z) .triplets = below-lt (s .args .triplet) ((s .args .z) .triplets) (yes-of b (c .before .if1 .left)) in
-    let m : mag (s .args .triplet) * (s .args .z) .pairs + (s .args .z) .pairs ≤ length (s .args .marks .now) = marks-place (s .args .z) (s .pre .0) (mag (s .args .triplet)) (length (s .args .marks .now)) i (s .pre .1 .1) in
-    let o : 1 ≤ (s .args .z) .pairs = s .pre .0 .pairs-some in
-    rw tn (let l : mag (s .args .triplet) * (s .args .z) .pairs < length (s .args .marks .now) = omega arith in l)
+    rw tn (first-place (s .args .z) (s .pre .0) (s .args .marks .now) (s .pre .1 .1) (mag (s .args .triplet)) i)
 
 returns-2 : tie.Need-returns-2
 unfolding firstNo areIdLists
@@ -84,9 +80,7 @@ all-computed-requires c κs =
     let b : c .before .before .before .before .before .before .before .before .before .is-below .result ≡ isBelow (s .args .triplet) ((s .args .z) .triplets) = c .before .before .before .before .before .before .before .before .before .is-below .ensures ∙ ap (λ (t : ℤ). isBelow t ((s .args .z) .triplets)) (toZ-ofZ w64 (s .args .triplet) (s .fits .triplet)) in
     let tn : c .before .before .before .before .before .before .before .magnitude .result ≡ mag (s .args .triplet) = c .before .before .before .before .before .before .before .magnitude .ensures ∙ ap mag (toZ-ofZ w64 (s .args .triplet) (s .fits .triplet)) in
     let i : mag (s .args .triplet) < (s .args .z) .triplets = below-lt (s .args .triplet) ((s .args .z) .triplets) (yes-of b (c .before .before .before .before .before .before .before .before .if1 .left)) in
-    let m : mag (s .args .triplet) * (s .args .z) .pairs + (s .args .z) .pairs ≤ length (s .args .marks .now) = marks-place (s .args .z) (s .pre .0) (mag (s .args .triplet)) (length (s .args .marks .now)) i (s .pre .1 .1) in
-    let o : 1 ≤ (s .args .z) .pairs = s .pre .0 .pairs-some in
-    rw tn m
+    rw tn (marks-place (s .args .z) (s .pre .0) (s .args .marks .now) (s .pre .1 .1) (mag (s .args .triplet)) i)
 
 returns-5 : tie.Need-returns-5
 unfolding firstNo areIdLists
@@ -103,8 +97,6 @@ triplet-weights-ok-requires c κs =
     let b : c .before .before .before .before .before .before .before .before .before .before .before .is-below .result ≡ isBelow (s .args .triplet) ((s .args .z) .triplets) = c .before .before .before .before .before .before .before .before .before .before .before .is-below .ensures ∙ ap (λ (t : ℤ). isBelow t ((s .args .z) .triplets)) (toZ-ofZ w64 (s .args .triplet) (s .fits .triplet)) in
     let tn : c .before .before .before .before .before .before .before .before .before .magnitude .result ≡ mag (s .args .triplet) = c .before .before .before .before .before .before .before .before .before .magnitude .ensures ∙ ap mag (toZ-ofZ w64 (s .args .triplet) (s .fits .triplet)) in
     let i : mag (s .args .triplet) < (s .args .z) .triplets = below-lt (s .args .triplet) ((s .args .z) .triplets) (yes-of b (c .before .before .before .before .before .before .before .before .before .before .if1 .left)) in
-    let m : mag (s .args .triplet) * (s .args .z) .pairs + (s .args .z) .pairs ≤ length (s .args .marks .now) = marks-place (s .args .z) (s .pre .0) (mag (s .args .triplet)) (length (s .args .marks .now)) i (s .pre .1 .1) in
-    let o : 1 ≤ (s .args .z) .pairs = s .pre .0 .pairs-some in
     (s .pre .0, (rw tn i, s .pre .1 .0))
 
 returns-6 : tie.Need-returns-6

@@ -1,19 +1,16 @@
 -- `sheet_step::kernel::asks::piece_no` meets its contract. Assumes nothing.
-use Prim.Native.Nat.{_*_, _+_, _<_, _≤_}
 use borrow.Author.Needs.{needs}
-use lib.ListN.{length}
 use lib.Signed.{mag}
 use mathlib.Core.Bool.{_&&_, true}
 use mathlib.Core.Path.{_∙_, _≡_, ap}
 use mir.Syntax.{w64}
 use mir.ValLaws.{toZ-ofZ}
-use native.Mathlib.Omega.{arith}
 use Rattle.list_laws.proofs.BoolLaws.{and-left, no-of, yes-of}
 use Rattle.list_laws.proofs.SignedLaws.{below-lt}
 use Rattle.list_laws.specs.Signed.{isBelow}
 use Rattle.ask.specs.Ask.{firstNo}
-use Rattle.sheet_step.proofs.CountLaws.{marks-place}
-use Rattle.sheet_step.specs.Marks.{isNotAveraged}
+use Rattle.sheet_step.proofs.CountLaws.{first-place}
+use Rattle.marks.specs.Marks.{isNotAveraged}
 use Rattle.sheet_step.specs.Steps.{isPiece}
 use Rattle.sheet_step.proofs.kernel.asks.piece_no.Statement.{statement}
 use Rattle.sheet_step.proofs.kernel.asks.piece_no.Tie as tie
@@ -48,7 +45,7 @@ not-averaged-requires c κs =
     let t3 : ((c .before .before .before .before .is-below .result && c .before .before .before .is-below2 .result) && c .before .before .is-below3 .result) ≡ isPiece (s .args .z) (s .args .triplet) (s .args .b1) (s .args .b2) = rw (c .before .before .before .before .is-below .ensures, c .before .before .before .is-below2 .ensures, c .before .before .is-below3 .ensures, toZ-ofZ w64 (s .args .triplet) (s .fits .triplet), toZ-ofZ w64 (s .args .b1) (s .fits .b1), toZ-ofZ w64 (s .args .b2) (s .fits .b2)) in
     let tn : c .magnitude .result ≡ mag (s .args .triplet) = c .magnitude .ensures ∙ ap mag (toZ-ofZ w64 (s .args .triplet) (s .fits .triplet)) in
     let y : isBelow (s .args .triplet) ((s .args .z) .triplets) ≡ true = and-left (isBelow (s .args .triplet) ((s .args .z) .triplets)) (isBelow (s .args .b1) ((s .args .z) .bands1)) (and-left (isBelow (s .args .triplet) ((s .args .z) .triplets) && isBelow (s .args .b1) ((s .args .z) .bands1)) (isBelow (s .args .b2) ((s .args .z) .bands2)) (yes-of t3 (c .before .if1 .left))) in
-    rw tn (let m : mag (s .args .triplet) * (s .args .z) .pairs + (s .args .z) .pairs ≤ length (s .args .marks .now) = marks-place (s .args .z) (s .pre .0) (mag (s .args .triplet)) (length (s .args .marks .now)) (below-lt (s .args .triplet) ((s .args .z) .triplets) y) (s .pre .1) in let o : 1 ≤ (s .args .z) .pairs = s .pre .0 .pairs-some in let l : mag (s .args .triplet) * (s .args .z) .pairs < length (s .args .marks .now) = omega arith in l)
+    rw tn (first-place (s .args .z) (s .pre .0) (s .args .marks .now) (s .pre .1) (mag (s .args .triplet)) (below-lt (s .args .triplet) ((s .args .z) .triplets) y))
 
 returns-2 : tie.Need-returns-2
 unfolding firstNo isPiece

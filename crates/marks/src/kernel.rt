@@ -1,9 +1,10 @@
 // Marks, read through one accessor and written through one setter.
 ghost use mathlib.Core.Path.{_≡_};
 ghost use Prim.Native.Nat.{_+_, _*_, _≤_, _<_};
-ghost use lib.ListN.{length, set};
-ghost use Rattle.sheet_step.specs.Marks.{markAt, isMark, areMarks, isNotAveraged, areComputed, openPieces, openIn, averagedMarks};
-use sheet_marks::kernel::one_if;
+ghost use lib.Dec.{eqb};
+ghost use Rattle.list_laws.specs.Lists.{oneIf};
+ghost use Rattle.marks.specs.Bytes.{markAt, patchMarks, placesIn, bytesFor, IsMark, FewPieces, Few, Holds};
+ghost use Rattle.marks.specs.Marks.{isMark, areMarks, isNotAveraged, areComputed, openPieces, averagedMarks};
 
 // The mark of an open piece.
 pub const OPEN: u8 = 0;
@@ -14,9 +15,17 @@ pub const COMPUTED: u8 = 1;
 // The mark of an averaged piece.
 pub const AVERAGED: u8 = 2;
 
+// How many bytes hold the marks of so many pieces.
+pub fn bytes_for(pieces: usize) -> usize
+    requires { ⌜ FewPieces pieces ⌝ }
+    ensures { λ r. ⌜ r ≡ bytesFor pieces ⌝ }
+{
+    pieces
+}
+
 // The mark of piece `q`.
 pub fn mark_at(marks: &[u8], q: usize) -> u8
-    requires { ⌜ q < length (now marks) ⌝ }
+    requires { ⌜ q < placesIn (now marks) ⌝ }
     ensures { λ r. ⌜ r ≡ markAt (now (marks .entry)) q ⌝ }
 {
     marks[q]
@@ -24,15 +33,15 @@ pub fn mark_at(marks: &[u8], q: usize) -> u8
 
 // Sets the mark of piece `q`.
 pub fn set_mark(marks: &mut [u8], q: usize, mark: u8)
-    requires { ⌜ q < length (now marks) ⌝ }
-    ensures { λ _. ⌜ now (marks .exit) ≡ set (now (marks .entry)) q mark ⌝ }
+    requires { ⌜ (q < placesIn (now marks)) × IsMark mark ⌝ }
+    ensures { λ _. ⌜ now (marks .exit) ≡ patchMarks (λ p. eqb p q) (λ p. mark) (now (marks .entry)) ⌝ }
 {
     marks[q] = mark;
 }
 
 // Question 13, of piece `q`.
 fn mark_ok(pairs: usize, marks: &[u8], q: usize) -> bool
-    requires { ⌜ (0 < pairs) × (q < length (now marks)) ⌝ }
+    requires { ⌜ (0 < pairs) × (Few (now marks) × (q < placesIn (now marks))) ⌝ }
     ensures { λ r. ⌜ r ≡ isMark pairs (now (marks .entry)) q ⌝ }
 {
     let mark = mark_at(marks, q);
@@ -42,13 +51,13 @@ fn mark_ok(pairs: usize, marks: &[u8], q: usize) -> bool
 }
 
 // Question 13.
-pub fn marks_ok(pairs: usize, marks: &[u8]) -> bool
-    requires { ⌜ 0 < pairs ⌝ }
-    ensures { λ r. ⌜ r ≡ areMarks pairs (now (marks .entry)) ⌝ }
+pub fn marks_ok(pairs: usize, pieces: usize, marks: &[u8]) -> bool
+    requires { ⌜ (0 < pairs) × Holds pieces (now marks) ⌝ }
+    ensures { λ r. ⌜ r ≡ areMarks pairs pieces (now (marks .entry)) ⌝ }
 {
     let mut ok = true;
     let mut q = 0;
-    while q < marks.len() {
+    while q < pieces {
         ok = ok & mark_ok(pairs, marks, q);
         q += 1;
     }
@@ -57,7 +66,7 @@ pub fn marks_ok(pairs: usize, marks: &[u8]) -> bool
 
 // Question 15.
 pub fn not_averaged(pairs: usize, marks: &[u8], t: usize) -> bool
-    requires { ⌜ t * pairs < length (now marks) ⌝ }
+    requires { ⌜ Few (now marks) × (t * pairs < placesIn (now marks)) ⌝ }
     ensures { λ r. ⌜ r ≡ isNotAveraged pairs (now (marks .entry)) t ⌝ }
 {
     mark_at(marks, t * pairs) != AVERAGED
@@ -65,7 +74,7 @@ pub fn not_averaged(pairs: usize, marks: &[u8], t: usize) -> bool
 
 // Question 18.
 pub fn all_computed(pairs: usize, marks: &[u8], t: usize) -> bool
-    requires { ⌜ t * pairs + pairs ≤ length (now marks) ⌝ }
+    requires { ⌜ Few (now marks) × (t * pairs + pairs ≤ placesIn (now marks)) ⌝ }
     ensures { λ r. ⌜ r ≡ areComputed pairs (now (marks .entry)) t ⌝ }
 {
     let base = t * pairs;
@@ -78,37 +87,30 @@ pub fn all_computed(pairs: usize, marks: &[u8], t: usize) -> bool
     ok
 }
 
+// 1 where the test holds, otherwise 0.
+pub fn one_if(yes: bool) -> u64
+    ensures { λ r. ⌜ r ≡ oneIf yes ⌝ }
+{
+    if yes { 1 } else { 0 }
+}
+
 // How many pieces are open.
-pub fn open_pieces(marks: &[u8]) -> u64
-    ensures { λ r. ⌜ r ≡ openPieces (now (marks .entry)) ⌝ }
+pub fn open_pieces(pieces: usize, marks: &[u8]) -> u64
+    requires { ⌜ Holds pieces (now marks) ⌝ }
+    ensures { λ r. ⌜ r ≡ openPieces pieces (now (marks .entry)) ⌝ }
 {
     let mut count: u64 = 0;
     let mut q = 0;
-    while q < marks.len() {
+    while q < pieces {
         count = count + one_if(mark_at(marks, q) == OPEN);
         q += 1;
     }
     count
 }
 
-// How many pieces of triplet `t` are open.
-pub fn open_in(pairs: usize, marks: &[u8], t: usize) -> u64
-    requires { ⌜ t * pairs + pairs ≤ length (now marks) ⌝ }
-    ensures { λ r. ⌜ r ≡ openIn pairs (now (marks .entry)) t ⌝ }
-{
-    let base = t * pairs;
-    let mut count: u64 = 0;
-    let mut k = 0;
-    while k < pairs {
-        count = count + one_if(mark_at(marks, base + k) == OPEN);
-        k += 1;
-    }
-    count
-}
-
 // A triplet's marks become 2.
 pub fn average_marks(pairs: usize, marks: &mut [u8], t: usize)
-    requires { ⌜ (0 < pairs) × (t * pairs + pairs ≤ length (now marks)) ⌝ }
+    requires { ⌜ (0 < pairs) × (Few (now marks) × (t * pairs + pairs ≤ placesIn (now marks))) ⌝ }
     ensures { λ _. ⌜ now (marks .exit) ≡ averagedMarks pairs t (now (marks .entry)) ⌝ }
 {
     let base = t * pairs;

@@ -1,12 +1,12 @@
--- `sheet_step::kernel::marks::all_computed` meets its contract. Assumes nothing.
+-- `marks::kernel::all_computed` meets its contract. Assumes nothing.
 use Prim.Native.Nat.{_*_, _+_, _-_, _≤_}
 use mathlib.Core.Path.{_≡_}
 use native.Mathlib.Omega.{arith}
 use Rattle.list_laws.proofs.BelowLaws.{below-end, below-next, below-none}
 use Rattle.list_laws.specs.Lists.{allBelow}
-use Rattle.sheet_step.specs.Marks.{areComputed, isComputedAt}
-use Rattle.sheet_step.proofs.kernel.marks.all_computed.Statement.{statement}
-use Rattle.sheet_step.proofs.kernel.marks.all_computed.Tie as tie
+use Rattle.marks.specs.Marks.{areComputed, isComputedAt}
+use Rattle.marks.proofs.kernel.all_computed.Statement.{statement}
+use Rattle.marks.proofs.kernel.all_computed.Tie as tie
 
 abbrev Inv-loop : tie.InvT-loop
 Inv-loop pairs marks t base ok₀ k₀ ok k =
@@ -18,7 +18,7 @@ abbrev μ-loop : tie.MeasureT-loop
 
 mul-base : tie.Need-mul-base Inv-loop μ-loop
 mul-base c =
-    omega arith
+    omega (arith, c .before .pre .0, c .before .pre .1)
 
 loop-holds : tie.Need-loop-holds Inv-loop μ-loop
 loop-holds c =
@@ -26,7 +26,7 @@ loop-holds c =
 
 add-mark-at : tie.Need-add-mark-at Inv-loop μ-loop
 add-mark-at c =
-    omega arith
+    omega (arith, c .before .before .before .pre .0, c .before .before .before .pre .1)
 
 mark-at-requires : tie.Need-mark-at-requires Inv-loop μ-loop
 mark-at-requires c κs =

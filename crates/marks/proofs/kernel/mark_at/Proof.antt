@@ -1,14 +1,16 @@
--- `sheet_step::kernel::marks::mark_at` meets its contract. Assumes nothing.
+-- `marks::kernel::mark_at` meets its contract. Assumes nothing.
 use borrow.Author.Needs.{needs}
 use Rattle.list_laws.proofs.MapLaws.{getD-any}
-use Rattle.sheet_step.proofs.kernel.marks.mark_at.Statement.{statement}
-use Rattle.sheet_step.proofs.kernel.marks.mark_at.Tie as tie
+use Rattle.marks.specs.Bytes.{markAt}
+use Rattle.marks.proofs.kernel.mark_at.Statement.{statement}
+use Rattle.marks.proofs.kernel.mark_at.Tie as tie
 
 shared-slice-read-result : tie.Need-shared-slice-read-result
 shared-slice-read-result c =
     search needs
 
 returns : tie.Need-returns
+unfolding markAt
 returns c =
     getD-any (c .before .args .marks .now) (c .before .args .q) 0 1 (c .before .pre)
 

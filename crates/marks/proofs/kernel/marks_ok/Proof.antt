@@ -1,21 +1,21 @@
--- `sheet_step::kernel::marks::marks_ok` meets its contract. Assumes nothing.
+-- `marks::kernel::marks_ok` meets its contract. Assumes nothing.
 use Prim.Native.Nat.{_-_, _≤_}
-use lib.ListN.{length}
+use Rattle.marks.proofs.BytesLaws.{place-in}
 use mathlib.Core.Path.{_≡_}
 use native.Mathlib.Omega.{arith}
 use Rattle.list_laws.proofs.BelowLaws.{below-end, below-next, below-none}
 use Rattle.list_laws.specs.Lists.{allBelow}
-use Rattle.sheet_step.specs.Marks.{areMarks, isMark}
-use Rattle.sheet_step.proofs.kernel.marks.marks_ok.Statement.{statement}
-use Rattle.sheet_step.proofs.kernel.marks.marks_ok.Tie as tie
+use Rattle.marks.specs.Marks.{areMarks, isMark}
+use Rattle.marks.proofs.kernel.marks_ok.Statement.{statement}
+use Rattle.marks.proofs.kernel.marks_ok.Tie as tie
 
 abbrev Inv-loop : tie.InvT-loop
-Inv-loop pairs marks ok₀ q₀ ok q =
-    (q ≤ length marks) × (ok ≡ allBelow q (isMark pairs marks))
+Inv-loop pairs pieces marks ok₀ q₀ ok q =
+    (q ≤ pieces) × (ok ≡ allBelow q (isMark pairs marks))
 
 abbrev μ-loop : tie.MeasureT-loop
-μ-loop pairs marks ok₀ q₀ ok q =
-    length marks - q
+μ-loop pairs pieces marks ok₀ q₀ ok q =
+    pieces - q
 
 loop-holds : tie.Need-loop-holds Inv-loop μ-loop
 loop-holds c =
@@ -23,7 +23,8 @@ loop-holds c =
 
 mark-ok-requires : tie.Need-mark-ok-requires Inv-loop μ-loop
 mark-ok-requires c κs =
-    (c .before .before .before .pre, omega arith)
+    let s : _ = c .before .before .before in
+    (s .pre .0, (s .pre .1 .0, place-in (s .args .pieces) (s .args .marks .now) _ (s .pre .1) (omega arith)))
 
 add-q : tie.Need-add-q Inv-loop μ-loop
 add-q c =

@@ -1,11 +1,12 @@
--- `sheet_step::kernel::marks::average_marks` meets its contract. Assumes nothing.
+-- `marks::kernel::average_marks` meets its contract. Assumes nothing.
 use Prim.Native.Nat.{_*_, _+_, _-_, _<_, _≤_}
-use lib.ListN.{length}
+use Rattle.marks.specs.Bytes.{placesIn}
 use mathlib.Core.Path.{_∙_, _≡_}
 use native.Mathlib.Omega.{arith}
-use Rattle.sheet_step.proofs.MarkLaws.{averaged-all, averaged-length, averaged-more, averaged-none, someAveraged}
-use Rattle.sheet_step.proofs.kernel.marks.average_marks.Statement.{statement}
-use Rattle.sheet_step.proofs.kernel.marks.average_marks.Tie as tie
+use Rattle.marks.proofs.BytesLaws.{small-mark}
+use Rattle.marks.proofs.MarkLaws.{averaged-all, averaged-length, averaged-more, averaged-none, someAveraged}
+use Rattle.marks.proofs.kernel.average_marks.Statement.{statement}
+use Rattle.marks.proofs.kernel.average_marks.Tie as tie
 
 abbrev Inv-loop : tie.InvT-loop
 Inv-loop pairs marks₀ t base k₀ marks k =
@@ -17,7 +18,7 @@ abbrev μ-loop : tie.MeasureT-loop
 
 mul-base : tie.Need-mul-base Inv-loop μ-loop
 mul-base c =
-    omega arith
+    omega (arith, c .before .pre .1 .0, c .before .pre .1 .1)
 
 loop-holds : tie.Need-loop-holds Inv-loop μ-loop
 loop-holds c =
@@ -25,11 +26,14 @@ loop-holds c =
 
 add-set-mark : tie.Need-add-set-mark Inv-loop μ-loop
 add-set-mark c =
-    omega arith
+    omega (arith, c .before .before .before .before .pre .1 .0, c .before .before .before .before .pre .1 .1)
 
 set-mark-requires : tie.Need-set-mark-requires Inv-loop μ-loop
 set-mark-requires c κs =
-    rw (c .before .before .loop .inv .1, averaged-length (c .before .before .before .before .args .pairs) (c .before .before .before .before .args .t) (c .before .before .before .before .args .marks .now) (c .before .before .loop .k)) (let h : c .before .before .before .before .args .t * c .before .before .before .before .args .pairs + c .before .before .loop .k < length (c .before .before .before .before .args .marks .now) = omega arith in h)
+    let s : _ = c .before .before .before .before in
+    let k = c .before .before .loop .k in
+    let h : s .args .t * s .args .pairs + k < placesIn (s .args .marks .now) = omega (arith, s .pre .1 .1) in
+    (rw (c .before .before .loop .inv .1, averaged-length (s .args .pairs) (s .args .t) (s .args .marks .now) k) h, small-mark 2 (omega arith))
 
 add-k : tie.Need-add-k Inv-loop μ-loop
 add-k c =

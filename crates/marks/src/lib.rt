@@ -1,0 +1,2 @@
+// The marks of a sheet.
+pub mod kernel;
