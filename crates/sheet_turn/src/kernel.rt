@@ -13,9 +13,9 @@ use bzgrid::BzGrid;
 use sheet_marks::Tally;
 use sheet_step::kernel::asks;
 use sheet_step::kernel::marks as mark;
-use triplet_channels::TpType;
 use triplet_piece::Sizes;
 use triplet_study::Shape;
+use triplet_types::TpType;
 
 // Runs the piece of a triplet and two bands. Questions 14, 15, 20.
 pub fn run_asked(

@@ -5,7 +5,7 @@ use Rattle.sheet_step.specs.Steps.{Sheet, sheet, carry}
 use Rattle.triplet_study.proofs.GivenLaws.{few-counts, sizes-same}
 use Rattle.triplet_study.specs.Given.{Given, given}
 use Rattle.triplet_corners.proofs.CornerLaws.{second-length, second-lent}
-use Rattle.triplet_channels.specs.Types.{tpTypeOf}
+use Rattle.triplet_types.specs.Types.{tpTypeOf}
 use Rattle.bzgrid.specs.Neighbours.{gridOf}
 use Rattle.list_laws.proofs.SignedLaws.{back}
 use lib.ListN.{length}
@@ -18,7 +18,7 @@ use Rattle.sheet_list.proofs.along.play_asked.Reads as reads
 use Rattle.sheet_list.proofs.along.play_asked.Lts as lts
 use Rattle.bzgrid.proofs.kernel.grid_of.Reads as grid-of-reads
 use Rattle.sheet_list.proofs.along.play_prepared.Reads as play-prepared-reads
-use Rattle.triplet_channels.proofs.kernel.types.tp_type_of.Reads as tp-type-of-reads
+use Rattle.triplet_types.proofs.kernel.tp_type_of.Reads as tp-type-of-reads
 use Rattle.triplet_corners.proofs.kernel.second_steps.Reads as second-steps-reads
 use Rattle.triplet_study.proofs.kernel.sizes_of.Reads as sizes-of-reads
 
