@@ -1,8 +1,8 @@
--- `replay_input::kernel::report::print_refused` is safe and ends: the measure is how many numbers are left. Assumes nothing.
+-- `replay_report::kernel::print_refused` is safe and ends: the measure is how many numbers are left. Assumes nothing.
 use borrow.Author.Needs.{needs}
 use Prim.Native.Nat.{_-_}
-use Rattle.replay_input.proofs.kernel.report.print_refused.Statement.{statement}
-use Rattle.replay_input.proofs.kernel.report.print_refused.Tie as tie
+use Rattle.replay_report.proofs.kernel.print_refused.Statement.{statement}
+use Rattle.replay_report.proofs.kernel.print_refused.Tie as tie
 
 abbrev Inv-loop : tie.InvT-loop
 Inv-loop refused k₀ t4 t5 k = Unit

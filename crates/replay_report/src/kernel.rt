@@ -2,8 +2,7 @@
 ghost use mathlib.Core.Path.{_≡_};
 ghost use mathlib.Core.Bool.{cond};
 ghost use lib.ListN.{replicate};
-ghost use Rattle.replay_input.specs.Report.{oneMore, refusedMore};
-use crate::kernel::Cursor;
+ghost use Rattle.replay_report.specs.Report.{oneMore, refusedMore};
 
 // Cases of one kind: how many, how many agree with the stored answer, how many differ, and how many were to be refused, by number.
 pub struct Count {
@@ -11,13 +10,6 @@ pub struct Count {
     pub agree: u64,
     pub differ: u64,
     pub refused: [u64; 21],
-}
-
-// One case: the number it was to be refused with, 0 where it was to be accepted, and whether the answer agrees.
-pub struct Judged {
-    pub refusal: u64,
-    pub agrees: bool,
-    pub next: Cursor,
 }
 
 // No case yet.

@@ -2,7 +2,7 @@
 ghost use mathlib.Core.Path.{_≡_};
 ghost use lib.Dec.{eqb};
 ghost use lib.Ieee.{binary64, toBits};
-ghost use Rattle.replay_input.specs.Sameness.{sameNumbers, allAre};
+ghost use Rattle.replay_compare.specs.Sameness.{sameNumbers, allAre};
 
 // Whether two lists are equal.
 pub fn same(a: &[i64], b: &[i64]) -> bool

@@ -1,4 +1,4 @@
--- `replay_input::kernel::compare::same` meets its contract: at each turn `ok` speaks of the first i places. Assumes nothing.
+-- `replay_compare::kernel::same` meets its contract: at each turn `ok` speaks of the first i places. Assumes nothing.
 use borrow.Author.Tests.{eq-eqb, ne-eqb}
 use native.Mathlib.Omega.{arith}
 use borrow.Author.Needs.{needs}
@@ -9,9 +9,9 @@ use Rattle.list_laws.proofs.SignedLaws.{back}
 use Rattle.list_laws.specs.Lists.{allBelow, at}
 use Rattle.list_laws.specs.Signed.{eqZ}
 use Rattle.list_laws.proofs.BelowLaws.{below-none, below-next, below-end}
-use Rattle.replay_input.specs.Sameness.{sameNumbers}
-use Rattle.replay_input.proofs.kernel.compare.same.Statement.{statement}
-use Rattle.replay_input.proofs.kernel.compare.same.Tie as tie
+use Rattle.replay_compare.specs.Sameness.{sameNumbers}
+use Rattle.replay_compare.proofs.kernel.same.Statement.{statement}
+use Rattle.replay_compare.proofs.kernel.same.Tie as tie
 
 abbrev Inv-loop : tie.InvT-loop
 Inv-loop a b ok₀ i₀ ok i = (i ≤ length a) × (length a ≡ length b) × (ok ≡ allBelow i (λ k. eqZ (at a k) (at b k)))

@@ -1,10 +1,10 @@
--- `replay_input::kernel::report::one_more` meets its contract. Assumes nothing.
+-- `replay_report::kernel::one_more` meets its contract. Assumes nothing.
 use borrow.Author.Tests.{lt-ltb, le-ltb}
 use native.Mathlib.Omega.{arith}
 use borrow.Author.Needs.{needs}
-use Rattle.replay_input.specs.Report.{oneMore}
-use Rattle.replay_input.proofs.kernel.report.one_more.Statement.{statement}
-use Rattle.replay_input.proofs.kernel.report.one_more.Tie as tie
+use Rattle.replay_report.specs.Report.{oneMore}
+use Rattle.replay_report.proofs.kernel.one_more.Statement.{statement}
+use Rattle.replay_report.proofs.kernel.one_more.Tie as tie
 
 add-result : tie.Need-add-result
 add-result c = search needs

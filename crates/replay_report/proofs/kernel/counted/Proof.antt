@@ -1,7 +1,7 @@
--- `replay_input::kernel::report::counted` meets its contract, where the case agrees and where it differs. Assumes nothing.
+-- `replay_report::kernel::counted` meets its contract, where the case agrees and where it differs. Assumes nothing.
 use borrow.Author.Needs.{needs}
-use Rattle.replay_input.proofs.kernel.report.counted.Statement.{statement}
-use Rattle.replay_input.proofs.kernel.report.counted.Tie as tie
+use Rattle.replay_report.proofs.kernel.counted.Statement.{statement}
+use Rattle.replay_report.proofs.kernel.counted.Tie as tie
 
 one-more-requires : tie.Need-one-more-requires
 one-more-requires c κs = search needs

@@ -1,4 +1,4 @@
--- `replay_input::kernel::compare::all_are` meets its contract: at each turn `ok` speaks of the first i places. Assumes nothing.
+-- `replay_compare::kernel::all_are` meets its contract: at each turn `ok` speaks of the first i places. Assumes nothing.
 use mir.Syntax.{w64}
 use mir.Val.{toZ}
 use mir.Facts.{toZ-ofZ}
@@ -11,9 +11,9 @@ use lib.ListN.{length}
 use Rattle.list_laws.specs.Lists.{allBelow, at}
 use Rattle.list_laws.specs.Signed.{eqZ}
 use Rattle.list_laws.proofs.BelowLaws.{below-none, below-next, below-end}
-use Rattle.replay_input.specs.Sameness.{allAre}
-use Rattle.replay_input.proofs.kernel.compare.all_are.Statement.{statement}
-use Rattle.replay_input.proofs.kernel.compare.all_are.Tie as tie
+use Rattle.replay_compare.specs.Sameness.{allAre}
+use Rattle.replay_compare.proofs.kernel.all_are.Statement.{statement}
+use Rattle.replay_compare.proofs.kernel.all_are.Tie as tie
 
 abbrev Inv-loop : tie.InvT-loop
 Inv-loop a value ok₀ i₀ ok i = (i ≤ length a) × (ok ≡ allBelow i (λ k. eqZ (at a k) (toZ w64 value)))

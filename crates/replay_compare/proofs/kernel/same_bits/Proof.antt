@@ -1,7 +1,7 @@
--- `replay_input::kernel::compare::same_bits` meets its contract. Assumes nothing.
+-- `replay_compare::kernel::same_bits` meets its contract. Assumes nothing.
 use borrow.Author.Needs.{needs}
-use Rattle.replay_input.proofs.kernel.compare.same_bits.Statement.{statement}
-use Rattle.replay_input.proofs.kernel.compare.same_bits.Tie as tie
+use Rattle.replay_compare.proofs.kernel.same_bits.Statement.{statement}
+use Rattle.replay_compare.proofs.kernel.same_bits.Tie as tie
 
 bits-of-requires : tie.Need-bits-of-requires
 bits-of-requires c κs = search needs

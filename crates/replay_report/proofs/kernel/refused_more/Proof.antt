@@ -1,10 +1,10 @@
--- `replay_input::kernel::report::refused_more` meets its contract: number 0 and numbers above 20 change nothing. Assumes nothing.
+-- `replay_report::kernel::refused_more` meets its contract: number 0 and numbers above 20 change nothing. Assumes nothing.
 use borrow.Author.Tests.{lt-ltb, le-ltb}
 use native.Mathlib.Omega.{arith}
 use borrow.Author.Needs.{needs}
-use Rattle.replay_input.specs.Report.{refusedMore}
-use Rattle.replay_input.proofs.kernel.report.refused_more.Statement.{statement}
-use Rattle.replay_input.proofs.kernel.report.refused_more.Tie as tie
+use Rattle.replay_report.specs.Report.{refusedMore}
+use Rattle.replay_report.proofs.kernel.refused_more.Statement.{statement}
+use Rattle.replay_report.proofs.kernel.refused_more.Tie as tie
 
 mul-one-more : tie.Need-mul-one-more
 mul-one-more c = search needs
