@@ -14,10 +14,10 @@ use Rattle.ask.specs.Ask.{firstNo, AllYes}
 use Rattle.questions.specs.Studies.{tripletsIn, areStudyCounts}
 use Rattle.question_values.specs.TpTypes.{isTpType, channelsOf}
 use Rattle.ask.proofs.AskLaws.{all-yes}
-use Rattle.triplet_channels.specs.Types.{tpTypeOf, channelCount}
-use Rattle.triplet_channels.specs.declared.TpType.{TpType}
-use Rattle.triplet_channels.specs.declared.TpType.the-variants.{Type2, Type3, Type4}
-use Rattle.triplet_channels.proofs.ValueLaws.{channels-of-type}
+use Rattle.triplet_types.specs.Types.{tpTypeOf, channelCount}
+use Rattle.triplet_types.specs.declared.TpType.{TpType}
+use Rattle.triplet_types.specs.declared.TpType.the-variants.{Type2, Type3, Type4}
+use Rattle.triplet_types.proofs.TypeLaws.{channels-of-type}
 use Rattle.triplet_piece.specs.declared.Sizes.{Sizes}
 use Rattle.triplet_piece.specs.Study.{sizesOf, flagAt, Ready}
 use Rattle.triplet_study.specs.Given.{Given, givenQuestions, studyOf, sizesBy}

@@ -21,9 +21,9 @@ use Rattle.tetrahedron_tables.specs.Tables.{tableOf, flat}
 use Rattle.relative_grid_address.specs.Diagonal.{mainDiagonalOf}
 use Rattle.relative_grid_address.specs.Answer.{latticeQuestions, tableAnswer}
 use Rattle.relative_grid_address.specs.declared.TableAnswer.{TableAnswer}
-use Rattle.triplet_channels.specs.Types.{tpTypeOf, tpTypeAnswer}
-use Rattle.triplet_channels.specs.declared.TpType.{TpType}
-use Rattle.triplet_channels.specs.declared.TpTypeAnswer.the-variants as type
+use Rattle.triplet_types.specs.Types.{tpTypeOf, tpTypeAnswer}
+use Rattle.triplet_types.specs.declared.TpType.{TpType}
+use Rattle.triplet_types.specs.declared.TpTypeAnswer.the-variants as type
 use Rattle.pelmetsavory.specs.Calls.{indexQuestions, typeQuestions}
 
 -- ---- the grid index

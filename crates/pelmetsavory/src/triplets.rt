@@ -1,7 +1,7 @@
 // What the Rust has in triplet.rs and triplet_iw.rs.
 ghost use mathlib.Core.Path.{_≡_};
 ghost use lib.ListN.{length};
-ghost use Rattle.triplet_channels.specs.Types.{tpTypeOf, channelCount};
+ghost use Rattle.triplet_types.specs.Types.{tpTypeOf, channelCount};
 ghost use Rattle.ask.specs.Ask.{firstNo, afterCall};
 ghost use Rattle.triplet_study.specs.Lent.{studyIn, studyOfOne};
 ghost use Rattle.averaging.specs.Answers.{averagingNo, weightsAfter, flagsAfter};
@@ -13,9 +13,9 @@ use crate::choice;
 use ask::kernel::number_of;
 use sheet::Shape;
 use triplet_addresses::IsNAnswer;
-use triplet_channels::TpType;
-use triplet_channels::TpTypeAnswer;
 use triplet_iw::WeightsAnswer;
+use triplet_types::TpType;
+use triplet_types::TpTypeAnswer;
 
 // The weights and flags of all triplets. Questions 3 to 12.
 #[no_mangle]

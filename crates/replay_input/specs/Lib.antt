@@ -1,5 +1,3 @@
 -- The definitions.
 pub mod Fields
-pub mod Sameness
-pub mod Report
 pub mod Stamps

@@ -1,6 +1,4 @@
 // The readers.
-pub mod compare;
-pub mod report;
 pub mod stamps;
 
 ghost use Prim.Native.Nat.{_≤_, min};
@@ -42,6 +40,13 @@ pub struct Real {
 // How many numbers a list put at the start of a buffer.
 pub struct Listed {
     pub count: usize,
+    pub next: Cursor,
+}
+
+// One case: the number it was to be refused with, 0 where it was to be accepted, and whether the answer agrees.
+pub struct Judged {
+    pub refusal: u64,
+    pub agrees: bool,
     pub next: Cursor,
 }
 

@@ -8,7 +8,7 @@ use lib.IntN.{ℤ, pos}
 use lib.ListN.{length}
 use Rattle.list_laws.specs.Lists.{at}
 use Rattle.list_laws.proofs.FillLaws.{length-area}
-use Rattle.triplet_channels.specs.declared.TpType.{TpType}
+use Rattle.triplet_types.specs.declared.TpType.{TpType}
 use Rattle.triplet_corners.specs.Corners.{stepOf, secondArea}
 use Rattle.triplet_study.specs.Given.{Given}
 use Rattle.sheet_marks.specs.declared.SheetAnswer.{SheetAnswer}

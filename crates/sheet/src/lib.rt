@@ -69,7 +69,7 @@ pub fn run_piece(
     let tp_type = shape.tp_type;
     let bz_grid_type = shape.bz_grid_type;
     let d_diag = shape.d_diag;
-    let tp = triplet_channels::kernel::types::tp_type_of(tp_type);
+    let tp = triplet_types::kernel::tp_type_of(tp_type);
     let grid = bzgrid::kernel::grid_of(bz_grid_type, d_diag);
     let second = triplet_corners::kernel::second_steps(tp, relative_grid_address);
     let m = relative_grid_address.len();
@@ -162,7 +162,7 @@ pub fn carry_on(
     let tp_type = shape.tp_type;
     let bz_grid_type = shape.bz_grid_type;
     let d_diag = shape.d_diag;
-    let tp = triplet_channels::kernel::types::tp_type_of(tp_type);
+    let tp = triplet_types::kernel::tp_type_of(tp_type);
     let grid = bzgrid::kernel::grid_of(bz_grid_type, d_diag);
     let second = triplet_corners::kernel::second_steps(tp, relative_grid_address);
     let m = relative_grid_address.len();

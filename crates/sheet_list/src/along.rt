@@ -10,9 +10,9 @@ ghost use Rattle.sheet_list.specs.Play.{outcome, outcomeOf};
 use crate::asks;
 use crate::turns;
 use bzgrid::BzGrid;
-use triplet_channels::TpType;
 use triplet_piece::Sizes;
 use triplet_study::Shape;
+use triplet_types::TpType;
 
 // Runs the calls, and gives the tally after the last. The corners of a triplet are looked up once for runs that follow each other.
 fn play_prepared(
@@ -127,7 +127,7 @@ fn play_asked(
     let tp_type = shape.tp_type;
     let bz_grid_type = shape.bz_grid_type;
     let d_diag = shape.d_diag;
-    let tp = triplet_channels::kernel::types::tp_type_of(tp_type);
+    let tp = triplet_types::kernel::tp_type_of(tp_type);
     let grid = bzgrid::kernel::grid_of(bz_grid_type, d_diag);
     let second = triplet_corners::kernel::second_steps(tp, steps);
     let m = steps.len();

@@ -14,9 +14,9 @@ use crate::calls;
 use bzgrid::BzGrid;
 use sheet_turn::Turn;
 use sheet_turn::kernel;
-use triplet_channels::TpType;
 use triplet_piece::Sizes;
 use triplet_study::Shape;
+use triplet_types::TpType;
 
 // Call `i` of a list.
 pub fn one_turn(

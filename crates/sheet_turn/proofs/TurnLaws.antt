@@ -16,7 +16,7 @@ use Rattle.question_grids.specs.Grids.{areTriples}
 use Rattle.question_grids.specs.Tables.{rowsIn}
 use Rattle.ask.proofs.AskLaws.{group-no, group-yes, after-done}
 use Rattle.bzgrid.specs.declared.BzGrid.{BzGrid}
-use Rattle.triplet_channels.specs.declared.TpType.{TpType}
+use Rattle.triplet_types.specs.declared.TpType.{TpType}
 use Rattle.triplet_piece.specs.declared.Sizes.{Sizes}
 use Rattle.triplet_piece.specs.Study.{Study, study, Ready, computedWeights, computedFlags}
 use Rattle.triplet_study.specs.Given.{Given, studyOf}

@@ -10,8 +10,8 @@ use Rattle.ask.specs.Ask.{firstNo}
 use Rattle.question_grids.specs.Tables.{rowsIn}
 use Rattle.bzgrid.specs.declared.BzGrid.{BzGrid}
 use Rattle.bzgrid.specs.Neighbours.{gridOf}
-use Rattle.triplet_channels.specs.declared.TpType.{TpType}
-use Rattle.triplet_channels.specs.Types.{tpTypeOf}
+use Rattle.triplet_types.specs.declared.TpType.{TpType}
+use Rattle.triplet_types.specs.Types.{tpTypeOf}
 use Rattle.triplet_corners.specs.Corners.{secondSteps}
 use Rattle.triplet_piece.specs.declared.Sizes.{Sizes}
 use Rattle.triplet_study.specs.Given.{Given}

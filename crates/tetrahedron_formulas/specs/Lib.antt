@@ -1,4 +1,2 @@
 -- The definitions.
-pub mod Density
-pub mod States
 pub mod Choice

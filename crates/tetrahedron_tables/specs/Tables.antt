@@ -1,7 +1,7 @@
 -- The neighbour tables of the tetrahedron method, one for each main diagonal: 24 rows (tetrahedra) by four corners of three whole numbers, in the source's row and corner order, and the rule that they keep.
 use mathlib.Core.Bool.{Bool, _&&_, _||_}
 use mathlib.Core.List.{List, [], _∷_, flatten}
-use Prim.Native.Nat.{ℕ, zero, suc}
+use Prim.Native.Nat.{ℕ, zero, suc, _/_, _%_}
 use lib.IntN.{ℤ, pos, negsuc, _+ℤ_, _-ℤ_, _*ℤ_}
 use lib.ListN.{getD}
 use Rattle.list_laws.specs.Signed.{eqZ}
@@ -149,6 +149,10 @@ tableOf (suc (suc (suc t))) = table3
 -- component k of corner c of row r
 abbrev pub component : List (List (List ℤ)) → ℕ → ℕ → ℕ → ℤ
 component table r c k = getD (getD (getD table r []) c []) k (pos 0)
+
+-- number j of the twelve of row r: of a corner its three components, one corner after another
+abbrev pub entry : List (List (List ℤ)) → ℕ → ℕ → ℤ
+entry table r j = component table r (j / 3) (j % 3)
 
 -- a table's 288 numbers, row by row, corner by corner, component by component
 unfoldable pub flat : List (List (List ℤ)) → List ℤ

@@ -9,8 +9,8 @@ use Rattle.list_laws.specs.Lists.{at}
 use Rattle.list_laws.specs.Signed.{isNat}
 use Rattle.list_laws.proofs.FillLaws.{area-front, tabulate-ext}
 use Rattle.triplet_addresses.specs.Copies.{isNegated, stepOf as copyStep, copyOf, copiesOf, bothCopies}
-use Rattle.triplet_channels.specs.declared.TpType.the-variants.{Type2, Type3, Type4}
-use Rattle.triplet_channels.specs.Types.{tpTypeOf}
+use Rattle.triplet_types.specs.declared.TpType.the-variants.{Type2, Type3, Type4}
+use Rattle.triplet_types.specs.Types.{tpTypeOf}
 use Rattle.triplet_corners.specs.Corners.{stepOf, secondSteps, secondArea}
 use Rattle.triplet_corners.proofs.CornerLaws.{second-front}
 

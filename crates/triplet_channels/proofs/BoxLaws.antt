@@ -9,8 +9,8 @@ use lib.Ieee.{Float, nan, lt, isNan}
 use lib.ListN.{getD}
 use Rattle.list_laws.proofs.BoolLaws.{and-both, lt-or-le}
 use Rattle.ieee_laws.proofs.OrderLaws.{lt-asym, lt-irrefl, not-above-trans, not-above-le}
-use Rattle.triplet_channels.specs.Values.{leastOf, greatestOf, boxOf}
-use Rattle.triplet_channels.specs.Channels.{holds}
+use Rattle.triplet_values.specs.Values.{leastOf, greatestOf, boxOf}
+use Rattle.triplet_outputs.specs.Outputs.{holds}
 
 -- ---- the first of values a 0, a 1, .. in an order r, kept in f from turn to turn
 

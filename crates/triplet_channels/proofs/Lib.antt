@@ -1,4 +1,3 @@
 -- Laws that several proofs cite.
-pub mod ValueLaws
 pub mod OrderedLaws
 pub mod BoxLaws

@@ -12,10 +12,10 @@ use Rattle.tetrahedron_method.specs.Weight.{weightOf}
 use Rattle.tetrahedron_method.specs.Sorted.{Ordered, sortedWeight}
 use Rattle.tetrahedron_method.specs.declared.WeightFunction.the-variants.{I}
 use Rattle.tetrahedron_method.proofs.SortedLaws.{weight-is, weight-same}
-use Rattle.triplet_channels.specs.declared.TpType.{TpType}
-use Rattle.triplet_channels.specs.declared.TpType.the-variants.{Type2, Type3, Type4}
-use Rattle.triplet_channels.specs.declared.ValueBox.{ValueBox}
-use Rattle.triplet_channels.specs.Values.{combined, channelValues, leastOf, greatestOf, boxOf, Begun}
+use Rattle.triplet_types.specs.declared.TpType.{TpType}
+use Rattle.triplet_types.specs.declared.TpType.the-variants.{Type2, Type3, Type4}
+use Rattle.triplet_values.specs.declared.ValueBox.{ValueBox}
+use Rattle.triplet_values.specs.Values.{combined, channelValues, leastOf, greatestOf, boxOf, Begun}
 use Rattle.triplet_channels.specs.Channels.{channelAt, furtherAt, outputsAt}
 use Rattle.triplet_channels.specs.Ordered.{furtherRows, orderedChannelAt, orderedFurtherAt, outputsOrdered}
 

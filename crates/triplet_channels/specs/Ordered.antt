@@ -5,13 +5,13 @@ use Prim.Native.Nat.{ℕ}
 use lib.Ieee.{Float}
 use Rattle.tetrahedron_method.specs.Sorted.{sortedWeight}
 use Rattle.tetrahedron_method.specs.declared.WeightFunction.the-variants.{I}
-use Rattle.triplet_channels.specs.declared.TpType.{TpType}
-use Rattle.triplet_channels.specs.declared.TpType.the-variants.{Type2, Type3, Type4}
-use Rattle.triplet_channels.specs.declared.ValueBox.{ValueBox}
-use Rattle.triplet_channels.specs.declared.Channel.{Channel}
-use Rattle.triplet_channels.specs.declared.Channel.the-variants.{Closed, Open}
-use Rattle.triplet_channels.specs.declared.Outputs.{Outputs}
-use Rattle.triplet_channels.specs.Channels.{holds, outputsBy}
+use Rattle.triplet_types.specs.declared.TpType.{TpType}
+use Rattle.triplet_types.specs.declared.TpType.the-variants.{Type2, Type3, Type4}
+use Rattle.triplet_values.specs.declared.ValueBox.{ValueBox}
+use Rattle.triplet_outputs.specs.declared.Channel.{Channel}
+use Rattle.triplet_outputs.specs.declared.Channel.the-variants.{Closed, Open}
+use Rattle.triplet_outputs.specs.declared.Outputs.{Outputs}
+use Rattle.triplet_outputs.specs.Outputs.{holds, outputsBy}
 
 -- how many rows the second and the third channel are given: none where there is "the first alone"
 abbrev pub furtherRows : TpType → ℕ → ℕ

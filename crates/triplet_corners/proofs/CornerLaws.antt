@@ -21,9 +21,9 @@ use Rattle.question_grids.proofs.GridLaws.{triples-at, triples-whole}
 use Rattle.bzgrid.specs.declared.BzGrid.{BzGrid}
 use Rattle.bzgrid.specs.Neighbours.{neighbourOf, wantedAddress, SoundGrid}
 use Rattle.bzgrid.proofs.NeighbourLaws.{neighbour-lt}
-use Rattle.triplet_channels.specs.declared.TpType.{TpType}
-use Rattle.triplet_channels.specs.declared.TpType.the-variants.{Type2, Type3, Type4}
-use Rattle.triplet_channels.specs.Values.{Held}
+use Rattle.triplet_types.specs.declared.TpType.{TpType}
+use Rattle.triplet_types.specs.declared.TpType.the-variants.{Type2, Type3, Type4}
+use Rattle.triplet_values.specs.Values.{Held}
 use Rattle.triplet_corners.specs.Corners.{stepOf, secondSteps, secondArea, cornerNumbers}
 
 pub small-neg : (z : ℤ) → within 4096 z ≡ true → within 4096 (negℤ z) ≡ true

@@ -7,8 +7,8 @@ use Rattle.list_laws.specs.Lists.{at, area}
 use Rattle.question_grids.specs.Grids.{triplesIn}
 use Rattle.bzgrid.specs.declared.BzGrid.{BzGrid}
 use Rattle.bzgrid.specs.Neighbours.{neighbourOf, wantedAddress}
-use Rattle.triplet_channels.specs.declared.TpType.{TpType}
-use Rattle.triplet_channels.specs.declared.TpType.the-variants.{Type2, Type3, Type4}
+use Rattle.triplet_types.specs.declared.TpType.{TpType}
+use Rattle.triplet_types.specs.declared.TpType.the-variants.{Type2, Type3, Type4}
 
 -- "For triplet types 2 and 3 the second copy is negated; for 4 it is not": one component
 abbrev pub stepOf : TpType → ℤ → ℤ

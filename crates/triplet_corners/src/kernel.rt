@@ -10,7 +10,7 @@ ghost use Rattle.question_grids.specs.Grids.{areTriples, triplesIn};
 ghost use Rattle.bzgrid.specs.Neighbours.{SoundGrid};
 ghost use Rattle.triplet_corners.specs.Corners.{stepOf, secondArea, cornerNumbers};
 use bzgrid::BzGrid;
-use triplet_channels::TpType;
+use triplet_types::TpType;
 
 // A tested component with its sign changed.
 fn negate(z: i64) -> i64

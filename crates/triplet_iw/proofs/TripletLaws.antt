@@ -12,7 +12,7 @@ use lib.IntN.{ℤ}
 use lib.ListN.{length}
 use borrow.Author.Tests.{eq-eqb, lt-ltb, le-ltb, ltb-true, ltb-false, eqb-true, eqb-false}
 use Rattle.list_laws.proofs.StrideLaws.{both-none, both-all}
-use Rattle.triplet_channels.specs.Values.{Held}
+use Rattle.triplet_values.specs.Values.{Held}
 use Rattle.triplet_corners.specs.Corners.{secondSteps}
 use Rattle.triplet_corners.proofs.CornerLaws.{corners-held, second-length}
 use Rattle.triplet_piece.specs.declared.Sizes.{Sizes}

@@ -11,9 +11,9 @@ ghost use Rattle.triplet_iw.specs.Whole.{allWeights, allFlags};
 ghost use Rattle.triplet_iw.specs.Calls.{DidFill};
 use crate::WeightsAnswer;
 use bzgrid::BzGrid;
-use triplet_channels::TpType;
 use triplet_piece::Sizes;
 use triplet_study::Shape;
+use triplet_types::TpType;
 
 // All pieces of triplet `t`: its corners are looked up once. `second` is the second copy of the steps.
 pub fn fill_triplet(
@@ -161,7 +161,7 @@ pub fn fill_given(
     let bz_grid_type = shape.bz_grid_type;
     let d_diag = shape.d_diag;
     let tp_type = shape.tp_type;
-    let tp = triplet_channels::kernel::types::tp_type_of(tp_type);
+    let tp = triplet_types::kernel::tp_type_of(tp_type);
     let grid = bzgrid::kernel::grid_of(bz_grid_type, d_diag);
     fill_triplets(
         weights,

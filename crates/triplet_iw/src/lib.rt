@@ -3,9 +3,9 @@ ghost use Rattle.triplet_study.specs.Lent.{studyOfOne};
 ghost use Rattle.triplet_iw.specs.Calls.{DidFill};
 pub use ask::Answer;
 pub use averaging::average_weights_over_degenerate_sets;
-pub use triplet_channels::TpType;
-pub use triplet_channels::TpTypeAnswer;
 pub use triplet_study::Shape;
+pub use triplet_types::TpType;
+pub use triplet_types::TpTypeAnswer;
 
 pub mod kernel;
 

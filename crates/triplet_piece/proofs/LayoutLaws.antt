@@ -14,7 +14,7 @@ use borrow.Author.Tests.{eq-eqb, lt-ltb, le-ltb, ltb-true, ltb-false, eqb-true, 
 use Rattle.list_laws.specs.Patch.{patch}
 use Rattle.list_laws.proofs.PatchLaws.{length-patch, patch-more, patch-none, patch-ext, patch-patch}
 use Rattle.list_laws.proofs.StrideLaws.{digits-eq, strided, strided-last, strided-else, both-none, both-all}
-use Rattle.triplet_channels.specs.declared.Outputs.{Outputs}
+use Rattle.triplet_outputs.specs.declared.Outputs.{Outputs}
 use Rattle.triplet_piece.specs.declared.Sizes.{Sizes}
 use Rattle.triplet_piece.specs.Layout.{tripletAt, pointAt, pairAt, pieceAt, cellOf, channelOf, cellWeights, pieceWeights, pieceFlags, Fitting}
 

@@ -11,7 +11,7 @@ use lib.ListN.{length}
 use borrow.Author.Tests.{eqb-true}
 use Rattle.list_laws.proofs.PatchLaws.{length-patch, patch-none, patch-ext, patch-patch}
 use Rattle.list_laws.proofs.ProductLaws.{digit-lt}
-use Rattle.triplet_channels.specs.declared.Outputs.{Outputs}
+use Rattle.triplet_outputs.specs.declared.Outputs.{Outputs}
 use Rattle.triplet_piece.specs.Layout.{pointAt, pieceAt, cellOf, channelOf, pieceWeights, pieceFlags, Fitting}
 use Rattle.triplet_piece.specs.Study.{Study, outputsOf, sizesOf, outputsAtCell, weightAt, flagAt, computedWeights, computedFlags}
 use Rattle.triplet_piece.proofs.LayoutLaws.{piece-cell, point-cell, piece-is, cell-lt}

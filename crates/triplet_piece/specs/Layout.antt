@@ -9,7 +9,7 @@ use lib.Ieee.{Float}
 use lib.IntN.{ℤ}
 use lib.ListN.{length}
 use Rattle.list_laws.specs.Patch.{patch}
-use Rattle.triplet_channels.specs.declared.Outputs.{Outputs}
+use Rattle.triplet_outputs.specs.declared.Outputs.{Outputs}
 use Rattle.triplet_piece.specs.declared.Sizes.{Sizes}
 
 -- of cell j, with so many points and band pairs: its triplet

@@ -13,10 +13,10 @@ use Rattle.question_grids.specs.Grids.{areTriples, triplesIn}
 use Rattle.question_grids.specs.Tables.{rowsIn}
 use Rattle.bzgrid.specs.declared.BzGrid.{BzGrid}
 use Rattle.bzgrid.specs.Neighbours.{SoundGrid}
-use Rattle.triplet_channels.specs.declared.TpType.{TpType}
-use Rattle.triplet_channels.specs.declared.Outputs.{Outputs}
-use Rattle.triplet_channels.specs.Types.{channelCount}
-use Rattle.triplet_channels.specs.Values.{cornerFrequencies, channelValues}
+use Rattle.triplet_types.specs.declared.TpType.{TpType}
+use Rattle.triplet_outputs.specs.declared.Outputs.{Outputs}
+use Rattle.triplet_types.specs.Types.{channelCount}
+use Rattle.triplet_values.specs.Values.{cornerFrequencies, channelValues}
 use Rattle.triplet_channels.specs.Channels.{outputsAt}
 use Rattle.triplet_corners.specs.Corners.{secondSteps, cornerNumbers}
 use Rattle.triplet_piece.specs.declared.Sizes.{Sizes}

@@ -3,14 +3,14 @@ ghost use mathlib.Core.Path.{_≡_};
 ghost use Prim.Native.Nat.{_+_, _*_, _<_, _≤_};
 ghost use lib.Ieee.{nan};
 ghost use lib.ListN.{getD, length};
-ghost use Rattle.triplet_channels.specs.Values.{Held};
+ghost use Rattle.triplet_values.specs.Values.{Held};
 ghost use Rattle.triplet_channels.specs.Ordered.{outputsOrdered};
 ghost use Rattle.triplet_piece.specs.Layout.{channelOf, cellWeights, pieceWeights, pieceFlags, Fitting, Areas};
 ghost use Rattle.triplet_piece.specs.Study.{outputsOfCorners};
 use crate::Sizes;
-use triplet_channels::Outputs;
-use triplet_channels::TpType;
-use triplet_channels::ValueBox;
+use triplet_outputs::Outputs;
+use triplet_types::TpType;
+use triplet_values::ValueBox;
 
 // The weight of an output channel.
 fn channel_of(o: Outputs, c: usize) -> f64
@@ -69,7 +69,7 @@ fn fill_points(
     let pairs = z.pairs;
     for x in 0..n {
         let cell = (t * n + x) * pairs + pair;
-        let o = triplet_channels::kernel::channels::outputs_at(
+        let o = triplet_channels::kernel::outputs_at(
             tp,
             points[x],
             s0,
@@ -130,32 +130,16 @@ pub fn fill_piece(
     let bands1 = z.bands1;
     let bands2 = z.bands2;
     let pair = b1 * bands2 + b2;
-    let further = triplet_channels::kernel::channels::further_rows(tp, rows);
+    let further = triplet_channels::kernel::further_rows(tp, rows);
     let m = further * 4;
-    triplet_channels::kernel::values::fill_frequencies(
-        f1,
-        tp,
-        numbers1,
-        n,
-        frequencies1,
-        bands1,
-        b1,
-    );
-    triplet_channels::kernel::values::fill_frequencies(
-        f2,
-        tp,
-        numbers2,
-        n,
-        frequencies2,
-        bands2,
-        b2,
-    );
-    triplet_channels::kernel::values::fill_channel(a0, 0, f1, f2, n);
-    triplet_channels::kernel::values::fill_channel(a1, 1, f1, f2, m);
-    triplet_channels::kernel::values::fill_channel(a2, 2, f1, f2, m);
-    let x0 = triplet_channels::kernel::values::box_of(a0, n);
-    let x1 = triplet_channels::kernel::values::box_of(a1, m);
-    let x2 = triplet_channels::kernel::values::box_of(a2, m);
+    triplet_values::kernel::fill_frequencies(f1, tp, numbers1, n, frequencies1, bands1, b1);
+    triplet_values::kernel::fill_frequencies(f2, tp, numbers2, n, frequencies2, bands2, b2);
+    triplet_values::kernel::fill_channel(a0, 0, f1, f2, n);
+    triplet_values::kernel::fill_channel(a1, 1, f1, f2, m);
+    triplet_values::kernel::fill_channel(a2, 2, f1, f2, m);
+    let x0 = triplet_values::kernel::box_of(a0, n);
+    let x1 = triplet_values::kernel::box_of(a1, m);
+    let x2 = triplet_values::kernel::box_of(a2, m);
     tetrahedron_method::kernel::sorted::sort_rows(a0, p0, rows);
     tetrahedron_method::kernel::sorted::sort_rows(a1, p1, further);
     tetrahedron_method::kernel::sorted::sort_rows(a2, p2, further);

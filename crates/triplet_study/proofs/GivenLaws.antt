@@ -13,8 +13,8 @@ use Rattle.question_grids.specs.Grids.{triplesIn}
 use Rattle.questions.proofs.StudyLaws.{SoundStudy, study-numbered, grid-yes, sound-study}
 use Rattle.bzgrid.specs.Neighbours.{gridOf, SoundGrid}
 use Rattle.bzgrid.proofs.CallLaws.{sound-grid}
-use Rattle.triplet_channels.specs.Types.{tpTypeOf}
-use Rattle.triplet_channels.proofs.ValueLaws.{channel-count-le}
+use Rattle.triplet_types.specs.Types.{tpTypeOf}
+use Rattle.triplet_types.proofs.TypeLaws.{channel-count-le}
 use Rattle.triplet_piece.specs.declared.Sizes.{Sizes}
 use Rattle.triplet_piece.specs.Study.{sizesOf, Ready}
 use Rattle.triplet_study.specs.Given.{Given, givenQuestions, studyOf, sizesBy, areLengths, FewSizes}

@@ -9,7 +9,7 @@ use lib.Signed.{mag}
 use Rattle.ask.specs.Ask.{Question}
 use Rattle.questions.specs.Studies.{studyQuestions}
 use Rattle.bzgrid.specs.Neighbours.{gridOf}
-use Rattle.triplet_channels.specs.Types.{tpTypeOf, channelCount}
+use Rattle.triplet_types.specs.Types.{tpTypeOf, channelCount}
 use Rattle.triplet_piece.specs.declared.Sizes.{Sizes}
 use Rattle.triplet_piece.specs.Study.{Study, study}
 use Rattle.triplet_study.specs.declared.Shape.{Shape}

@@ -50,7 +50,7 @@ pub fn sizes_of(shape: Shape, points: usize, triplets: usize) -> Sizes
     let tp_type = shape.tp_type;
     let num_band1 = shape.num_band1;
     let num_band2 = shape.num_band2;
-    let tp = triplet_channels::kernel::types::tp_type_of(tp_type);
+    let tp = triplet_types::kernel::tp_type_of(tp_type);
     let channels = tp.num_channels();
     let bands1 = common::kernel::magnitude(num_band1);
     let bands2 = common::kernel::magnitude(num_band2);

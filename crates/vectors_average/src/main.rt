@@ -9,12 +9,12 @@ ghost use Prim.Native.Nat.{_≤_, _<_};
 ghost use lib.ListN.{length};
 use ask::kernel::number_of;
 use common::kernel::magnitude;
+use replay_compare::kernel as compare;
 use replay_input::kernel as input;
 use replay_input::kernel::Cursor;
-use replay_input::kernel::compare;
-use replay_input::kernel::report;
-use replay_input::kernel::report::Count;
-use replay_input::kernel::report::Judged;
+use replay_input::kernel::Judged;
+use replay_report::kernel as report;
+use replay_report::kernel::Count;
 
 fn numbers() -> [i64; 4200]
     ensures { λ r. ⌜ 4200 ≡ length r ⌝ }

@@ -12,13 +12,13 @@ ghost use mathlib.Core.Path.{_≡_};
 ghost use lib.ListN.{length};
 use ask::Answer;
 use grgrid::IndexAnswer;
+use replay_compare::kernel as compare;
 use replay_input::kernel as input;
 use replay_input::kernel::Cursor;
-use replay_input::kernel::compare;
-use replay_input::kernel::report;
-use replay_input::kernel::report::Count;
-use replay_input::kernel::report::Judged;
+use replay_input::kernel::Judged;
 use replay_input::kernel::stamps;
+use replay_report::kernel as report;
+use replay_report::kernel::Count;
 
 fn numbers() -> [i64; 4200]
     ensures { λ r. ⌜ 4200 ≡ length r ⌝ }
@@ -26,18 +26,11 @@ fn numbers() -> [i64; 4200]
     [0; 4200]
 }
 
-fn many_numbers() -> [i64; 65537]
+// A number over and over.
+fn many_numbers(value: i64) -> [i64; 65537]
     ensures { λ r. ⌜ 65537 ≡ length r ⌝ }
 {
-    [0; 65537]
-}
-
-fn repeat(out: &mut [i64], value: i64) {
-    let mut i = 0;
-    while i < out.len() {
-        out[i] = value;
-        i += 1;
-    }
+    [value; 65537]
 }
 
 fn index_agrees(answer: IndexAnswer, refusal: u64, index: i64) -> bool {
@@ -211,45 +204,6 @@ fn many_case(
     }
 }
 
-fn repeated_agrees(answer: Answer, refusal: u64, out: &[i64], stored: i64) -> bool {
-    match answer {
-        Answer::Done => {
-            if refusal == 0 {
-                compare::all_are(out, stored)
-            } else {
-                false
-            }
-        }
-        Answer::Refused(_) => buffer_agrees(answer, refusal, out, out),
-    }
-}
-
-fn crowd_agrees(
-    out: &mut [i64],
-    points: &mut [i64],
-    point: i64,
-    steps: &[i64],
-    kind: i64,
-    mesh: [i64; 3],
-    addresses: &[i64],
-    map: &[i64],
-    refusal: u64,
-    stored: i64,
-) -> bool {
-    repeat(points, point);
-    stamps::stamp(out);
-    let answer = neighbours::neighboring_grid_points_many(
-        out,
-        points,
-        steps,
-        kind,
-        mesh,
-        addresses,
-        map,
-    );
-    repeated_agrees(answer, refusal, out, stored)
-}
-
 fn crowd_case(
     text: &[u8],
     c: Cursor,
@@ -261,29 +215,28 @@ fn crowd_case(
     let refusal = input::next_count(text, c);
     let times = input::next_count(text, refusal.next);
     let point = input::next_whole(text, times.next);
+    let points = many_numbers(point.value);
+    let q = input::part_of(times.value, &points);
+    let mut out = many_numbers(0);
     let mut steps = numbers();
     let s = input::fill_wholes(text, point.next, &mut steps);
     let room = input::next_count(text, s.next);
     let stored = input::next_whole(text, room.next);
-    let mut points = many_numbers();
-    let mut out = many_numbers();
-    let q = input::part_of(times.value, &points);
+    let all = many_numbers(stored.value);
     let n = input::part_of(room.value, &out);
-    let g = point.value;
+    let m = input::part_of(room.value, &all);
     let k = s.count;
-    let v = stored.value;
     let next = stored.next;
-    let agrees = crowd_agrees(
+    let agrees = many_agrees(
         &mut out[..n],
-        &mut points[..q],
-        g,
+        &points[..q],
         &steps[..k],
         kind,
         mesh,
         addresses,
         map,
         refusal.value,
-        v,
+        &all[..m],
     );
     Judged {
         refusal: refusal.value,
@@ -292,7 +245,7 @@ fn crowd_case(
     }
 }
 
-// A call on the grid whose record starts at grid.
+// A call on the grid whose record starts at grid; after record 2, which is the grid, nothing but where the next record starts.
 fn neighbour_case(text: &[u8], grid: Cursor, c: Cursor, record: u64) -> Judged {
     let kind = input::next_whole(text, grid);
     let mesh = input::next_three(text, kind.next);
@@ -304,6 +257,14 @@ fn neighbour_case(text: &[u8], grid: Cursor, c: Cursor, record: u64) -> Judged {
     let d = mesh.value;
     let p = a.count;
     let v = m.count;
+    let next = m.next;
+    if record == 2 {
+        return Judged {
+            refusal: 0,
+            agrees: true,
+            next,
+        };
+    }
     if record == 3 {
         return one_case(text, c, k, d, &addresses[..p], &map[..v]);
     }
@@ -311,16 +272,6 @@ fn neighbour_case(text: &[u8], grid: Cursor, c: Cursor, record: u64) -> Judged {
         return many_case(text, c, k, d, &addresses[..p], &map[..v]);
     }
     crowd_case(text, c, k, d, &addresses[..p], &map[..v])
-}
-
-// Where the record after a grid starts.
-fn after_grid(text: &[u8], c: Cursor) -> Cursor {
-    let kind = input::next_whole(text, c);
-    let mesh = input::next_three(text, kind.next);
-    let mut list = numbers();
-    let a = input::fill_wholes(text, mesh.next, &mut list);
-    let m = input::fill_wholes(text, a.next, &mut list);
-    m.next
 }
 
 struct Counts {
@@ -348,14 +299,14 @@ fn replayed(text: &[u8], before: Counts) -> Counts {
             let j = index_case(text, start);
             index = report::counted(b"index", index, j.refusal, j.agrees);
             c = j.next;
-        } else if record.value == 2 {
-            grid = start;
-            c = after_grid(text, start);
         } else {
+            if record.value == 2 {
+                grid = start;
+            }
             let j = neighbour_case(text, grid, start, record.value);
             if record.value == 3 {
                 one = report::counted(b"one", one, j.refusal, j.agrees);
-            } else {
+            } else if record.value != 2 {
                 many = report::counted(b"many", many, j.refusal, j.agrees);
             }
             c = j.next;

@@ -12,13 +12,13 @@
 ghost use mathlib.Core.Path.{_≡_};
 ghost use lib.ListN.{length};
 use ask::Answer;
+use replay_compare::kernel as compare;
 use replay_input::kernel as input;
 use replay_input::kernel::Cursor;
-use replay_input::kernel::compare;
-use replay_input::kernel::report;
-use replay_input::kernel::report::Count;
-use replay_input::kernel::report::Judged;
+use replay_input::kernel::Judged;
 use replay_input::kernel::stamps;
+use replay_report::kernel as report;
+use replay_report::kernel::Count;
 use tetrahedron_method::WeightFunction;
 use triplet_addresses::IsNAnswer;
 
@@ -28,10 +28,11 @@ fn numbers() -> [i64; 4200]
     [0; 4200]
 }
 
-fn many_numbers() -> [i64; 65537]
+// A number over and over.
+fn many_numbers(value: i64) -> [i64; 65537]
     ensures { λ r. ⌜ 65537 ≡ length r ⌝ }
 {
-    [0; 65537]
+    [value; 65537]
 }
 
 fn reals() -> [f64; 4200]
@@ -40,21 +41,13 @@ fn reals() -> [f64; 4200]
     [0.0; 4200]
 }
 
-fn many_reals() -> [f64; 65537]
+fn many_reals(value: f64) -> [f64; 65537]
     ensures { λ r. ⌜ 65537 ≡ length r ⌝ }
 {
-    [0.0; 65537]
+    [value; 65537]
 }
 
 // ---- lists
-
-fn repeat(out: &mut [i64], value: i64) {
-    let mut i = 0;
-    while i < out.len() {
-        out[i] = value;
-        i += 1;
-    }
-}
 
 fn same_reals(a: &[f64], b: &[f64]) -> bool {
     if a.len() != b.len() {
@@ -63,17 +56,6 @@ fn same_reals(a: &[f64], b: &[f64]) -> bool {
     let mut i = 0;
     while i < a.len() {
         if !compare::same_bits(a[i], b[i]) {
-            return false;
-        }
-        i += 1;
-    }
-    true
-}
-
-fn all_real(a: &[f64], value: f64) -> bool {
-    let mut i = 0;
-    while i < a.len() {
-        if !compare::same_bits(a[i], value) {
             return false;
         }
         i += 1;
@@ -108,20 +90,6 @@ fn weights_agree(answer: Answer, refusal: u64, iw: &[f64], stored: &[f64]) -> bo
                 false
             }
         }
-    }
-}
-
-// The same where every weight is the stored one.
-fn equal_weights_agree(answer: Answer, refusal: u64, iw: &[f64], stored: f64) -> bool {
-    match answer {
-        Answer::Done => {
-            if refusal == 0 {
-                all_real(iw, stored)
-            } else {
-                false
-            }
-        }
-        Answer::Refused(_) => weights_agree(answer, refusal, iw, iw),
     }
 }
 
@@ -161,44 +129,7 @@ fn call_agrees(
     weights_agree(answer, refusal, iw, stored)
 }
 
-fn crowd_agrees(
-    iw: &mut [f64],
-    points: &[f64],
-    table: &[i64],
-    grid_points: &mut [i64],
-    grid_point: i64,
-    frequencies: &[f64],
-    num_ir: i64,
-    kind: i64,
-    mesh: [i64; 3],
-    addresses: &[i64],
-    map: &[i64],
-    irreducible: &[i64],
-    function: WeightFunction,
-    refusal: u64,
-    stored: f64,
-) -> bool {
-    repeat(grid_points, grid_point);
-    stamps::mark(iw);
-    let answer = grid_point_weights::integration_weights_at_grid_points(
-        iw,
-        points,
-        table,
-        grid_points,
-        frequencies,
-        1,
-        num_ir,
-        kind,
-        mesh,
-        addresses,
-        map,
-        irreducible,
-        function,
-    );
-    equal_weights_agree(answer, refusal, iw, stored)
-}
-
-fn call_case(
+fn list_case(
     text: &[u8],
     c: Cursor,
     kind: i64,
@@ -269,21 +200,21 @@ fn crowd_case(
     let point = input::next_whole(text, times.next);
     let room = input::next_count(text, point.next);
     let stored = input::next_real(text, room.next);
-    let mut grid_points = many_numbers();
-    let mut iw = many_reals();
+    let grid_points = many_numbers(point.value);
+    let all = many_reals(stored.value);
+    let mut iw = many_reals(0.0);
     let q = input::part_of(times.value, &grid_points);
     let n = input::room_of(room.value, &iw);
+    let m = input::room_of(room.value, &all);
     let r = num_ir.value;
-    let g = point.value;
-    let v = stored.value;
     let next = stored.next;
-    let agrees = crowd_agrees(
+    let agrees = call_agrees(
         &mut iw[..n],
         points,
         table,
-        &mut grid_points[..q],
-        g,
+        &grid_points[..q],
         frequencies,
+        1,
         r,
         kind,
         mesh,
@@ -292,7 +223,7 @@ fn crowd_case(
         irreducible,
         function_of(which.value),
         refusal.value,
-        v,
+        &all[..m],
     );
     Judged {
         refusal: refusal.value,
@@ -301,7 +232,57 @@ fn crowd_case(
     }
 }
 
-// A call on the study whose record starts at study.
+fn call_case(
+    text: &[u8],
+    c: Cursor,
+    record: u64,
+    kind: i64,
+    mesh: [i64; 3],
+    addresses: &[i64],
+    map: &[i64],
+    table: &[i64],
+    irreducible: &[i64],
+    frequencies: &[f64],
+    points: &[f64],
+) -> Judged {
+    if record == 3 {
+        return list_case(
+            text,
+            c,
+            kind,
+            mesh,
+            addresses,
+            map,
+            table,
+            irreducible,
+            frequencies,
+            points,
+        );
+    }
+    crowd_case(
+        text,
+        c,
+        kind,
+        mesh,
+        addresses,
+        map,
+        table,
+        irreducible,
+        frequencies,
+        points,
+    )
+}
+
+// A record that is no case.
+fn read_only(next: Cursor) -> Judged {
+    Judged {
+        refusal: 0,
+        agrees: true,
+        next,
+    }
+}
+
+// A call on the study whose record starts at study; after record 2, which is the study, nothing but where the next record starts.
 fn study_case(
     text: &[u8],
     study: Cursor,
@@ -324,23 +305,14 @@ fn study_case(
     let ni = i.count;
     let nf = f.count;
     let nx = x.count;
-    if record == 3 {
-        return call_case(
-            text,
-            c,
-            kind,
-            mesh,
-            addresses,
-            map,
-            &table[..nt],
-            &irreducible[..ni],
-            &frequencies[..nf],
-            &points[..nx],
-        );
+    let next = x.next;
+    if record == 2 {
+        return read_only(next);
     }
-    crowd_case(
+    call_case(
         text,
         c,
+        record,
         kind,
         mesh,
         addresses,
@@ -352,7 +324,8 @@ fn study_case(
     )
 }
 
-// A call on the grid whose record starts at grid, and the study whose record starts at study.
+// A call on the grid whose record starts at grid, and the study whose record starts at study; after record 1, which is the grid, nothing
+// but where the next record starts.
 fn weights_case(text: &[u8], grid: Cursor, study: Cursor, c: Cursor, record: u64) -> Judged {
     let kind = input::next_whole(text, grid);
     let mesh = input::next_three(text, kind.next);
@@ -364,28 +337,11 @@ fn weights_case(text: &[u8], grid: Cursor, study: Cursor, c: Cursor, record: u64
     let d = mesh.value;
     let p = a.count;
     let v = m.count;
+    let next = m.next;
+    if record == 1 {
+        return read_only(next);
+    }
     study_case(text, study, c, record, k, d, &addresses[..p], &map[..v])
-}
-
-// Where the record after a grid starts.
-fn after_grid(text: &[u8], c: Cursor) -> Cursor {
-    let kind = input::next_whole(text, c);
-    let mesh = input::next_three(text, kind.next);
-    let mut list = numbers();
-    let a = input::fill_wholes(text, mesh.next, &mut list);
-    let m = input::fill_wholes(text, a.next, &mut list);
-    m.next
-}
-
-// Where the record after a study starts.
-fn after_study(text: &[u8], c: Cursor) -> Cursor {
-    let mut list = numbers();
-    let t = input::fill_wholes(text, c, &mut list);
-    let i = input::fill_wholes(text, t.next, &mut list);
-    let mut values = reals();
-    let f = input::fill_reals(text, i.next, &mut values);
-    let x = input::fill_reals(text, f.next, &mut values);
-    x.next
 }
 
 // ---- normal triplets and copies of a table
@@ -490,13 +446,7 @@ fn replayed(text: &[u8], before: Counts) -> Counts {
         }
         let record = input::next_count(text, c);
         let start = record.next;
-        if record.value == 1 {
-            grid = start;
-            c = after_grid(text, start);
-        } else if record.value == 2 {
-            study = start;
-            c = after_study(text, start);
-        } else if record.value == 5 {
+        if record.value == 5 {
             let j = normal_case(text, start);
             normal = report::counted(b"normal", normal, j.refusal, j.agrees);
             c = j.next;
@@ -505,8 +455,15 @@ fn replayed(text: &[u8], before: Counts) -> Counts {
             copies = report::counted(b"copies", copies, j.refusal, j.agrees);
             c = j.next;
         } else {
+            if record.value == 1 {
+                grid = start;
+            } else if record.value == 2 {
+                study = start;
+            }
             let j = weights_case(text, grid, study, start, record.value);
-            weights = report::counted(b"weights", weights, j.refusal, j.agrees);
+            if 2 < record.value {
+                weights = report::counted(b"weights", weights, j.refusal, j.agrees);
+            }
             c = j.next;
         }
     }

@@ -17,9 +17,9 @@
 ghost use mathlib.Core.Path.{_≡_};
 ghost use Prim.Native.Nat.{_≤_};
 ghost use lib.ListN.{length, take};
+use replay_compare::kernel as compare;
 use replay_input::kernel as input;
 use replay_input::kernel::Cursor;
-use replay_input::kernel::compare;
 use sheet::Answer;
 use sheet::Counts;
 use sheet::OpenAnswer;

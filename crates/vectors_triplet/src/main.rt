@@ -11,13 +11,13 @@
 ghost use mathlib.Core.Path.{_≡_};
 ghost use Prim.Native.Nat.{_<_};
 ghost use lib.ListN.{length};
+use replay_compare::kernel as compare;
 use replay_input::kernel as input;
 use replay_input::kernel::Cursor;
-use replay_input::kernel::compare;
-use replay_input::kernel::report;
-use replay_input::kernel::report::Count;
-use replay_input::kernel::report::Judged;
+use replay_input::kernel::Judged;
 use replay_input::kernel::stamps;
+use replay_report::kernel as report;
+use replay_report::kernel::Count;
 use triplet::Shape;
 use triplet::WeightsAnswer;
 
@@ -212,7 +212,40 @@ fn answer_of(
     )
 }
 
-fn call_agrees(
+// What a call gave, held to the weights and the flags stored at c.
+fn judged(
+    text: &[u8],
+    c: Cursor,
+    answer: WeightsAnswer,
+    refusal: u64,
+    weights: &[f64],
+    flags: &[i8],
+) -> Judged {
+    let mut stored = reals();
+    let w = input::fill_reals(text, c, &mut stored);
+    let mut stored_flags = numbers();
+    let f = input::fill_wholes(text, w.next, &mut stored_flags);
+    let k = w.count;
+    let j = f.count;
+    let next = f.next;
+    let agrees = weights_agree(
+        answer,
+        refusal,
+        weights,
+        flags,
+        &stored[..k],
+        &stored_flags[..j],
+    );
+    Judged {
+        refusal,
+        agrees,
+        next,
+    }
+}
+
+fn call_judged(
+    text: &[u8],
+    c: Cursor,
     record: u64,
     shape: Shape,
     addresses: &[i64],
@@ -227,9 +260,7 @@ fn call_agrees(
     weights: &mut [f64],
     flags: &mut [i8],
     refusal: u64,
-    stored: &[f64],
-    stored_flags: &[i64],
-) -> bool {
+) -> Judged {
     repeat(list, triplets);
     stamps::mark(weights);
     mark_flags(flags);
@@ -247,7 +278,7 @@ fn call_agrees(
         weights,
         flags,
     );
-    weights_agree(answer, refusal, weights, flags, stored, stored_flags)
+    judged(text, c, answer, refusal, weights, flags)
 }
 
 // ---- the cases
@@ -270,10 +301,7 @@ fn call_case(
     let count = input::next_count(text, t.next);
     let room = input::next_count(text, count.next);
     let places = input::next_count(text, room.next);
-    let mut stored = reals();
-    let w = input::fill_reals(text, places.next, &mut stored);
-    let mut stored_flags = numbers();
-    let f = input::fill_wholes(text, w.next, &mut stored_flags);
+    let next = places.next;
     let mut triplets = many_numbers();
     let mut weights = many_reals();
     let mut flags = many_flags();
@@ -282,10 +310,9 @@ fn call_case(
     let m = input::places_of(places.value, &flags);
     let one = [list[0], list[1], list[2]];
     let l = t.count;
-    let k = w.count;
-    let j = f.count;
-    let next = f.next;
-    let agrees = call_agrees(
+    call_judged(
+        text,
+        next,
         record,
         shape,
         addresses,
@@ -300,17 +327,19 @@ fn call_case(
         &mut weights[..n],
         &mut flags[..m],
         refusal.value,
-        &stored[..k],
-        &stored_flags[..j],
-    );
+    )
+}
+
+// A record that is no case.
+fn read_only(next: Cursor) -> Judged {
     Judged {
-        refusal: refusal.value,
-        agrees,
+        refusal: 0,
+        agrees: true,
         next,
     }
 }
 
-// A call on the study whose record starts at study.
+// A call on the study whose record starts at study; after record 2, which is the study, nothing but where the next record starts.
 fn study_case(
     text: &[u8],
     study: Cursor,
@@ -343,6 +372,10 @@ fn study_case(
     let n1 = f1.count;
     let n2 = f2.count;
     let nx = x.count;
+    let next = x.next;
+    if record == 2 {
+        return read_only(next);
+    }
     call_case(
         text,
         c,
@@ -357,7 +390,8 @@ fn study_case(
     )
 }
 
-// A call on the grid whose record starts at grid, and the study whose record starts at study.
+// A call on the grid whose record starts at grid, and the study whose record starts at study; after record 1, which is the grid, nothing
+// but where the next record starts.
 fn weights_case(text: &[u8], grid: Cursor, study: Cursor, c: Cursor, record: u64) -> Judged {
     let kind = input::next_whole(text, grid);
     let mesh = input::next_three(text, kind.next);
@@ -369,29 +403,11 @@ fn weights_case(text: &[u8], grid: Cursor, study: Cursor, c: Cursor, record: u64
     let d = mesh.value;
     let p = a.count;
     let v = m.count;
+    let next = m.next;
+    if record == 1 {
+        return read_only(next);
+    }
     study_case(text, study, c, record, k, d, &addresses[..p], &map[..v])
-}
-
-// Where the record after a grid starts.
-fn after_grid(text: &[u8], c: Cursor) -> Cursor {
-    let kind = input::next_whole(text, c);
-    let mesh = input::next_three(text, kind.next);
-    let mut list = numbers();
-    let a = input::fill_wholes(text, mesh.next, &mut list);
-    let m = input::fill_wholes(text, a.next, &mut list);
-    m.next
-}
-
-// Where the record after a study starts.
-fn after_study(text: &[u8], c: Cursor) -> Cursor {
-    let shape = input::next_three(text, c);
-    let mut list = numbers();
-    let t = input::fill_wholes(text, shape.next, &mut list);
-    let mut values = reals();
-    let f1 = input::fill_reals(text, t.next, &mut values);
-    let f2 = input::fill_reals(text, f1.next, &mut values);
-    let x = input::fill_reals(text, f2.next, &mut values);
-    x.next
 }
 
 struct Counts {
@@ -416,18 +432,15 @@ fn replayed(text: &[u8], before: Counts) -> Counts {
         let start = record.next;
         if record.value == 1 {
             grid = start;
-            c = after_grid(text, start);
         } else if record.value == 2 {
             study = start;
-            c = after_study(text, start);
-        } else {
-            let j = weights_case(text, grid, study, start, record.value);
-            c = j.next;
-            if record.value == 3 {
-                all = report::counted(b"all triplets", all, j.refusal, j.agrees);
-            } else {
-                one = report::counted(b"one triplet", one, j.refusal, j.agrees);
-            }
+        }
+        let j = weights_case(text, grid, study, start, record.value);
+        c = j.next;
+        if record.value == 3 {
+            all = report::counted(b"all triplets", all, j.refusal, j.agrees);
+        } else if 3 < record.value {
+            one = report::counted(b"one triplet", one, j.refusal, j.agrees);
         }
     }
     Counts { all, one }

@@ -18,12 +18,12 @@ ghost use lib.ListN.{length};
 use ask::kernel::number_of;
 use lattice::MatvecAnswer;
 use relative_grid_address::TableAnswer;
+use replay_compare::kernel as compare;
 use replay_input::kernel as input;
 use replay_input::kernel::Cursor;
-use replay_input::kernel::compare;
-use replay_input::kernel::report;
-use replay_input::kernel::report::Count;
-use replay_input::kernel::report::Judged;
+use replay_input::kernel::Judged;
+use replay_report::kernel as report;
+use replay_report::kernel::Count;
 use tetrahedron_method::WeightAnswer;
 use tetrahedron_method::WeightFunction;
 

@@ -3,7 +3,7 @@ ghost use mathlib.Core.Path.{_≡_};
 ghost use lib.ListN.{length};
 ghost use Rattle.list_laws.specs.Lists.{tabulate};
 ghost use Rattle.replay_input.specs.Stamps.{stampAt, isStamped, markAt, isMarked};
-use crate::kernel::compare;
+use replay_compare::kernel as compare;
 
 // No grid point's number and no component of a table here is so large.
 fn stamp_at(place: usize) -> i64

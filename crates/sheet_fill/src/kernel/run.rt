@@ -14,8 +14,8 @@ ghost use Rattle.triplet_piece.specs.Layout.{Areas};
 ghost use Rattle.triplet_piece.specs.Study.{study, pointOf, firstCorners, secondCorners, Ready, computedWeights, computedFlags};
 ghost use Rattle.sheet_fill.specs.Kept.{CornersKept};
 use bzgrid::BzGrid;
-use triplet_channels::TpType;
 use triplet_piece::Sizes;
+use triplet_types::TpType;
 
 // The corners of triplet `t`; where they are those of `held` already, nothing is looked up. `second` is the second copy of the steps.
 fn keep_corners(

@@ -9,63 +9,71 @@ Inv-loop text index₀ one₀ many₀ c₀ grid₀ turns₀ t13 t14 t15 index on
 abbrev μ-loop : tie.MeasureT-loop
 μ-loop text index₀ one₀ many₀ c₀ grid₀ turns₀ t13 t14 t15 index one many c grid turns = turns
 
+-- src/main.rt:302:5
 loop-holds : tie.Need-loop-holds Inv-loop μ-loop
 loop-holds c = search needs
 
+-- src/main.rt:303:9
 sub-turns : tie.Need-sub-turns Inv-loop μ-loop
 sub-turns c = search needs
 
+-- src/main.rt:307:13
 next-count-requires : tie.Need-next-count-requires Inv-loop μ-loop
 next-count-requires c κs = search needs
 
+-- src/main.rt:310:17
 index-case-requires : tie.Need-index-case-requires Inv-loop μ-loop
 index-case-requires c κs = search needs
 
+-- src/main.rt:311:37
 slice-aggregate-counted : tie.Need-slice-aggregate-counted Inv-loop μ-loop
 slice-aggregate-counted c = search needs
 
+-- src/main.rt:311:13
 counted-requires : tie.Need-counted-requires Inv-loop μ-loop
 counted-requires c κs = search needs
 
+-- src/main.rt:302:5
 loop-less : tie.Need-loop-less Inv-loop μ-loop
 loop-less c = search needs
 
+-- src/main.rt:302:5
 loop-again : tie.Need-loop-again Inv-loop μ-loop
 loop-again c = search needs
 
-after-grid-requires : tie.Need-after-grid-requires Inv-loop μ-loop
-after-grid-requires c κs = search needs
-
-loop-less-2 : tie.Need-loop-less-2 Inv-loop μ-loop
-loop-less-2 c = search needs
-
-loop-again-2 : tie.Need-loop-again-2 Inv-loop μ-loop
-loop-again-2 c = search needs
-
+-- src/main.rt:317:17
 neighbour-case-requires : tie.Need-neighbour-case-requires Inv-loop μ-loop
 neighbour-case-requires c κs = search needs
 
+-- src/main.rt:319:39
 slice-aggregate-counted-2 : tie.Need-slice-aggregate-counted-2 Inv-loop μ-loop
 slice-aggregate-counted-2 c = search needs
 
+-- src/main.rt:319:17
 counted-requires-2 : tie.Need-counted-requires-2 Inv-loop μ-loop
 counted-requires-2 c κs = search needs
 
+-- src/main.rt:321:40
 slice-aggregate-counted-3 : tie.Need-slice-aggregate-counted-3 Inv-loop μ-loop
 slice-aggregate-counted-3 c = search needs
 
+-- src/main.rt:321:17
 counted-requires-3 : tie.Need-counted-requires-3 Inv-loop μ-loop
 counted-requires-3 c κs = search needs
 
-loop-less-3 : tie.Need-loop-less-3 Inv-loop μ-loop
-loop-less-3 c = search needs
+-- src/main.rt:302:5
+loop-less-2 : tie.Need-loop-less-2 Inv-loop μ-loop
+loop-less-2 c = search needs
 
-loop-again-3 : tie.Need-loop-again-3 Inv-loop μ-loop
-loop-again-3 c = search needs
+-- src/main.rt:302:5
+loop-again-2 : tie.Need-loop-again-2 Inv-loop μ-loop
+loop-again-2 c = search needs
 
+-- src/main.rt:295:1
 returns : tie.Need-returns Inv-loop μ-loop
 returns c = search needs
 
+-- src/main.rt:295:1
 returns-2 : tie.Need-returns-2 Inv-loop μ-loop
 returns-2 c = search needs
 
@@ -83,15 +91,12 @@ replayed-spec =
     counted-requires
     loop-less
     loop-again
-    after-grid-requires
-    loop-less-2
-    loop-again-2
     neighbour-case-requires
     slice-aggregate-counted-2
     counted-requires-2
     slice-aggregate-counted-3
     counted-requires-3
-    loop-less-3
-    loop-again-3
+    loop-less-2
+    loop-again-2
     returns
     returns-2)

@@ -9,63 +9,67 @@ Inv-loop text all₀ one₀ c₀ grid₀ study₀ turns₀ t12 t13 all one c gri
 abbrev μ-loop : tie.MeasureT-loop
 μ-loop text all₀ one₀ c₀ grid₀ study₀ turns₀ t12 t13 all one c grid study turns = turns
 
+-- src/main.rt:406:5
 loop-holds : tie.Need-loop-holds Inv-loop μ-loop
 loop-holds c = search needs
 
+-- src/main.rt:407:9
 sub-turns : tie.Need-sub-turns Inv-loop μ-loop
 sub-turns c = search needs
 
+-- src/main.rt:411:13
 next-count-requires : tie.Need-next-count-requires Inv-loop μ-loop
 next-count-requires c κs = search needs
 
-after-grid-requires : tie.Need-after-grid-requires Inv-loop μ-loop
-after-grid-requires c κs = search needs
-
-loop-less : tie.Need-loop-less Inv-loop μ-loop
-loop-less c = search needs
-
-loop-again : tie.Need-loop-again Inv-loop μ-loop
-loop-again c = search needs
-
-after-study-requires : tie.Need-after-study-requires Inv-loop μ-loop
-after-study-requires c κs = search needs
-
-loop-less-2 : tie.Need-loop-less-2 Inv-loop μ-loop
-loop-less-2 c = search needs
-
-loop-again-2 : tie.Need-loop-again-2 Inv-loop μ-loop
-loop-again-2 c = search needs
-
+-- src/main.rt:418:13
 weights-case-requires : tie.Need-weights-case-requires Inv-loop μ-loop
 weights-case-requires c κs = search needs
 
+-- src/main.rt:421:35
 slice-aggregate-counted : tie.Need-slice-aggregate-counted Inv-loop μ-loop
 slice-aggregate-counted c = search needs
 
+-- src/main.rt:421:13
 counted-requires : tie.Need-counted-requires Inv-loop μ-loop
 counted-requires c κs = search needs
 
-loop-less-3 : tie.Need-loop-less-3 Inv-loop μ-loop
-loop-less-3 c = search needs
+-- src/main.rt:406:5
+loop-less : tie.Need-loop-less Inv-loop μ-loop
+loop-less c = search needs
 
-loop-again-3 : tie.Need-loop-again-3 Inv-loop μ-loop
-loop-again-3 c = search needs
+-- src/main.rt:406:5
+loop-again : tie.Need-loop-again Inv-loop μ-loop
+loop-again c = search needs
 
+-- src/main.rt:423:35
 slice-aggregate-counted-2 : tie.Need-slice-aggregate-counted-2 Inv-loop μ-loop
 slice-aggregate-counted-2 c = search needs
 
+-- src/main.rt:423:13
 counted-requires-2 : tie.Need-counted-requires-2 Inv-loop μ-loop
 counted-requires-2 c κs = search needs
 
-loop-less-4 : tie.Need-loop-less-4 Inv-loop μ-loop
-loop-less-4 c = search needs
+-- src/main.rt:406:5
+loop-less-2 : tie.Need-loop-less-2 Inv-loop μ-loop
+loop-less-2 c = search needs
 
-loop-again-4 : tie.Need-loop-again-4 Inv-loop μ-loop
-loop-again-4 c = search needs
+-- src/main.rt:406:5
+loop-again-2 : tie.Need-loop-again-2 Inv-loop μ-loop
+loop-again-2 c = search needs
 
+-- src/main.rt:406:5
+loop-less-3 : tie.Need-loop-less-3 Inv-loop μ-loop
+loop-less-3 c = search needs
+
+-- src/main.rt:406:5
+loop-again-3 : tie.Need-loop-again-3 Inv-loop μ-loop
+loop-again-3 c = search needs
+
+-- src/main.rt:399:1
 returns : tie.Need-returns Inv-loop μ-loop
 returns c = search needs
 
+-- src/main.rt:399:1
 returns-2 : tie.Need-returns-2 Inv-loop μ-loop
 returns-2 c = search needs
 
@@ -78,20 +82,16 @@ replayed-spec =
     loop-holds
     sub-turns
     next-count-requires
-    after-grid-requires
-    loop-less
-    loop-again
-    after-study-requires
-    loop-less-2
-    loop-again-2
     weights-case-requires
     slice-aggregate-counted
     counted-requires
-    loop-less-3
-    loop-again-3
+    loop-less
+    loop-again
     slice-aggregate-counted-2
     counted-requires-2
-    loop-less-4
-    loop-again-4
+    loop-less-2
+    loop-again-2
+    loop-less-3
+    loop-again-3
     returns
     returns-2)

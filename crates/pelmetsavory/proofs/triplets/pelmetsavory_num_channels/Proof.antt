@@ -4,7 +4,7 @@ use mathlib.Core.Path.{_∙_, ap, sym}
 use mir.Syntax.{w64}
 use mir.ValLaws.{toZ-ofZ}
 use Rattle.pelmetsavory.proofs.ChoiceLaws.{type-done, type-refused}
-use Rattle.triplet_channels.specs.Types.{channelCount, tpTypeAnswer}
+use Rattle.triplet_types.specs.Types.{channelCount, tpTypeAnswer}
 use Rattle.pelmetsavory.proofs.triplets.pelmetsavory_num_channels.Statement.{statement}
 use Rattle.pelmetsavory.proofs.triplets.pelmetsavory_num_channels.Tie as tie
 

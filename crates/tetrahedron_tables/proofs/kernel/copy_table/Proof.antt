@@ -6,14 +6,14 @@ use lib.ListN.{length, take, length-set}
 use Rattle.list_laws.specs.Lists.{tabulate}
 use Rattle.list_laws.proofs.FillLaws.{fill-none, fill-next, fill-end}
 use Rattle.list_laws.proofs.SignedLaws.{back}
-use Rattle.tetrahedron_tables.specs.Tables.{tableOf, component}
+use Rattle.tetrahedron_tables.specs.Tables.{tableOf, entry}
 use Rattle.tetrahedron_tables.proofs.TableLaws.{flat-is}
 use Rattle.tetrahedron_tables.proofs.kernel.copy_table.Statement.{statement}
 use Rattle.tetrahedron_tables.proofs.kernel.copy_table.Tie as tie
 
 abbrev Inv-loop : tie.InvT-loop
 Inv-loop diagonal out₀ i₀ out i =
-    (i ≤ 288) × (length out ≡ 288) × (take i out ≡ tabulate i (λ j. component (tableOf diagonal) (j / 12) (j / 3 % 4) (j % 3)))
+    (i ≤ 288) × (length out ≡ 288) × (take i out ≡ tabulate i (λ j. entry (tableOf diagonal) (j / 12) (j % 12)))
 
 abbrev μ-loop : tie.MeasureT-loop
 μ-loop diagonal out₀ i₀ out i = 288 - i

@@ -10,7 +10,7 @@ use Rattle.list_laws.proofs.FillLaws.{area-next, area-none, length-area}
 use Rattle.list_laws.proofs.SignedLaws.{back}
 use Rattle.list_laws.specs.Lists.{area, at}
 use Rattle.triplet_corners.specs.Corners.{secondArea, stepOf}
-use Rattle.triplet_channels.specs.declared.TpType.{TpType}
+use Rattle.triplet_types.specs.declared.TpType.{TpType}
 use Rattle.triplet_corners.proofs.kernel.second_steps.Statement.{statement}
 use Rattle.triplet_corners.proofs.kernel.second_steps.Tie as tie
 

@@ -12,9 +12,9 @@ use native.Mathlib.Omega.{arith}
 use Rattle.list_laws.specs.Lists.{rows}
 use Rattle.triplet_channels.specs.Ordered.{outputsOrdered}
 use Rattle.triplet_piece.proofs.LayoutLaws.{cell-in, flags-all, flags-more, flags-none, length-some, length-some-flags, row-in, someFlags, someWeights, weights-all, weights-more, weights-none}
-use Rattle.triplet_channels.specs.declared.Outputs.{Outputs}
-use Rattle.triplet_channels.specs.declared.TpType.{TpType}
-use Rattle.triplet_channels.specs.declared.ValueBox.{ValueBox}
+use Rattle.triplet_outputs.specs.declared.Outputs.{Outputs}
+use Rattle.triplet_types.specs.declared.TpType.{TpType}
+use Rattle.triplet_values.specs.declared.ValueBox.{ValueBox}
 use Rattle.triplet_piece.proofs.kernel.fill_points.Statement.{statement}
 use Rattle.triplet_piece.proofs.kernel.fill_points.Tie as tie
 

@@ -1,0 +1,2 @@
+// Comparing an answer with a stored one.
+pub mod kernel;

@@ -1,0 +1,2 @@
+// What a replay counts and prints.
+pub mod kernel;

@@ -1,0 +1,3 @@
+-- The definitions.
+pub mod Density
+pub mod States

@@ -1,0 +1,3 @@
+// The density and the number of states.
+pub mod density;
+pub mod states;
