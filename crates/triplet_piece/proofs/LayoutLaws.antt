@@ -87,24 +87,25 @@ joined : {A : Type 0} (a b c : Bool) (x y : A) → cond a true b ≡ c → cond 
 joined true b c x y e = rw (← e)
 joined false b c x y e = rw e
 
-module _ {A : Type 0} (z : Sizes) (cell : ℕ → ℕ) where
-  abbrev piece : ℕ → ℕ
-  piece i = pieceAt (z .points) (z .pairs) (cell i)
+-- the piece of place i
+abbrev pieceBy : Sizes → (ℕ → ℕ) → ℕ → ℕ
+pieceBy z cell i = pieceAt (z .points) (z .pairs) (cell i)
 
+module _ {A : Type 0} (z : Sizes) (cell : ℕ → ℕ) where
   pub patched-length : (own : ℕ → Bool) (value : ℕ → A) (l : List A) → length (patchPieces z cell own value l) ≡ length l
-  patched-length own value l = length-patch (λ i. own (piece i)) value l
+  patched-length own value l = length-patch (λ i. own (pieceBy z cell i)) value l
 
   pub patched-none : (own : ℕ → Bool) (value : ℕ → A) → ((n : ℕ) → own n ≡ false) → (l : List A) → l ≡ patchPieces z cell own value l
-  patched-none own value h l = sym (patch-none (λ i. own (piece i)) value l (λ i _. h (piece i)))
+  patched-none own value h l = sym (patch-none (λ i. own (pieceBy z cell i)) value l (λ i _. h (pieceBy z cell i)))
 
   pub patched-alike : (o₁ o₂ : ℕ → Bool) (value : ℕ → A) → ((n : ℕ) → o₁ n ≡ o₂ n) → (l : List A) → patchPieces z cell o₁ value l ≡ patchPieces z cell o₂ value l
-  patched-alike o₁ o₂ value h l = patch-ext (λ i. o₁ (piece i)) value (λ i. o₂ (piece i)) value l (λ i _ y. rw (h (piece i)))
+  patched-alike o₁ o₂ value h l = patch-ext (λ i. o₁ (pieceBy z cell i)) value (λ i. o₂ (pieceBy z cell i)) value l (λ i _ y. rw (h (pieceBy z cell i)))
 
   -- the same values where they are written
-  pub patched-same : (own : ℕ → Bool) (u v : ℕ → A) → ((i : ℕ) → own (piece i) ≡ true → u i ≡ v i) → (l : List A) → patchPieces z cell own u l ≡ patchPieces z cell own v l
-  patched-same own u v h l = patch-ext (λ i. own (piece i)) u (λ i. own (piece i)) v l (λ i _ y. go i y (own (piece i)) refl)
+  pub patched-same : (own : ℕ → Bool) (u v : ℕ → A) → ((i : ℕ) → own (pieceBy z cell i) ≡ true → u i ≡ v i) → (l : List A) → patchPieces z cell own u l ≡ patchPieces z cell own v l
+  patched-same own u v h l = patch-ext (λ i. own (pieceBy z cell i)) u (λ i. own (pieceBy z cell i)) v l (λ i _ y. go i y (own (pieceBy z cell i)) refl)
     where
-      go : (i : ℕ) (y : A) (b : Bool) → own (piece i) ≡ b → cond b (u i) y ≡ cond b (v i) y
+      go : (i : ℕ) (y : A) (b : Bool) → own (pieceBy z cell i) ≡ b → cond b (u i) y ≡ cond b (v i) y
       go i y true e = h i e
       go i y false e = refl
 
@@ -112,8 +113,8 @@ module _ {A : Type 0} (z : Sizes) (cell : ℕ → ℕ) where
   pub patched-join : (o₁ o₂ o₃ : ℕ → Bool) (value : ℕ → A) → ((n : ℕ) → cond (o₂ n) true (o₁ n) ≡ o₃ n) → (l : List A)
       → patchPieces z cell o₂ value (patchPieces z cell o₁ value l) ≡ patchPieces z cell o₃ value l
   patched-join o₁ o₂ o₃ value h l =
-      patch-patch (λ i. o₁ (piece i)) value (λ i. o₂ (piece i)) value (λ i. o₃ (piece i)) value l
-      (λ i _ y. joined (o₂ (piece i)) (o₁ (piece i)) (o₃ (piece i)) (value i) y (h (piece i)))
+      patch-patch (λ i. o₁ (pieceBy z cell i)) value (λ i. o₂ (pieceBy z cell i)) value (λ i. o₃ (pieceBy z cell i)) value l
+      (λ i _ y. joined (o₂ (pieceBy z cell i)) (o₁ (pieceBy z cell i)) (o₃ (pieceBy z cell i)) (value i) y (h (pieceBy z cell i)))
 
 -- ---- the points of a piece, one after the other
 

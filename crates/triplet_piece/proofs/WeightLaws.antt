@@ -1,5 +1,5 @@
 -- A piece that is written is one that is computed; computed pieces join. Assumes nothing.
-use mathlib.Core.Path.{_≡_, sym, ap, _∙_}
+use mathlib.Core.Path.{_≡_, refl, sym, ap, _∙_}
 use mathlib.Core.Bool.{Bool, true, false, cond}
 use mathlib.Core.List.{List}
 use Prim.Native.Nat.{ℕ, _+_, _*_, _/_, _%_, _<_}
@@ -11,10 +11,19 @@ use lib.ListN.{length}
 use borrow.Author.Tests.{eqb-true}
 use Rattle.list_laws.proofs.ProductLaws.{digit-lt}
 use Rattle.triplet_channels.specs.declared.Outputs.{Outputs}
+use Rattle.triplet_study.specs.declared.Sizes.{Sizes}
 use Rattle.triplet_study.specs.Study.{Study, bands1In, bands2In, sizesBy, sizesOf}
-use Rattle.triplet_piece.specs.Layout.{pointAt, pieceAt, cellOf, channelOf, weightBy, flagBy, pieceWeights, pieceFlags}
-use Rattle.triplet_piece.specs.Weights.{outputsOf, outputsAtCell, weightAt, flagAt, computedWeights, computedFlags}
-use Rattle.triplet_piece.proofs.LayoutLaws.{piece-cell, point-cell, piece-is, cell-lt, patched-length, patched-none, patched-alike, patched-same, patched-join}
+use Rattle.triplet_piece.specs.Layout.{pointAt, pieceAt, cellOf, channelOf, weightBy, flagBy, pieceWeights, pieceFlags, AreWritten}
+use Rattle.triplet_piece.specs.Weights.{outputsOf, outputsAtCell, weightAt, flagAt, computedWeights, computedFlags, AreComputed}
+use Rattle.triplet_piece.proofs.LayoutLaws.{piece-cell, point-cell, piece-is, cell-lt, patched-length, patched-none, patched-alike, patched-same, patched-join, weights-same, flags-same}
+
+bands1-are : (s : Study) → sizesOf s .bands1 ≡ bands1In s
+unfolding sizesBy
+bands1-are s = refl
+
+bands2-are : (s : Study) → sizesOf s .bands2 ≡ bands2In s
+unfolding sizesBy
+bands2-are s = refl
 
 -- the outputs at a cell of a piece
 cell-outputs : (s : Study) (t b1 b2 j : ℕ) → b1 < bands1In s → b2 < bands2In s → pieceAt (sizesOf s .points) (sizesOf s .pairs) j ≡ t * sizesOf s .pairs + (b1 * bands2In s + b2)
@@ -102,3 +111,39 @@ module _ (s : Study) (o₁ o₂ : ℕ → Bool) (h : (n : ℕ) → o₁ n ≡ o�
   pub flags-alike : (l : List ℤ) → computedFlags s o₁ l ≡ computedFlags s o₂ l
   unfolding computedFlags
   flags-alike l = patched-alike (sizesOf s) (λ j. j) o₁ o₂ (flagAt s) h l
+
+-- ---- weights and flags together
+
+-- a piece that is written by its outputs, with the counts of the study
+pub written-computed : (s : Study) {z : Sizes} → z ≡ sizesOf s → (t b1 b2 : ℕ) {q : ℕ} {o : ℕ → Outputs} → ((x : ℕ) → o x ≡ outputsOf s t b1 b2 x)
+    → b1 < z .bands1 → b2 < z .bands2 → q ≡ t * z .pairs + (b1 * z .bands2 + b2)
+    → {w : List Float} {f : List ℤ} {w' : List Float} {f' : List ℤ} → AreWritten z q o w f w' f' → AreComputed s (λ n. eqb n q) w f w' f'
+written-computed s {z} c t b1 b2 {q} {o} h h1 h2 e {w} {f} a =
+    let g1 : b1 < bands1In s = rw (c, bands1-are s) at h1 in
+    let g2 : b2 < bands2In s = rw (c, bands2-are s) at h2 in
+    let g : q ≡ t * sizesOf s .pairs + (b1 * bands2In s + b2) = rw (c, bands2-are s) at e in
+    record {
+      weights-are = a .weights-are ∙ weights-same z q o (outputsOf s t b1 b2) h w ∙ ap (λ (y : Sizes). pieceWeights y q (outputsOf s t b1 b2) w) c ∙ piece-weights s t b1 b2 q g1 g2 g w;
+      flags-are = a .flags-are ∙ flags-same z q o (outputsOf s t b1 b2) h f ∙ ap (λ (y : Sizes). pieceFlags y q (outputsOf s t b1 b2) f) c ∙ piece-flags s t b1 b2 q g1 g2 g f;
+    }
+
+-- no piece, and then some more
+pub computed-none : (s : Study) (o : ℕ → Bool) → ((n : ℕ) → o n ≡ false) → (w : List Float) (f : List ℤ) → AreComputed s o w f w f
+computed-none s o h w f = record { weights-are = weights-nothing s o h w; flags-are = flags-nothing s o h f }
+
+pub computed-join : (s : Study) (o₁ o₂ o₃ : ℕ → Bool) → ((n : ℕ) → cond (o₂ n) true (o₁ n) ≡ o₃ n)
+    → {w₀ : List Float} {f₀ : List ℤ} {w : List Float} {f : List ℤ} {w' : List Float} {f' : List ℤ}
+    → AreComputed s o₁ w₀ f₀ w f → AreComputed s o₂ w f w' f' → AreComputed s o₃ w₀ f₀ w' f'
+computed-join s o₁ o₂ o₃ h {w₀} {f₀} a b = record {
+  weights-are = b .weights-are ∙ ap (computedWeights s o₂) (a .weights-are) ∙ weights-join s o₁ o₂ o₃ h w₀;
+  flags-are = b .flags-are ∙ ap (computedFlags s o₂) (a .flags-are) ∙ flags-join s o₁ o₂ o₃ h f₀;
+}
+
+pub computed-alike : (s : Study) (o₁ o₂ : ℕ → Bool) → ((n : ℕ) → o₁ n ≡ o₂ n)
+    → {w : List Float} {f : List ℤ} {w' : List Float} {f' : List ℤ} → AreComputed s o₁ w f w' f' → AreComputed s o₂ w f w' f'
+computed-alike s o₁ o₂ h {w} {f} a =
+    record { weights-are = a .weights-are ∙ weights-alike s o₁ o₂ h w; flags-are = a .flags-are ∙ flags-alike s o₁ o₂ h f }
+
+pub computed-lengths : {s : Study} {o : ℕ → Bool} {w : List Float} {f : List ℤ} {w' : List Float} {f' : List ℤ} → AreComputed s o w f w' f'
+    → (length w' ≡ length w) × (length f' ≡ length f)
+computed-lengths {s} {o} {w} {f} a = (ap length (a .weights-are) ∙ length-computed s o w, ap length (a .flags-are) ∙ length-computed-flags s o f)

@@ -61,10 +61,14 @@ pieceWeights z q o l = patchPieces z (λ i. i % z .cells) (λ n. eqb n q) (weigh
 unfoldable pub pieceFlags : Sizes → ℕ → (ℕ → Outputs) → List ℤ → List ℤ
 pieceFlags z q o l = patchPieces z (λ j. j) (λ n. eqb n q) (flagBy z o) l
 
--- what a call leaves that writes piece q
+-- weights and flags once piece q is written
+pub record AreWritten (z : Sizes) (q : ℕ) (o : ℕ → Outputs) (weights : List Float) (flags : List ℤ) (weights' : List Float) (flags' : List ℤ) : Type 0 where
+  pub weights-are : weights' ≡ pieceWeights z q o weights
+  pub flags-are : flags' ≡ pieceFlags z q o flags
+
+-- a call writes piece q
 abbrev pub WritesPiece : Sizes → ℕ → (ℕ → Outputs) → Lent Float → Lent ℤ → Type 0
-WritesPiece z q o weights flags =
-    (now (weights .exit) ≡ pieceWeights z q o (now (weights .entry))) × (now (flags .exit) ≡ pieceFlags z q o (now (flags .entry)))
+WritesPiece z q o weights flags = AreWritten z q o (now (weights .entry)) (now (flags .entry)) (now (weights .exit)) (now (flags .exit))
 
 -- the sizes of the work areas that a piece is lent
 pub record Areas (f1 f2 a0 a1 a2 : List Float) (p0 p1 p2 : List ℕ) : Type 0 where

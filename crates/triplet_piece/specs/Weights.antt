@@ -70,7 +70,11 @@ computedWeights s own l = patchPieces (sizesOf s) (λ i. i % sizesOf s .cells) o
 unfoldable pub computedFlags : Study → (ℕ → Bool) → List ℤ → List ℤ
 computedFlags s own l = patchPieces (sizesOf s) (λ j. j) own (flagAt s) l
 
--- what a call leaves that computes those pieces
+-- weights and flags once those pieces are computed
+pub record AreComputed (s : Study) (own : ℕ → Bool) (weights : List Float) (flags : List ℤ) (weights' : List Float) (flags' : List ℤ) : Type 0 where
+  pub weights-are : weights' ≡ computedWeights s own weights
+  pub flags-are : flags' ≡ computedFlags s own flags
+
+-- a call computes them
 abbrev pub Computes : Study → (ℕ → Bool) → Lent Float → Lent ℤ → Type 0
-Computes s own weights flags =
-    (now (weights .exit) ≡ computedWeights s own (now (weights .entry))) × (now (flags .exit) ≡ computedFlags s own (now (flags .entry)))
+Computes s own weights flags = AreComputed s own (now (weights .entry)) (now (flags .entry)) (now (weights .exit)) (now (flags .exit))

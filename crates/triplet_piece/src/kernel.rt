@@ -58,8 +58,6 @@ fn fill_points(
 {
     let tp = z.tp;
     let rows = z.rows;
-    let cells = z.cells;
-    let channels = z.channels;
     let n = z.points;
     let pairs = z.pairs;
     for x in 0..n {
@@ -78,7 +76,7 @@ fn fill_points(
             x1,
             x2,
         );
-        put_weights(weights, cells, channels, cell, o);
+        put_weights(weights, z.cells, z.channels, cell, o);
         let flag = o.flag;
         flags[cell] = flag;
     }

@@ -76,7 +76,14 @@ pub fn value_first_no(
     }
     let bands1 = magnitude(num_band1);
     let bands2 = magnitude(num_band2);
-    if !study_frequencies_ok(p, bands1, bands2, frequencies1, frequencies2, frequency_points) {
+    if !study_frequencies_ok(
+        p,
+        bands1,
+        bands2,
+        frequencies1,
+        frequencies2,
+        frequency_points,
+    ) {
         return questions::BAD_FREQUENCY;
     }
     0
