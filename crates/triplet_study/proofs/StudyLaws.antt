@@ -189,3 +189,8 @@ ready s z w f e c y =
 -- the counts of a study that is ready
 pub ready-counted : {s : Study} {z : Sizes} {w f : ℕ} → Ready s z w f → Counted z
 ready-counted r = rw (r .counts) (counted (r .tested))
+
+-- the counts keep the numbers as given
+pub shape-is : (s : Study) (z : Sizes) → z ≡ sizesOf s → z .shape ≡ s .shape
+unfolding sizesBy
+shape-is s z c = rw c
