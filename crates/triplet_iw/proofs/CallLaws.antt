@@ -1,5 +1,5 @@
 -- The number of the first no of a call by the tests that it makes, and what the yes to all of them tells. Assumes nothing.
-use mathlib.Core.Path.{_≡_, refl, sym, _∙_, subst⁻¹}
+use mathlib.Core.Path.{_≡_, refl, sym, _∙_}
 use mathlib.Core.Bool.{Bool, true, false}
 use mathlib.Core.List.{[], _∷_}
 use Prim.Native.Nat.{ℕ, zero, suc}
@@ -8,12 +8,11 @@ use Rattle.ask.specs.declared.Answer.the-variants.{Done, Refused}
 use Rattle.ask.specs.Answers.{answerOf}
 use Rattle.ask.specs.Ask.{asks, firstNo}
 use Rattle.ask.proofs.AskLaws.{group-no, group-yes}
-use Rattle.triplet_study.specs.declared.Shape.{Shape}
 use Rattle.triplet_study.specs.declared.Sizes.{Sizes}
 use Rattle.triplet_study.specs.Study.{Study, study, sizesOf}
 use Rattle.triplet_study.specs.Questions.{studyQuestions, areLengths}
 use Rattle.triplet_study.specs.Tested.{Counted, Ready}
-use Rattle.triplet_study.proofs.StudyLaws.{study-numbered, tested, counted, ready, shape-is}
+use Rattle.triplet_study.proofs.StudyLaws.{study-numbered, tested, counted, ready, ready-shaped}
 use Rattle.triplet_iw.specs.Calls.{weightsQuestions}
 
 -- question 12 alone
@@ -50,9 +49,7 @@ module _ (s : Study) (weights flags no : ℕ) (e : no ≡ firstNo (studyQuestion
       all-yes-12 = rest ∙ length-yes (areLengths z weights flags) y
 
       pub study-ready : Ready (study (z .shape) (s .addresses) (s .gp-map) (s .steps) (s .frequencies1) (s .frequencies2) (s .points) (s .triplets)) z weights flags
-      study-ready =
-          subst⁻¹ (λ (h : Shape). Ready (study h (s .addresses) (s .gp-map) (s .steps) (s .frequencies1) (s .frequencies2) (s .points) (s .triplets)) z weights flags)
-          (shape-is s z c) (ready s z weights flags (sym e ∙ q) c y)
+      study-ready = ready-shaped (ready s z weights flags (sym e ∙ q) c y)
 
 -- ---- the answer
 

@@ -158,6 +158,7 @@ module _ {s : Study} {z : Sizes} {weights flags : ℕ} (r : Ready s z weights fl
       let h : _ = pair-bands k hk in
       computed-join s (inTriplet (z .pairs) t k) (λ n. eqb n q) (inTriplet (z .pairs) t (k + 1)) (λ n. rw number (in-next (z .pairs) t k n hk)) a
       (written-computed s (r .counts) t (k / z .bands2) (k % z .bands2) (outs t k n1 n2 e1 e2) (h .0) (h .1) refl b)
+
 module _ (s : Study) (pairs t : ℕ) where
   pub pieces-none : (w : List Float) (f : List ℤ) → AreComputed s (inTriplet pairs t 0) w f w f
   pieces-none = computed-none s (inTriplet pairs t 0) (λ n. both-none (eqb (n / pairs) t) (n % pairs))

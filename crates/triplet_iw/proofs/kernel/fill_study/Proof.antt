@@ -1,9 +1,10 @@
 use Rattle.triplet_iw.proofs.CallLaws.{all-yes-12, counts-few, done-is, length-some, refused-before, refused-is, refused-length, study-ready}
-use Rattle.triplet_study.proofs.StudyLaws.{few-counts, shape-is, tested}
+use Rattle.triplet_iw.specs.Whole.{allFlags, allWeights}
+use Rattle.triplet_study.proofs.StudyLaws.{few-counts, study-shaped, tested}
 use Rattle.triplet_study.specs.Study.{Study, study}
 use Rattle.ask.proofs.AskLaws.{after-done, kept}
 use Rattle.list_laws.proofs.BoolLaws.{no-of, yes-of}
-use mathlib.Core.Path.{_∙_, sym}
+use mathlib.Core.Path.{_∙_, ap, sym}
 use lib.ListN.{length}
 use Prim.Native.Nat.{ℕ}
 -- `triplet_iw::kernel::fill_study` meets its contract. Assumes nothing.
@@ -47,7 +48,7 @@ same-length-2 c = search needs
 
 returns-3 : tie.Need-returns-3
 returns-3 c =
-    let s : _ = c .before .before .before .before .before .before .before .before .before .before .before .before .before .before .before in let w : ℕ = length (s .args .weights .now) in let f : ℕ = length (s .args .flags .now) in let a : Study = asked s in let e : _ = all-yes-12 a w f (c .before .before .before .before .before .before .before .before .before .before .study-first-no .result) (c .before .before .before .before .before .before .before .before .before .before .study-first-no .ensures) (c .before .before .before .before .before .before .before .before .before .if1 .left) (c .before .before .before .before .before .before .before .before .sizes-of .result) (c .before .before .before .before .before .before .before .before .sizes-of .ensures) (yes-of (c .before .before .before .before .before .before .before .lengths-ok .ensures) (c .before .before .before .before .before .before .if2 .left)) in let g : _ = rw (shape-is a (c .before .before .before .before .before .before .before .before .sizes-of .result) (c .before .before .before .before .before .before .before .before .sizes-of .ensures)) at (c .before .before .before .fill-triplets .ensures) in (done-is _ e, (g .0 ∙ after-done _ _ _ e, g .1 ∙ after-done _ _ _ e))
+    let s : _ = c .before .before .before .before .before .before .before .before .before .before .before .before .before .before .before in let w : ℕ = length (s .args .weights .now) in let f : ℕ = length (s .args .flags .now) in let a : Study = asked s in let e : _ = all-yes-12 a w f (c .before .before .before .before .before .before .before .before .before .before .study-first-no .result) (c .before .before .before .before .before .before .before .before .before .before .study-first-no .ensures) (c .before .before .before .before .before .before .before .before .before .if1 .left) (c .before .before .before .before .before .before .before .before .sizes-of .result) (c .before .before .before .before .before .before .before .before .sizes-of .ensures) (yes-of (c .before .before .before .before .before .before .before .lengths-ok .ensures) (c .before .before .before .before .before .before .if2 .left)) in let g : _ = study-shaped a (c .before .before .before .before .before .before .before .before .sizes-of .result) (c .before .before .before .before .before .before .before .before .sizes-of .ensures) in (done-is _ e, (c .before .before .before .fill-triplets .ensures .0 ∙ ap allWeights g ∙ after-done _ _ _ e, c .before .before .before .fill-triplets .ensures .1 ∙ ap allFlags g ∙ after-done _ _ _ e))
 
 pub fill-study-spec : {M : Type 1} → statement M
 fill-study-spec = tie.close (tie.spec study-first-no-requires returns sizes-of-requires lengths-ok-requires returns-2 fill-triplets-requires same-length same-length-2 returns-3)
