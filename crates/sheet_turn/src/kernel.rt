@@ -13,9 +13,9 @@ use bzgrid::BzGrid;
 use marks::kernel as mark;
 use sheet_marks::Tally;
 use sheet_step::kernel::asks;
-use triplet_types::TpType;
 use triplet_piece::Sizes;
 use triplet_study::Shape;
+use triplet_types::TpType;
 use triplet_types::TpType;
 
 // Runs the piece of a triplet and two bands. Questions 14, 15, 20.

@@ -3,7 +3,7 @@ use mathlib.Core.Path.{_≡_, refl, sym, ap, _∙_}
 use mathlib.Core.Bool.{Bool, true, false, cond}
 use mathlib.Core.List.{List}
 use Prim.Native.Nat.{ℕ, _+_, _*_, _/_, _%_, _≤_, _<_}
-use native.Mathlib.Nat.{div-add-mod', mod-lt, div-lt-iff-lt-mul, mul-le-mul}
+use native.Mathlib.Nat.{div-add-mod', mod-lt, div-lt-iff-lt-mul}
 use native.Mathlib.Omega.{arith}
 use lib.Arith.{digits-div, digits-mod}
 use lib.Dec.{eqb, ltb}
@@ -12,15 +12,18 @@ use lib.IntN.{ℤ}
 use lib.ListN.{length}
 use borrow.Author.Tests.{eq-eqb, lt-ltb, le-ltb, ltb-true, ltb-false, eqb-true, eqb-false}
 use Rattle.list_laws.proofs.StrideLaws.{both-none, both-all}
+use Rattle.bzgrid.specs.Neighbours.{SoundGrid}
 use Rattle.triplet_values.specs.Values.{Held}
-use Rattle.triplet_corners.specs.Corners.{secondSteps}
-use Rattle.triplet_corners.proofs.CornerLaws.{corners-held, second-length}
-use Rattle.triplet_piece.specs.declared.Sizes.{Sizes}
-use Rattle.triplet_piece.specs.Layout.{pieceWeights, pieceFlags, Fitting}
+use Rattle.triplet_study.specs.declared.Sizes.{Sizes}
+use Rattle.triplet_study.specs.Study.{Study, tpIn, gridIn, bands1In, bands2In, tripletCount, sizesBy, sizesOf}
+use Rattle.triplet_study.specs.Tested.{Counted, Ready}
+use Rattle.triplet_study.proofs.StudyLaws.{ready-counted}
 use Rattle.question_grids.specs.Tables.{rowsIn}
-use Rattle.triplet_piece.specs.Study.{Study, outputsOfCorners, firstCorners, secondCorners, outputsOf, sizesOf, computedWeights, computedFlags, Ready}
-use Rattle.triplet_piece.proofs.LayoutLaws.{weights-same, flags-same}
-use Rattle.triplet_piece.proofs.StudyLaws.{study-fits, piece-weights, piece-flags, weights-join, flags-join, weights-nothing, flags-nothing, weights-alike, flags-alike}
+use Rattle.triplet_corners.specs.Corners.{secondSteps, cornerNumbers}
+use Rattle.triplet_corners.proofs.CornerLaws.{corners-held, second-length}
+use Rattle.triplet_piece.specs.Layout.{AreWritten}
+use Rattle.triplet_piece.specs.Weights.{outputsOfCorners, pointOf, firstCorners, secondCorners, outputsOf, AreComputed}
+use Rattle.triplet_piece.proofs.WeightLaws.{written-computed, computed-none, computed-join, computed-alike}
 
 -- ---- which pieces
 
@@ -58,108 +61,117 @@ triplet-next q t = go (eqb q t) refl (ltb q t) refl
         let ne : q ≡ t → ⊥ = eqb-false q t e in
         sym (le-ltb q (t + 1) (omega arith))
 
--- ---- a piece of a triplet
-
 pub band-lt : (k bands1 bands2 : ℕ) → 1 ≤ bands2 → k < bands1 * bands2 → k / bands2 < bands1
 band-lt k bands1 bands2 h l = div-lt-iff-lt-mul {k = bands2} {x = k} {y = bands1} h .1 l
 
-pairs-are : (s : Study) → sizesOf s .pairs ≡ s .bands1 * s .bands2
-unfolding sizesOf
-pairs-are s = refl
+-- ---- the counts of a study, by its parts
 
-module _ (s : Study) (z : Sizes) (c : z ≡ sizesOf s) (t k : ℕ) (n1 n2 : List ℕ) (rows : ℕ) (e1 : n1 ≡ firstCorners s t) (e2 : n2 ≡ secondCorners s t) (e3 : rows ≡ rowsIn (s .steps)) (hb : 1 ≤ s .bands2) (hk : k < z .pairs) where
-  outs : (x : ℕ) → outputsOfCorners (s .tp) (s .points) n1 n2 rows (s .frequencies1) (s .bands1) (k / s .bands2) (s .frequencies2) (s .bands2) (k % s .bands2) x ≡ outputsOf s t (k / s .bands2) (k % s .bands2) x
-  unfolding outputsOf
-  outs x = rw (e1, e2, e3)
+module _ (s : Study) where
+  tp-of : sizesOf s .tp ≡ tpIn s
+  unfolding sizesBy
+  tp-of = refl
 
-  number : t * z .pairs + (k / s .bands2 * s .bands2 + k % s .bands2) ≡ t * z .pairs + k
-  number = ap (λ (m : ℕ). t * z .pairs + m) (div-add-mod' k (s .bands2))
+  grid-of : sizesOf s .grid ≡ gridIn s
+  unfolding sizesBy
+  grid-of = refl
 
-  few : k < s .bands1 * s .bands2
-  few = rw (c, pairs-are s) at hk
+  rows-of : sizesOf s .rows ≡ rowsIn (s .steps)
+  unfolding sizesBy
+  rows-of = refl
 
-  pub turn-weights : (w l : List Float) → w ≡ computedWeights s (inTriplet (z .pairs) t k) l
-      → pieceWeights z (t * z .pairs + (k / s .bands2 * s .bands2 + k % s .bands2))
-      (λ x. outputsOfCorners (s .tp) (s .points) n1 n2 rows (s .frequencies1) (s .bands1) (k / s .bands2) (s .frequencies2) (s .bands2) (k % s .bands2) x) w
-      ≡ computedWeights s (inTriplet (z .pairs) t (k + 1)) l
-  turn-weights w l e =
-      weights-same z (t * z .pairs + (k / s .bands2 * s .bands2 + k % s .bands2)) _ (outputsOf s t (k / s .bands2) (k % s .bands2)) outs w
-      ∙ ap (λ (y : Sizes). pieceWeights y (t * z .pairs + (k / s .bands2 * s .bands2 + k % s .bands2)) (outputsOf s t (k / s .bands2) (k % s .bands2)) w) c
-      ∙ piece-weights s t (k / s .bands2) (k % s .bands2) (t * z .pairs + (k / s .bands2 * s .bands2 + k % s .bands2)) (band-lt k (s .bands1) (s .bands2) hb few) (mod-lt k hb) (rw c) w
-      ∙ rw e (weights-join s (inTriplet (z .pairs) t k) (λ n. eqb n (t * z .pairs + (k / s .bands2 * s .bands2 + k % s .bands2))) (inTriplet (z .pairs) t (k + 1)) (λ n. rw number (in-next (z .pairs) t k n hk)) l)
+  bands1-of : sizesOf s .bands1 ≡ bands1In s
+  unfolding sizesBy
+  bands1-of = refl
 
-  pub turn-flags : (w l : List ℤ) → w ≡ computedFlags s (inTriplet (z .pairs) t k) l
-      → pieceFlags z (t * z .pairs + (k / s .bands2 * s .bands2 + k % s .bands2))
-      (λ x. outputsOfCorners (s .tp) (s .points) n1 n2 rows (s .frequencies1) (s .bands1) (k / s .bands2) (s .frequencies2) (s .bands2) (k % s .bands2) x) w
-      ≡ computedFlags s (inTriplet (z .pairs) t (k + 1)) l
-  turn-flags w l e =
-      flags-same z (t * z .pairs + (k / s .bands2 * s .bands2 + k % s .bands2)) _ (outputsOf s t (k / s .bands2) (k % s .bands2)) outs w
-      ∙ ap (λ (y : Sizes). pieceFlags y (t * z .pairs + (k / s .bands2 * s .bands2 + k % s .bands2)) (outputsOf s t (k / s .bands2) (k % s .bands2)) w) c
-      ∙ piece-flags s t (k / s .bands2) (k % s .bands2) (t * z .pairs + (k / s .bands2 * s .bands2 + k % s .bands2)) (band-lt k (s .bands1) (s .bands2) hb few) (mod-lt k hb) (rw c) w
-      ∙ rw e (flags-join s (inTriplet (z .pairs) t k) (λ n. eqb n (t * z .pairs + (k / s .bands2 * s .bands2 + k % s .bands2))) (inTriplet (z .pairs) t (k + 1)) (λ n. rw number (in-next (z .pairs) t k n hk)) l)
+  bands2-of : sizesOf s .bands2 ≡ bands2In s
+  unfolding sizesBy
+  bands2-of = refl
 
--- ---- the pieces of a triplet, and the triplets
+  triplets-of : sizesOf s .triplets ≡ tripletCount s
+  unfolding sizesBy
+  triplets-of = refl
 
-module _ (s : Study) (pairs t : ℕ) where
-  pub pieces-none : (l : List Float) → l ≡ computedWeights s (inTriplet pairs t 0) l
-  pieces-none l = weights-nothing s (inTriplet pairs t 0) (λ n. both-none (eqb (n / pairs) t) (n % pairs)) l
-
-  pub flag-pieces-none : (l : List ℤ) → l ≡ computedFlags s (inTriplet pairs t 0) l
-  flag-pieces-none l = flags-nothing s (inTriplet pairs t 0) (λ n. both-none (eqb (n / pairs) t) (n % pairs)) l
-
-  pub pieces-all : (k : ℕ) → k ≡ pairs → 1 ≤ pairs → (l : List Float) → computedWeights s (inTriplet pairs t k) l ≡ computedWeights s (λ n. eqb (n / pairs) t) l
-  pieces-all k e h l = rw e (weights-alike s (inTriplet pairs t pairs) (λ n. eqb (n / pairs) t) (λ n. both-all (eqb (n / pairs) t) (n % pairs) pairs (mod-lt n h)) l)
-
-  pub flag-pieces-all : (k : ℕ) → k ≡ pairs → 1 ≤ pairs → (l : List ℤ) → computedFlags s (inTriplet pairs t k) l ≡ computedFlags s (λ n. eqb (n / pairs) t) l
-  flag-pieces-all k e h l = rw e (flags-alike s (inTriplet pairs t pairs) (λ n. eqb (n / pairs) t) (λ n. both-all (eqb (n / pairs) t) (n % pairs) pairs (mod-lt n h)) l)
-
-  pub triplets-more : (w l : List Float) → w ≡ computedWeights s (λ n. ltb (n / pairs) t) l → computedWeights s (λ n. eqb (n / pairs) t) w ≡ computedWeights s (λ n. ltb (n / pairs) (t + 1)) l
-  triplets-more w l e = rw e (weights-join s (λ n. ltb (n / pairs) t) (λ n. eqb (n / pairs) t) (λ n. ltb (n / pairs) (t + 1)) (λ n. triplet-next (n / pairs) t) l)
-
-  pub flag-triplets-more : (w l : List ℤ) → w ≡ computedFlags s (λ n. ltb (n / pairs) t) l → computedFlags s (λ n. eqb (n / pairs) t) w ≡ computedFlags s (λ n. ltb (n / pairs) (t + 1)) l
-  flag-triplets-more w l e = rw e (flags-join s (λ n. ltb (n / pairs) t) (λ n. eqb (n / pairs) t) (λ n. ltb (n / pairs) (t + 1)) (λ n. triplet-next (n / pairs) t) l)
-
-pub triplets-none : (s : Study) (pairs : ℕ) (l : List Float) → l ≡ computedWeights s (λ n. ltb (n / pairs) 0) l
-triplets-none s pairs l = weights-nothing s (λ n. ltb (n / pairs) 0) (λ n. le-ltb (n / pairs) 0 (omega arith)) l
-
-pub flag-triplets-none : (s : Study) (pairs : ℕ) (l : List ℤ) → l ≡ computedFlags s (λ n. ltb (n / pairs) 0) l
-flag-triplets-none s pairs l = flags-nothing s (λ n. ltb (n / pairs) 0) (λ n. le-ltb (n / pairs) 0 (omega arith)) l
-
--- ---- what the questions give
+-- ---- a study that is ready
 
 module _ {s : Study} {z : Sizes} {weights flags : ℕ} (r : Ready s z weights flags) where
-  pub fitting : Fitting z (length (s .points)) weights flags
-  fitting =
-      let h : weights ≡ sizesOf s .channels * sizesOf s .cells = rw (r .counts) at (r .weighed) in
-      let g : flags ≡ sizesOf s .cells = rw (r .counts) at (r .flagged) in
-      rw (r .counts) (study-fits s weights flags (r .points-low) h g)
+  pub tp-is : z .tp ≡ tpIn s
+  tp-is = rw (r .counts) (tp-of s)
 
-  pub held-first : (t : ℕ) (numbers : List ℕ) → numbers ≡ firstCorners s t → (rows : ℕ) → rows ≡ rowsIn (s .steps) → (b : ℕ) → b < s .bands1 → Held numbers (rows * 4) (length (s .frequencies1)) (s .bands1) b
-  held-first t numbers e rows q b h =
-      rw (e, q) (corners-held (s .grid) (s .addresses) (s .gp-map) (r .grid) (s .steps) _ (rowsIn (s .steps)) (s .bands1) b (length (s .frequencies1)) (r .rows-whole) (r .held1) h)
+  pub grid-is : z .grid ≡ gridIn s
+  grid-is = rw (r .counts) (grid-of s)
 
-  pub held-second : (t : ℕ) (numbers : List ℕ) → numbers ≡ secondCorners s t → (rows : ℕ) → rows ≡ rowsIn (s .steps) → (b : ℕ) → b < s .bands2 → Held numbers (rows * 4) (length (s .frequencies2)) (s .bands2) b
-  held-second t numbers e rows q b h =
-      rw (e, q) (corners-held (s .grid) (s .addresses) (s .gp-map) (r .grid) (secondSteps (s .tp) (s .steps)) _ (rowsIn (s .steps)) (s .bands2) b (length (s .frequencies2)) (second-length (s .tp) (s .steps) ∙ r .rows-whole) (r .held2) h)
+  pub grid-sound : SoundGrid (z .grid) (s .addresses) (s .gp-map)
+  grid-sound = rw grid-is (r .tested .grid)
 
-  -- there are from 1 to 4,096 band pairs
-  pairs-is : z .pairs ≡ s .bands1 * s .bands2
-  pairs-is = rw (r .counts) (pairs-are s)
+  -- its table has at most 1,152 numbers
+  pub steps-few : length (s .steps) ≤ 1152
+  steps-few = omega (arith, r .tested .rows-whole, r .tested .rows-high)
 
-  pub pairs-some : 1 ≤ z .pairs
-  pairs-some = let m : 1 * 1 ≤ s .bands1 * s .bands2 = mul-le-mul (r .bands1-low) (r .bands2-low) in rw pairs-is (omega (arith, m))
+  -- the corners of triplet t, as they are looked up
+  pub first-corners : (t g : ℕ) (n : List ℕ) → n ≡ cornerNumbers (z .grid) (s .addresses) (s .gp-map) (s .steps) g → g ≡ pointOf (s .triplets) t 1 → n ≡ firstCorners s t
+  first-corners t g n e h = e ∙ rw (grid-is, h)
 
-  pub pairs-few : z .pairs ≤ 4096
-  pairs-few = let m : s .bands1 * s .bands2 ≤ 64 * 64 = mul-le-mul (r .bands1-high) (r .bands2-high) in rw pairs-is (omega (arith, m))
+  pub second-corners : (t g : ℕ) (second : List ℤ) (n : List ℕ) → n ≡ cornerNumbers (z .grid) (s .addresses) (s .gp-map) second g → g ≡ pointOf (s .triplets) t 2
+      → second ≡ secondSteps (z .tp) (s .steps) → n ≡ secondCorners s t
+  second-corners t g second n e h q = e ∙ rw (q, tp-is, grid-is, h)
 
-  triplets-are : (y : Study) → sizesOf y .triplets ≡ length (y .triplets) / 3
-  unfolding sizesOf
-  triplets-are y = refl
+  -- each corner has its frequency of each band
+  pub held-first : (t : ℕ) (numbers : List ℕ) → numbers ≡ firstCorners s t → (b : ℕ) → b < z .bands1 → Held numbers (z .rows * 4) (length (s .frequencies1)) (z .bands1) b
+  held-first t numbers e b h =
+      let k : b < bands1In s = rw (r .counts, bands1-of s) at h in
+      rw (e, r .counts, rows-of s, bands1-of s)
+      (corners-held (gridIn s) (s .addresses) (s .gp-map) (r .tested .grid) (s .steps) _ (rowsIn (s .steps)) (bands1In s) b (length (s .frequencies1)) (r .tested .rows-whole) (r .tested .held1) k)
+
+  pub held-second : (t : ℕ) (numbers : List ℕ) → numbers ≡ secondCorners s t → (b : ℕ) → b < z .bands2 → Held numbers (z .rows * 4) (length (s .frequencies2)) (z .bands2) b
+  held-second t numbers e b h =
+      let k : b < bands2In s = rw (r .counts, bands2-of s) at h in
+      rw (e, r .counts, rows-of s, bands2-of s)
+      (corners-held (gridIn s) (s .addresses) (s .gp-map) (r .tested .grid) (secondSteps (tpIn s) (s .steps)) _ (rowsIn (s .steps)) (bands2In s) b (length (s .frequencies2)) (second-length (tpIn s) (s .steps) ∙ r .tested .rows-whole) (r .tested .held2) k)
 
   -- the three numbers of a triplet are there
   pub triplet-in : (t : ℕ) → t < z .triplets → 3 * t + 2 < length (s .triplets)
-  triplet-in t h = let g : t < length (s .triplets) / 3 = rw (r .counts, triplets-are s) at h in omega (arith, r .triplets-whole)
+  triplet-in t h = let g : t < tripletCount s = rw (r .counts, triplets-of s) at h in omega (arith, r .tested .triplets-whole)
 
-  -- the count of triplets is that of a list
-  pub triplets-few : z .triplets ≤ length (s .triplets)
-  triplets-few = let e : z .triplets ≡ length (s .triplets) / 3 = rw (r .counts) (triplets-are s) in omega (arith, r .triplets-whole)
+  -- the bands of pair k
+  pub pair-bands : (k : ℕ) → k < z .pairs → (k / z .bands2 < z .bands1) × (k % z .bands2 < z .bands2)
+  pair-bands k h =
+      let c : Counted z = ready-counted r in
+      (band-lt k (z .bands1) (z .bands2) (c .bands2-some) (rw (← c .pairs-are) h), mod-lt k (c .bands2-some))
+
+  -- ---- the pieces of a triplet
+
+  -- the outputs of piece k of triplet t, by its corners
+  outs : (t k : ℕ) (n1 n2 : List ℕ) → n1 ≡ firstCorners s t → n2 ≡ secondCorners s t → (x : ℕ)
+      → outputsOfCorners z (s .points) n1 n2 (s .frequencies1) (k / z .bands2) (s .frequencies2) (k % z .bands2) x ≡ outputsOf s t (k / z .bands2) (k % z .bands2) x
+  unfolding outputsOf
+  outs t k n1 n2 e1 e2 x = rw (e1, e2, r .counts)
+
+  -- piece k of triplet t, written by its corners after those before it
+  pub pieces-more : (t k : ℕ) (n1 n2 : List ℕ) → n1 ≡ firstCorners s t → n2 ≡ secondCorners s t → k < z .pairs
+      → {w₀ : List Float} {f₀ : List ℤ} {w : List Float} {f : List ℤ} {w' : List Float} {f' : List ℤ}
+      → AreComputed s (inTriplet (z .pairs) t k) w₀ f₀ w f
+      → AreWritten z (t * z .pairs + (k / z .bands2 * z .bands2 + k % z .bands2)) (outputsOfCorners z (s .points) n1 n2 (s .frequencies1) (k / z .bands2) (s .frequencies2) (k % z .bands2)) w f w' f'
+      → AreComputed s (inTriplet (z .pairs) t (k + 1)) w₀ f₀ w' f'
+  pieces-more t k n1 n2 e1 e2 hk a b =
+      let q : ℕ = t * z .pairs + (k / z .bands2 * z .bands2 + k % z .bands2) in
+      let number : q ≡ t * z .pairs + k = ap (λ (m : ℕ). t * z .pairs + m) (div-add-mod' k (z .bands2)) in
+      let h : _ = pair-bands k hk in
+      computed-join s (inTriplet (z .pairs) t k) (λ n. eqb n q) (inTriplet (z .pairs) t (k + 1)) (λ n. rw number (in-next (z .pairs) t k n hk)) a
+      (written-computed s (r .counts) t (k / z .bands2) (k % z .bands2) (outs t k n1 n2 e1 e2) (h .0) (h .1) refl b)
+
+module _ (s : Study) (pairs t : ℕ) where
+  pub pieces-none : (w : List Float) (f : List ℤ) → AreComputed s (inTriplet pairs t 0) w f w f
+  pieces-none = computed-none s (inTriplet pairs t 0) (λ n. both-none (eqb (n / pairs) t) (n % pairs))
+
+  pub pieces-all : {w : List Float} {f : List ℤ} {w' : List Float} {f' : List ℤ} (k : ℕ) → k ≡ pairs → 1 ≤ pairs
+      → AreComputed s (inTriplet pairs t k) w f w' f' → AreComputed s (λ n. eqb (n / pairs) t) w f w' f'
+  pieces-all k e h = computed-alike s (inTriplet pairs t k) (λ n. eqb (n / pairs) t) (λ n. rw e (both-all (eqb (n / pairs) t) (n % pairs) pairs (mod-lt n h)))
+
+  -- ---- the triplets
+
+  pub triplets-more : {w₀ : List Float} {f₀ : List ℤ} {w : List Float} {f : List ℤ} {w' : List Float} {f' : List ℤ}
+      → AreComputed s (λ n. ltb (n / pairs) t) w₀ f₀ w f → AreComputed s (λ n. eqb (n / pairs) t) w f w' f' → AreComputed s (λ n. ltb (n / pairs) (t + 1)) w₀ f₀ w' f'
+  triplets-more = computed-join s (λ n. ltb (n / pairs) t) (λ n. eqb (n / pairs) t) (λ n. ltb (n / pairs) (t + 1)) (λ n. triplet-next (n / pairs) t)
+
+pub triplets-none : (s : Study) (pairs : ℕ) (w : List Float) (f : List ℤ) → AreComputed s (λ n. ltb (n / pairs) 0) w f w f
+triplets-none s pairs = computed-none s (λ n. ltb (n / pairs) 0) (λ n. le-ltb (n / pairs) 0 (omega arith))

@@ -1,38 +1,33 @@
--- The questions of the weights of triplets, and their answer.
+-- The questions of the weights of triplets, and what a call did.
 use mathlib.Core.Path.{_≡_}
 use mathlib.Core.List.{List, [], _∷_, _++_}
-use Prim.Native.Nat.{ℕ, zero, suc}
+use Prim.Native.Nat.{ℕ}
 use denote.Ref.{now}
 use lib.Ieee.{Float}
 use lib.IntN.{ℤ}
 use lib.ListN.{length}
+use Rattle.ask.specs.declared.Answer.{Answer}
+use Rattle.ask.specs.Answers.{answerOf}
 use Rattle.ask.specs.Ask.{Question, asks, firstNo, afterCall}
-use Rattle.triplet_piece.specs.Study.{sizesOf}
-use Rattle.triplet_study.specs.Given.{Given, givenQuestions, studyOf, areLengths}
+use Rattle.triplet_study.specs.Study.{Study, sizesOf}
+use Rattle.triplet_study.specs.Questions.{studyQuestions, areLengths}
 use Rattle.triplet_study.specs.Lent.{Lent}
 use Rattle.triplet_iw.specs.Whole.{allWeights, allFlags}
-use Rattle.triplet_iw.specs.declared.WeightsAnswer.{WeightsAnswer}
-use Rattle.triplet_iw.specs.declared.WeightsAnswer.the-variants.{Filled, Refused}
 
 -- 3 to 11 of the study, then 12: "Is each lent buffer exactly as long as its record?"
-abbrev pub weightsQuestions : Given → ℕ → ℕ → List Question
-weightsQuestions g weights flags = givenQuestions g ++ (asks 12 (areLengths (sizesOf (studyOf g)) weights flags) ∷ [])
+abbrev pub weightsQuestions : Study → ℕ → ℕ → List Question
+weightsQuestions s weights flags = studyQuestions s ++ (asks 12 (areLengths (sizesOf s) weights flags) ∷ [])
 
 -- the number of the first no, by the buffers
-abbrev pub weightsNo : Given → List Float → List ℤ → ℕ
-weightsNo g weights flags = firstNo (weightsQuestions g (length weights) (length flags))
-
--- The answer, by the number of the first no: 0 is filled, any other is the refusal.
-abbrev pub weightsAnswer : ℕ → WeightsAnswer
-weightsAnswer zero = Filled
-weightsAnswer (suc n) = Refused (suc n)
+abbrev pub weightsNo : Study → List Float → List ℤ → ℕ
+weightsNo s weights flags = firstNo (weightsQuestions s (length weights) (length flags))
 
 -- what it leaves in the lent buffers: all weights and all flags, and after a refusal their old content
-abbrev pub AreFilled : Given → Lent Float → Lent ℤ → Type 0
-AreFilled g weights flags =
-    (now (weights .exit) ≡ afterCall (weightsNo g (now (weights .entry)) (now (flags .entry))) (allWeights (studyOf g)) (now (weights .entry)))
-    × (now (flags .exit) ≡ afterCall (weightsNo g (now (weights .entry)) (now (flags .entry))) (allFlags (studyOf g)) (now (flags .entry)))
+abbrev pub AreFilled : Study → Lent Float → Lent ℤ → Type 0
+AreFilled s weights flags =
+    (now (weights .exit) ≡ afterCall (weightsNo s (now (weights .entry)) (now (flags .entry))) (allWeights s) (now (weights .entry)))
+    × (now (flags .exit) ≡ afterCall (weightsNo s (now (weights .entry)) (now (flags .entry))) (allFlags s) (now (flags .entry)))
 
 -- What a call did: its answer, and what it left.
-abbrev pub DidFill : Given → Lent Float → Lent ℤ → WeightsAnswer → Type 0
-DidFill g weights flags answer = (answer ≡ weightsAnswer (weightsNo g (now (weights .entry)) (now (flags .entry)))) × AreFilled g weights flags
+abbrev pub DidFill : Study → Lent Float → Lent ℤ → Answer → Type 0
+DidFill s weights flags answer = (answer ≡ answerOf (weightsNo s (now (weights .entry)) (now (flags .entry)))) × AreFilled s weights flags

@@ -1,45 +1,40 @@
 // For the crates above.
 ghost use mathlib.Core.Path.{_≡_};
-ghost use Prim.Native.Nat.{_*_, _/_, _<_};
+ghost use Prim.Native.Nat.{_/_, _<_};
 ghost use lib.Dec.{eqb};
 ghost use lib.ListN.{length};
-ghost use Rattle.question_grids.specs.Tables.{rowsIn};
+ghost use Rattle.triplet_study.specs.Tested.{Ready};
+ghost use Rattle.triplet_study.specs.Lent.{studyNow, studyIn};
 ghost use Rattle.triplet_corners.specs.Corners.{secondSteps};
-ghost use Rattle.triplet_piece.specs.Study.{study, Ready, computedWeights, computedFlags};
-ghost use Rattle.triplet_study.specs.Lent.{studyIn};
-ghost use Rattle.triplet_iw.specs.Whole.{allWeights, allFlags};
+ghost use Rattle.triplet_piece.specs.Weights.{Computes};
+ghost use Rattle.triplet_iw.specs.Whole.{ComputesAll};
 ghost use Rattle.triplet_iw.specs.Calls.{DidFill};
-use crate::WeightsAnswer;
-use bzgrid::BzGrid;
-use triplet_piece::Sizes;
+use ask::Answer;
 use triplet_study::Shape;
-use triplet_types::TpType;
+use triplet_study::Sizes;
 
 // All pieces of triplet `t`: its corners are looked up once. `second` is the second copy of the steps.
 pub fn fill_triplet(
     weights: &mut [f64],
     flags: &mut [i8],
     z: Sizes,
-    tp: TpType,
-    grid: BzGrid,
     addresses: &[i64],
     gp_map: &[i64],
     steps: &[i64],
     second: &[i64],
-    rows: usize,
     frequencies1: &[f64],
     frequencies2: &[f64],
     points: &[f64],
     triplets: &[i64],
     t: usize,
 )
-    requires { ⌜ Ready (study tp grid (now addresses) (now «gp_map») (now steps) (z .bands1) (z .bands2) (now frequencies1) (now frequencies2) (now points) (now triplets)) z (length (now weights)) (length (now flags)) ⌝ }
-    requires { ⌜ (now second ≡ secondSteps tp (now steps)) × ((rows ≡ rowsIn (now steps)) × (t < z .triplets)) ⌝ }
-    ensures { λ _. ⌜ now (weights .exit) ≡ computedWeights (study tp grid (now (addresses .entry)) (now («gp_map» .entry)) (now (steps .entry)) (z .bands1) (z .bands2) (now (frequencies1 .entry)) (now (frequencies2 .entry)) (now (points .entry)) (now (triplets .entry))) (λ n. eqb (n / z .pairs) t) (now (weights .entry)) ⌝ }
-    ensures { λ _. ⌜ now (flags .exit) ≡ computedFlags (study tp grid (now (addresses .entry)) (now («gp_map» .entry)) (now (steps .entry)) (z .bands1) (z .bands2) (now (frequencies1 .entry)) (now (frequencies2 .entry)) (now (points .entry)) (now (triplets .entry))) (λ n. eqb (n / z .pairs) t) (now (flags .entry)) ⌝ }
+    requires { ⌜ Ready (studyNow (z .shape) addresses «gp_map» steps frequencies1 frequencies2 points triplets) z (length (now weights)) (length (now flags)) ⌝ }
+    requires { ⌜ (now second ≡ secondSteps (z .tp) (now steps)) × (t < z .triplets) ⌝ }
+    ensures { λ _. ⌜ Computes (studyIn (z .shape) addresses «gp_map» steps frequencies1 frequencies2 points triplets) (λ n. eqb (n / z .pairs) t) weights flags ⌝ }
 {
     let g1 = common::kernel::magnitude_at(triplets, 3 * t + 1);
     let g2 = common::kernel::magnitude_at(triplets, 3 * t + 2);
+    let grid = z.grid;
     let numbers1 = triplet_corners::kernel::corner_numbers(grid, addresses, gp_map, steps, g1);
     let numbers2 = triplet_corners::kernel::corner_numbers(grid, addresses, gp_map, second, g2);
     let mut f1 = [0.0; 384];
@@ -67,10 +62,8 @@ pub fn fill_triplet(
             weights,
             flags,
             z,
-            tp,
             &numbers1,
             &numbers2,
-            rows,
             frequencies1,
             frequencies2,
             points,
@@ -86,8 +79,6 @@ pub fn fill_triplets(
     weights: &mut [f64],
     flags: &mut [i8],
     z: Sizes,
-    tp: TpType,
-    grid: BzGrid,
     addresses: &[i64],
     gp_map: &[i64],
     steps: &[i64],
@@ -96,26 +87,22 @@ pub fn fill_triplets(
     points: &[f64],
     triplets: &[i64],
 )
-    requires { ⌜ Ready (study tp grid (now addresses) (now «gp_map») (now steps) (z .bands1) (z .bands2) (now frequencies1) (now frequencies2) (now points) (now triplets)) z (length (now weights)) (length (now flags)) ⌝ }
-    ensures { λ _. ⌜ now (weights .exit) ≡ allWeights (study tp grid (now (addresses .entry)) (now («gp_map» .entry)) (now (steps .entry)) (z .bands1) (z .bands2) (now (frequencies1 .entry)) (now (frequencies2 .entry)) (now (points .entry)) (now (triplets .entry))) ⌝ }
-    ensures { λ _. ⌜ now (flags .exit) ≡ allFlags (study tp grid (now (addresses .entry)) (now («gp_map» .entry)) (now (steps .entry)) (z .bands1) (z .bands2) (now (frequencies1 .entry)) (now (frequencies2 .entry)) (now (points .entry)) (now (triplets .entry))) ⌝ }
+    requires { ⌜ Ready (studyNow (z .shape) addresses «gp_map» steps frequencies1 frequencies2 points triplets) z (length (now weights)) (length (now flags)) ⌝ }
+    ensures { λ _. ⌜ ComputesAll (studyIn (z .shape) addresses «gp_map» steps frequencies1 frequencies2 points triplets) weights flags ⌝ }
 {
+    let tp = z.tp;
     let second = triplet_corners::kernel::second_steps(tp, steps);
     let m = steps.len();
-    let rows = m / 12;
     let n = z.triplets;
     for t in 0..n {
         fill_triplet(
             weights,
             flags,
             z,
-            tp,
-            grid,
             addresses,
             gp_map,
             steps,
             &second[..m],
-            rows,
             frequencies1,
             frequencies2,
             points,
@@ -125,8 +112,8 @@ pub fn fill_triplets(
     }
 }
 
-// The weights and flags of all triplets of a study as a caller gives it. Questions 3 to 12.
-pub fn fill_given(
+// The weights and flags of all triplets of a study. Questions 3 to 12.
+pub fn fill_study(
     shape: Shape,
     addresses: &[i64],
     gp_map: &[i64],
@@ -137,11 +124,11 @@ pub fn fill_given(
     triplets: &[i64],
     weights: &mut [f64],
     flags: &mut [i8],
-) -> WeightsAnswer
+) -> Answer
     ensures { λ r. ⌜ DidFill (studyIn shape addresses «gp_map» «relative_grid_address» frequencies1 frequencies2 «frequency_points» triplets)
         weights flags r ⌝ }
 {
-    let no = triplet_study::kernel::given_no(
+    let no = triplet_study::kernel::study_first_no(
         shape,
         addresses,
         gp_map,
@@ -152,23 +139,21 @@ pub fn fill_given(
         triplets,
     );
     if no != 0 {
-        return WeightsAnswer::Refused(no);
+        return Answer::Refused(no);
     }
-    let z = triplet_study::kernel::sizes_of(shape, frequency_points.len(), triplets.len() / 3);
+    let z = triplet_study::kernel::sizes_of(
+        shape,
+        relative_grid_address.len() / 12,
+        frequency_points.len(),
+        triplets.len() / 3,
+    );
     if !triplet_study::kernel::lengths_ok(z, weights.len(), flags.len()) {
-        return WeightsAnswer::Refused(questions::BAD_LENGTH);
+        return Answer::Refused(questions::BAD_LENGTH);
     }
-    let bz_grid_type = shape.bz_grid_type;
-    let d_diag = shape.d_diag;
-    let tp_type = shape.tp_type;
-    let tp = triplet_types::kernel::tp_type_of(tp_type);
-    let grid = bzgrid::kernel::grid_of(bz_grid_type, d_diag);
     fill_triplets(
         weights,
         flags,
         z,
-        tp,
-        grid,
         addresses,
         gp_map,
         relative_grid_address,
@@ -177,5 +162,5 @@ pub fn fill_given(
         frequency_points,
         triplets,
     );
-    WeightsAnswer::Filled
+    Answer::Done
 }

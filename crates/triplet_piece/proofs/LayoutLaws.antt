@@ -15,8 +15,9 @@ use Rattle.list_laws.specs.Patch.{patch}
 use Rattle.list_laws.proofs.PatchLaws.{length-patch, patch-more, patch-none, patch-ext, patch-patch}
 use Rattle.list_laws.proofs.StrideLaws.{digits-eq, strided, strided-last, strided-else, both-none, both-all}
 use Rattle.triplet_outputs.specs.declared.Outputs.{Outputs}
-use Rattle.triplet_piece.specs.declared.Sizes.{Sizes}
-use Rattle.triplet_piece.specs.Layout.{tripletAt, pointAt, pairAt, pieceAt, cellOf, channelOf, cellWeights, pieceWeights, pieceFlags, Fitting}
+use Rattle.triplet_study.specs.declared.Sizes.{Sizes}
+use Rattle.triplet_study.specs.Tested.{Counted}
+use Rattle.triplet_piece.specs.Layout.{tripletAt, pointAt, pairAt, pieceAt, cellOf, channelOf, cellWeights, patchPieces, weightBy, flagBy, pieceWeights, pieceFlags}
 
 -- ---- the weights of one cell
 
@@ -80,25 +81,68 @@ pub point-lt : (p b j : ℕ) → 0 < p → pointAt p b j < p
 unfolding pointAt
 point-lt p b j h = mod-lt (j / b) h
 
+-- ---- a list with the entries of some pieces
+
+joined : {A : Type 0} (a b c : Bool) (x y : A) → cond a true b ≡ c → cond a x (cond b x y) ≡ cond c x y
+joined true b c x y e = rw (← e)
+joined false b c x y e = rw e
+
+-- the piece of place i
+abbrev pieceBy : Sizes → (ℕ → ℕ) → ℕ → ℕ
+pieceBy z cell i = pieceAt (z .points) (z .pairs) (cell i)
+
+module _ {A : Type 0} (z : Sizes) (cell : ℕ → ℕ) where
+  pub patched-length : (own : ℕ → Bool) (value : ℕ → A) (l : List A) → length (patchPieces z cell own value l) ≡ length l
+  patched-length own value l = length-patch (λ i. own (pieceBy z cell i)) value l
+
+  pub patched-none : (own : ℕ → Bool) (value : ℕ → A) → ((n : ℕ) → own n ≡ false) → (l : List A) → l ≡ patchPieces z cell own value l
+  patched-none own value h l = sym (patch-none (λ i. own (pieceBy z cell i)) value l (λ i _. h (pieceBy z cell i)))
+
+  pub patched-alike : (o₁ o₂ : ℕ → Bool) (value : ℕ → A) → ((n : ℕ) → o₁ n ≡ o₂ n) → (l : List A) → patchPieces z cell o₁ value l ≡ patchPieces z cell o₂ value l
+  patched-alike o₁ o₂ value h l = patch-ext (λ i. o₁ (pieceBy z cell i)) value (λ i. o₂ (pieceBy z cell i)) value l (λ i _ y. rw (h (pieceBy z cell i)))
+
+  -- the same values where they are written
+  pub patched-same : (own : ℕ → Bool) (u v : ℕ → A) → ((i : ℕ) → own (pieceBy z cell i) ≡ true → u i ≡ v i) → (l : List A) → patchPieces z cell own u l ≡ patchPieces z cell own v l
+  patched-same own u v h l = patch-ext (λ i. own (pieceBy z cell i)) u (λ i. own (pieceBy z cell i)) v l (λ i _ y. go i y (own (pieceBy z cell i)) refl)
+    where
+      go : (i : ℕ) (y : A) (b : Bool) → own (pieceBy z cell i) ≡ b → cond b (u i) y ≡ cond b (v i) y
+      go i y true e = h i e
+      go i y false e = refl
+
+  -- pieces that are written one after the other
+  pub patched-join : (o₁ o₂ o₃ : ℕ → Bool) (value : ℕ → A) → ((n : ℕ) → cond (o₂ n) true (o₁ n) ≡ o₃ n) → (l : List A)
+      → patchPieces z cell o₂ value (patchPieces z cell o₁ value l) ≡ patchPieces z cell o₃ value l
+  patched-join o₁ o₂ o₃ value h l =
+      patch-patch (λ i. o₁ (pieceBy z cell i)) value (λ i. o₂ (pieceBy z cell i)) value (λ i. o₃ (pieceBy z cell i)) value l
+      (λ i _ y. joined (o₂ (pieceBy z cell i)) (o₁ (pieceBy z cell i)) (o₃ (pieceBy z cell i)) (value i) y (h (pieceBy z cell i)))
+
 -- ---- the points of a piece, one after the other
 
 -- cell j is of piece q, at one of the first n points
 abbrev pub reached : Sizes → ℕ → ℕ → ℕ → Bool
 reached z q n j = cond (eqb (pieceAt (z .points) (z .pairs) j) q) (ltb (pointAt (z .points) (z .pairs) j) n) false
 
--- the weight at place i of a piece with the outputs o
-abbrev pub weightBy : Sizes → (ℕ → Outputs) → ℕ → Float
-weightBy z o i = channelOf (o (pointAt (z .points) (z .pairs) (i % z .cells))) (i / z .cells)
+-- a list once the first n points of piece q are written, place i being of cell `cell i`
+abbrev patchPoints : {A : Type 0} → Sizes → (ℕ → ℕ) → ℕ → ℕ → (ℕ → A) → List A → List A
+patchPoints z cell q n value l = patch (λ i. reached z q n (cell i)) value l
 
-abbrev pub flagBy : Sizes → (ℕ → Outputs) → ℕ → ℤ
-flagBy z o j = o (pointAt (z .points) (z .pairs) j) .flag
+module _ {A : Type 0} (z : Sizes) (cell : ℕ → ℕ) (q : ℕ) (value : ℕ → A) (l : List A) where
+  points-none : l ≡ patchPoints z cell q 0 value l
+  points-none =
+      sym (patch-none (λ i. reached z q 0 (cell i)) value l
+      (λ i _. both-none (eqb (pieceAt (z .points) (z .pairs) (cell i)) q) (pointAt (z .points) (z .pairs) (cell i))))
+
+  points-all : 0 < z .points → patchPoints z cell q (z .points) value l ≡ patchPieces z cell (λ n. eqb n q) value l
+  points-all h =
+      patch-ext (λ i. reached z q (z .points) (cell i)) value (λ i. eqb (pieceAt (z .points) (z .pairs) (cell i)) q) value l
+      (λ i _ y. rw (both-all (eqb (pieceAt (z .points) (z .pairs) (cell i)) q) (pointAt (z .points) (z .pairs) (cell i)) (z .points) (point-lt (z .points) (z .pairs) (cell i) h)))
 
 -- the weights and the flags once the first n points of piece q are written
 unfoldable pub someWeights : Sizes → ℕ → (ℕ → Outputs) → ℕ → List Float → List Float
-someWeights z q o n l = patch (λ i. reached z q n (i % z .cells)) (weightBy z o) l
+someWeights z q o n l = patchPoints z (λ i. i % z .cells) q n (weightBy z o) l
 
 unfoldable pub someFlags : Sizes → ℕ → (ℕ → Outputs) → ℕ → List ℤ → List ℤ
-someFlags z q o n l = patch (reached z q n) (flagBy z o) l
+someFlags z q o n l = patchPoints z (λ j. j) q n (flagBy z o) l
 
 module _ (z : Sizes) (o : ℕ → Outputs) (t k x : ℕ) (hk : k < z .pairs) (hx : x < z .points) where
   here : reached z (t * z .pairs + k) (x + 1) (cellOf (z .points) (z .pairs) t k x) ≡ true
@@ -147,25 +191,19 @@ module _ (z : Sizes) (o : ℕ → Outputs) (t k x : ℕ) (hk : k < z .pairs) (hx
 module _ (z : Sizes) (q : ℕ) (o : ℕ → Outputs) where
   pub flags-none : (l : List ℤ) → l ≡ someFlags z q o 0 l
   unfolding someFlags
-  flags-none l = sym (patch-none (reached z q 0) (flagBy z o) l (λ j _. both-none (eqb (pieceAt (z .points) (z .pairs) j) q) (pointAt (z .points) (z .pairs) j)))
+  flags-none l = points-none z (λ j. j) q (flagBy z o) l
 
   pub weights-none : (l : List Float) → l ≡ someWeights z q o 0 l
   unfolding someWeights
-  weights-none l =
-      sym (patch-none (λ i. reached z q 0 (i % z .cells)) (weightBy z o) l
-      (λ i _. both-none (eqb (pieceAt (z .points) (z .pairs) (i % z .cells)) q) (pointAt (z .points) (z .pairs) (i % z .cells))))
+  weights-none l = points-none z (λ i. i % z .cells) q (weightBy z o) l
 
   pub flags-all : (l : List ℤ) → 0 < z .points → someFlags z q o (z .points) l ≡ pieceFlags z q o l
   unfolding someFlags pieceFlags
-  flags-all l h =
-      patch-ext (reached z q (z .points)) (flagBy z o) (λ j. eqb (pieceAt (z .points) (z .pairs) j) q) (flagBy z o) l
-      (λ j _ y. rw (both-all (eqb (pieceAt (z .points) (z .pairs) j) q) (pointAt (z .points) (z .pairs) j) (z .points) (point-lt (z .points) (z .pairs) j h)))
+  flags-all l h = points-all z (λ j. j) q (flagBy z o) l h
 
   pub weights-all : (l : List Float) → 0 < z .points → someWeights z q o (z .points) l ≡ pieceWeights z q o l
   unfolding someWeights pieceWeights
-  weights-all l h =
-      patch-ext (λ i. reached z q (z .points) (i % z .cells)) (weightBy z o) (λ i. eqb (pieceAt (z .points) (z .pairs) (i % z .cells)) q) (weightBy z o) l
-      (λ i _ y. rw (both-all (eqb (pieceAt (z .points) (z .pairs) (i % z .cells)) q) (pointAt (z .points) (z .pairs) (i % z .cells)) (z .points) (point-lt (z .points) (z .pairs) (i % z .cells) h)))
+  weights-all l h = points-all z (λ i. i % z .cells) q (weightBy z o) l h
 
   pub length-some : (n : ℕ) (l : List Float) → length (someWeights z q o n l) ≡ length l
   unfolding someWeights
@@ -180,20 +218,20 @@ module _ (z : Sizes) (q : ℕ) (o o' : ℕ → Outputs) (e : (x : ℕ) → o x �
   pub weights-same : (l : List Float) → pieceWeights z q o l ≡ pieceWeights z q o' l
   unfolding pieceWeights
   weights-same l =
-      patch-ext (λ i. eqb (pieceAt (z .points) (z .pairs) (i % z .cells)) q) (weightBy z o) (λ i. eqb (pieceAt (z .points) (z .pairs) (i % z .cells)) q) (weightBy z o') l
-      (λ i _ y. rw (e (pointAt (z .points) (z .pairs) (i % z .cells))))
+      patched-same z (λ i. i % z .cells) (λ n. eqb n q) (weightBy z o) (weightBy z o')
+      (λ i _. ap (λ (v : Outputs). channelOf v (i / z .cells)) (e (pointAt (z .points) (z .pairs) (i % z .cells)))) l
 
   pub flags-same : (l : List ℤ) → pieceFlags z q o l ≡ pieceFlags z q o' l
   unfolding pieceFlags
   flags-same l =
-      patch-ext (λ j. eqb (pieceAt (z .points) (z .pairs) j) q) (flagBy z o) (λ j. eqb (pieceAt (z .points) (z .pairs) j) q) (flagBy z o') l
-      (λ j _ y. rw (flagBy, e (pointAt (z .points) (z .pairs) j)))
+      patched-same z (λ j. j) (λ n. eqb n q) (flagBy z o) (flagBy z o')
+      (λ j _. ap (λ (v : Outputs). v .flag) (e (pointAt (z .points) (z .pairs) j))) l
 
 -- ---- places are within their buffers
 
-module _ (z : Sizes) {points weights flags : ℕ} (f : Fitting z points weights flags) (t k x : ℕ) (ht : t < z .triplets) (hk : k < z .pairs) (hx : x < z .points) where
+module _ (z : Sizes) (f : Counted z) (t k x : ℕ) (ht : t < z .triplets) (hk : k < z .pairs) (hx : x < z .points) where
   pub cell-in : cellOf (z .points) (z .pairs) t k x < z .cells
-  cell-in = rw (f .cells) (cell-lt (z .points) (z .pairs) t k x hk hx ht)
+  cell-in = rw (f .cells-are) (cell-lt (z .points) (z .pairs) t k x hk hx ht)
 
   pub row-in : t * z .points + x ≤ (t * z .points + x) * z .pairs
   row-in = le-mul-of-pos-right (t * z .points + x) (omega arith)

@@ -1,3 +1,3 @@
 -- Laws that several proofs cite.
 pub mod LayoutLaws
-pub mod StudyLaws
+pub mod WeightLaws

@@ -1,16 +1,18 @@
 -- Where weights and flags lie. A cell is a place of the flags: triplet, point, b1, b2; a weight's place is a channel and a cell.
 -- A piece is a triplet, b1 and b2; its number is the place of its mark.
-use mathlib.Core.Bool.{cond}
+use mathlib.Core.Bool.{Bool, cond}
 use mathlib.Core.Path.{_≡_}
 use mathlib.Core.List.{List}
-use Prim.Native.Nat.{ℕ, _+_, _*_, _/_, _%_, _≤_}
+use Prim.Native.Nat.{ℕ, _+_, _*_, _/_, _%_}
+use denote.Ref.{now}
 use lib.Dec.{eqb}
 use lib.Ieee.{Float}
 use lib.IntN.{ℤ}
 use lib.ListN.{length}
 use Rattle.list_laws.specs.Patch.{patch}
 use Rattle.triplet_outputs.specs.declared.Outputs.{Outputs}
-use Rattle.triplet_piece.specs.declared.Sizes.{Sizes}
+use Rattle.triplet_study.specs.declared.Sizes.{Sizes}
+use Rattle.triplet_study.specs.Lent.{Lent}
 
 -- of cell j, with so many points and band pairs: its triplet
 unfoldable pub tripletAt : ℕ → ℕ → ℕ → ℕ
@@ -40,23 +42,33 @@ channelOf o c = cond (eqb c 0) (o .w0) (cond (eqb c 1) (o .w1) (o .w2))
 unfoldable pub cellWeights : ℕ → ℕ → Outputs → List Float → List Float
 cellWeights cells cell o l = patch (λ i. eqb (i % cells) cell) (λ i. channelOf o (i / cells)) l
 
--- "Running a piece writes its own entries at every point": the weights once piece q is written, o x being its outputs at point x
+-- a list once the entries of the pieces that `own` picks hold their values, place i being of cell `cell i`
+abbrev pub patchPieces : {A : Type 0} → Sizes → (ℕ → ℕ) → (ℕ → Bool) → (ℕ → A) → List A → List A
+patchPieces z cell own value l = patch (λ i. own (pieceAt (z .points) (z .pairs) (cell i))) value l
+
+-- the weight at place i of a piece whose outputs at point x are o x, and the flag at place j
+abbrev pub weightBy : Sizes → (ℕ → Outputs) → ℕ → Float
+weightBy z o i = channelOf (o (pointAt (z .points) (z .pairs) (i % z .cells))) (i / z .cells)
+
+abbrev pub flagBy : Sizes → (ℕ → Outputs) → ℕ → ℤ
+flagBy z o j = o (pointAt (z .points) (z .pairs) j) .flag
+
+-- "Running a piece writes its own entries at every point": the weights once piece q is written
 unfoldable pub pieceWeights : Sizes → ℕ → (ℕ → Outputs) → List Float → List Float
-pieceWeights z q o l =
-    patch (λ i. eqb (pieceAt (z .points) (z .pairs) (i % z .cells)) q) (λ i. channelOf (o (pointAt (z .points) (z .pairs) (i % z .cells))) (i / z .cells)) l
+pieceWeights z q o l = patchPieces z (λ i. i % z .cells) (λ n. eqb n q) (weightBy z o) l
 
--- the flags once piece q is written
+-- the flags once it is
 unfoldable pub pieceFlags : Sizes → ℕ → (ℕ → Outputs) → List ℤ → List ℤ
-pieceFlags z q o l = patch (λ j. eqb (pieceAt (z .points) (z .pairs) j) q) (λ j. o (pointAt (z .points) (z .pairs) j) .flag) l
+pieceFlags z q o l = patchPieces z (λ j. j) (λ n. eqb n q) (flagBy z o) l
 
--- the counts fit each other and the lengths of points, weights and flags
-pub record Fitting (z : Sizes) (points weights flags : ℕ) : Type 0 where
-  pub pairs : z .pairs ≡ z .bands1 * z .bands2
-  pub cells : z .cells ≡ z .triplets * z .points * z .pairs
-  pub pointed : points ≡ z .points
-  pub some : 1 ≤ z .points
-  pub weighed : weights ≡ z .channels * z .cells
-  pub flagged : flags ≡ z .cells
+-- weights and flags once piece q is written
+pub record AreWritten (z : Sizes) (q : ℕ) (o : ℕ → Outputs) (weights : List Float) (flags : List ℤ) (weights' : List Float) (flags' : List ℤ) : Type 0 where
+  pub weights-are : weights' ≡ pieceWeights z q o weights
+  pub flags-are : flags' ≡ pieceFlags z q o flags
+
+-- a call writes piece q
+abbrev pub WritesPiece : Sizes → ℕ → (ℕ → Outputs) → Lent Float → Lent ℤ → Type 0
+WritesPiece z q o weights flags = AreWritten z q o (now (weights .entry)) (now (flags .entry)) (now (weights .exit)) (now (flags .exit))
 
 -- the sizes of the work areas that a piece is lent
 pub record Areas (f1 f2 a0 a1 a2 : List Float) (p0 p1 p2 : List ℕ) : Type 0 where

@@ -1,3 +1,3 @@
 -- The definitions that the contracts cite.
 pub mod Layout
-pub mod Study
+pub mod Weights

@@ -1,15 +1,13 @@
 // For the crates above, on a tested study.
 ghost use mathlib.Core.Path.{_≡_};
 ghost use Prim.Native.Nat.{_+_, _*_, _<_, _≤_};
-ghost use lib.Ieee.{nan};
-ghost use lib.ListN.{getD, length};
+ghost use lib.ListN.{length};
 ghost use Rattle.triplet_values.specs.Values.{Held};
-ghost use Rattle.triplet_channels.specs.Ordered.{outputsOrdered};
-ghost use Rattle.triplet_piece.specs.Layout.{channelOf, cellWeights, pieceWeights, pieceFlags, Fitting, Areas};
-ghost use Rattle.triplet_piece.specs.Study.{outputsOfCorners};
-use crate::Sizes;
+ghost use Rattle.triplet_study.specs.Tested.{Counted, Fitting};
+ghost use Rattle.triplet_piece.specs.Layout.{channelOf, cellWeights, WritesPiece, Areas};
+ghost use Rattle.triplet_piece.specs.Weights.{outputsOfSorted, outputsOfCorners};
 use triplet_outputs::Outputs;
-use triplet_types::TpType;
+use triplet_study::Sizes;
 use triplet_values::ValueBox;
 
 // The weight of an output channel.
@@ -26,12 +24,10 @@ fn channel_of(o: Outputs, c: usize) -> f64
 }
 
 // The weights of a cell, in every channel.
-fn put_weights(weights: &mut [f64], z: Sizes, cell: usize, o: Outputs)
-    requires { ⌜ (cell < z .cells) × (length (now weights) ≡ z .channels * z .cells) ⌝ }
-    ensures { λ _. ⌜ now (weights .exit) ≡ cellWeights (z .cells) cell o (now (weights .entry)) ⌝ }
+fn put_weights(weights: &mut [f64], cells: usize, channels: usize, cell: usize, o: Outputs)
+    requires { ⌜ (cell < cells) × (length (now weights) ≡ channels * cells) ⌝ }
+    ensures { λ _. ⌜ now (weights .exit) ≡ cellWeights cells cell o (now (weights .entry)) ⌝ }
 {
-    let cells = z.cells;
-    let channels = z.channels;
     for c in 0..channels {
         weights[c * cells + cell] = channel_of(o, c);
     }
@@ -42,7 +38,6 @@ fn fill_points(
     weights: &mut [f64],
     flags: &mut [i8],
     z: Sizes,
-    tp: TpType,
     points: &[f64],
     t: usize,
     pair: usize,
@@ -52,19 +47,17 @@ fn fill_points(
     p1: &[usize; 96],
     s2: &[f64; 384],
     p2: &[usize; 96],
-    rows: usize,
     x0: ValueBox,
     x1: ValueBox,
     x2: ValueBox,
 )
-    requires { ⌜ (rows ≤ 96) × (Fitting z (length (now points)) (length (now weights)) (length (now flags)) × ((t < z .triplets) × (pair < z .pairs))) ⌝ }
-    ensures { λ _. ⌜ now (weights .exit) ≡ pieceWeights z (t * z .pairs + pair)
-        (λ x. outputsOrdered tp (getD (now (points .entry)) x nan) (now (s0 .entry)) (now (p0 .entry)) (now (s1 .entry)) (now (p1 .entry)) (now (s2 .entry)) (now (p2 .entry)) rows x0 x1 x2)
-        (now (weights .entry)) ⌝ }
-    ensures { λ _. ⌜ now (flags .exit) ≡ pieceFlags z (t * z .pairs + pair)
-        (λ x. outputsOrdered tp (getD (now (points .entry)) x nan) (now (s0 .entry)) (now (p0 .entry)) (now (s1 .entry)) (now (p1 .entry)) (now (s2 .entry)) (now (p2 .entry)) rows x0 x1 x2)
-        (now (flags .entry)) ⌝ }
+    requires { ⌜ Counted z × (Fitting z (length (now points)) (length (now weights)) (length (now flags)) × ((t < z .triplets) × (pair < z .pairs))) ⌝ }
+    ensures { λ _. ⌜ WritesPiece z (t * z .pairs + pair)
+        (outputsOfSorted z (now (points .entry)) (now (s0 .entry)) (now (p0 .entry)) (now (s1 .entry)) (now (p1 .entry)) (now (s2 .entry)) (now (p2 .entry)) x0 x1 x2)
+        weights flags ⌝ }
 {
+    let tp = z.tp;
+    let rows = z.rows;
     let n = z.points;
     let pairs = z.pairs;
     for x in 0..n {
@@ -83,7 +76,7 @@ fn fill_points(
             x1,
             x2,
         );
-        put_weights(weights, z, cell, o);
+        put_weights(weights, z.cells, z.channels, cell, o);
         let flag = o.flag;
         flags[cell] = flag;
     }
@@ -104,10 +97,8 @@ pub fn fill_piece(
     weights: &mut [f64],
     flags: &mut [i8],
     z: Sizes,
-    tp: TpType,
     numbers1: &[usize; 384],
     numbers2: &[usize; 384],
-    rows: usize,
     frequencies1: &[f64],
     frequencies2: &[f64],
     points: &[f64],
@@ -115,17 +106,16 @@ pub fn fill_piece(
     b1: usize,
     b2: usize,
 )
-    requires { ⌜ ((1 ≤ rows) × (rows ≤ 96)) × (Fitting z (length (now points)) (length (now weights)) (length (now flags)) × ((t < z .triplets) × ((b1 < z .bands1) × (b2 < z .bands2)))) ⌝ }
-    requires { ⌜ Held (now numbers1) (rows * 4) (length (now frequencies1)) (z .bands1) b1 × Held (now numbers2) (rows * 4) (length (now frequencies2)) (z .bands2) b2 ⌝ }
+    requires { ⌜ Counted z × (Fitting z (length (now points)) (length (now weights)) (length (now flags)) × ((t < z .triplets) × ((b1 < z .bands1) × (b2 < z .bands2)))) ⌝ }
+    requires { ⌜ Held (now numbers1) (z .rows * 4) (length (now frequencies1)) (z .bands1) b1 × Held (now numbers2) (z .rows * 4) (length (now frequencies2)) (z .bands2) b2 ⌝ }
     requires { ⌜ Areas (now f1) (now f2) (now a0) (now a1) (now a2) (now p0) (now p1) (now p2) ⌝ }
     ensures { λ _. ⌜ Areas (now (f1 .exit)) (now (f2 .exit)) (now (a0 .exit)) (now (a1 .exit)) (now (a2 .exit)) (now (p0 .exit)) (now (p1 .exit)) (now (p2 .exit)) ⌝ }
-    ensures { λ _. ⌜ now (weights .exit) ≡ pieceWeights z (t * z .pairs + (b1 * z .bands2 + b2))
-        (λ x. outputsOfCorners tp (now (points .entry)) (now (numbers1 .entry)) (now (numbers2 .entry)) rows (now (frequencies1 .entry)) (z .bands1) b1 (now (frequencies2 .entry)) (z .bands2) b2 x)
-        (now (weights .entry)) ⌝ }
-    ensures { λ _. ⌜ now (flags .exit) ≡ pieceFlags z (t * z .pairs + (b1 * z .bands2 + b2))
-        (λ x. outputsOfCorners tp (now (points .entry)) (now (numbers1 .entry)) (now (numbers2 .entry)) rows (now (frequencies1 .entry)) (z .bands1) b1 (now (frequencies2 .entry)) (z .bands2) b2 x)
-        (now (flags .entry)) ⌝ }
+    ensures { λ _. ⌜ WritesPiece z (t * z .pairs + (b1 * z .bands2 + b2))
+        (outputsOfCorners z (now (points .entry)) (now (numbers1 .entry)) (now (numbers2 .entry)) (now (frequencies1 .entry)) b1 (now (frequencies2 .entry)) b2)
+        weights flags ⌝ }
 {
+    let tp = z.tp;
+    let rows = z.rows;
     let n = rows * 4;
     let bands1 = z.bands1;
     let bands2 = z.bands2;
@@ -147,7 +137,6 @@ pub fn fill_piece(
         weights,
         flags,
         z,
-        tp,
         points,
         t,
         pair,
@@ -157,7 +146,6 @@ pub fn fill_piece(
         p1,
         a2,
         p2,
-        rows,
         x0,
         x1,
         x2,

@@ -5,23 +5,23 @@ use denote.Triple.Both.{Both}
 use lib.Ieee.{Float}
 use lib.IntN.{ℤ}
 use Rattle.triplet_study.specs.declared.Shape.{Shape}
-use Rattle.triplet_study.specs.Given.{Given, given}
+use Rattle.triplet_study.specs.Study.{Study, study}
 
 -- a lent list, at a call's entry and at its exit
 abbrev pub Lent : Type 0 → Type 0
 Lent A = Both (RefT (List A)) (RefT (List A))
 
 -- the study of lists that are lent, as a `requires` names them
-abbrev pub studyNow : Shape → RefT (List ℤ) → RefT (List ℤ) → RefT (List ℤ) → RefT (List Float) → RefT (List Float) → RefT (List Float) → RefT (List ℤ) → Given
+abbrev pub studyNow : Shape → RefT (List ℤ) → RefT (List ℤ) → RefT (List ℤ) → RefT (List Float) → RefT (List Float) → RefT (List Float) → RefT (List ℤ) → Study
 studyNow shape addresses gp-map steps frequencies1 frequencies2 points triplets =
-    given shape (now addresses) (now gp-map) (now steps) (now frequencies1) (now frequencies2) (now points) (now triplets)
+    study shape (now addresses) (now gp-map) (now steps) (now frequencies1) (now frequencies2) (now points) (now triplets)
 
 -- the study that a call takes, as its `ensures` names them
-abbrev pub studyIn : Shape → Lent ℤ → Lent ℤ → Lent ℤ → Lent Float → Lent Float → Lent Float → Lent ℤ → Given
+abbrev pub studyIn : Shape → Lent ℤ → Lent ℤ → Lent ℤ → Lent Float → Lent Float → Lent Float → Lent ℤ → Study
 studyIn shape addresses gp-map steps frequencies1 frequencies2 points triplets =
     studyNow shape (addresses .entry) (gp-map .entry) (steps .entry) (frequencies1 .entry) (frequencies2 .entry) (points .entry) (triplets .entry)
 
 -- the study with one triplet, which is not lent
-abbrev pub studyOfOne : Shape → Lent ℤ → Lent ℤ → Lent ℤ → Lent Float → Lent Float → Lent Float → List ℤ → Given
+abbrev pub studyOfOne : Shape → Lent ℤ → Lent ℤ → Lent ℤ → Lent Float → Lent Float → Lent Float → List ℤ → Study
 studyOfOne shape addresses gp-map steps frequencies1 frequencies2 points triplet =
-    given shape (now (addresses .entry)) (now (gp-map .entry)) (now (steps .entry)) (now (frequencies1 .entry)) (now (frequencies2 .entry)) (now (points .entry)) triplet
+    study shape (now (addresses .entry)) (now (gp-map .entry)) (now (steps .entry)) (now (frequencies1 .entry)) (now (frequencies2 .entry)) (now (points .entry)) triplet

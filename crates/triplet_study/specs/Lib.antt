@@ -1,3 +1,5 @@
 -- The definitions that the contracts cite.
-pub mod Given
+pub mod Study
+pub mod Questions
+pub mod Tested
 pub mod Lent

@@ -14,8 +14,8 @@ ghost use Rattle.sheet_fill.specs.Piece.{isOpenPiece, closedPiece};
 use crate::kernel::run;
 use bzgrid::BzGrid;
 use marks::kernel as mark;
-use triplet_types::TpType;
 use triplet_piece::Sizes;
+use triplet_types::TpType;
 use triplet_types::TpType;
 
 // Piece `q`, if it is open: its entries are written, and its mark becomes 1. Gives the triplet whose corners are then kept.

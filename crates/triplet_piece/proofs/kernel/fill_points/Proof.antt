@@ -1,124 +1,120 @@
 -- `triplet_piece::kernel::fill_points` meets its contract. Assumes nothing.
 use Prim.Native.Nat.{_*_, _+_, _-_, _<_, _≤_, zero-le, ℕ}
 use borrow.Author.Needs.{needs}
-use lib.Ieee.{Float, nan}
-use lib.ListN.{getD, length}
-use mathlib.Core.List.{List}
+use lib.ListN.{length}
 use mathlib.Core.Path.{_∙_, _≡_, ap, sym}
 use mir.Syntax.{w8}
 use mir.Val.{SFits}
 use mir.ValLaws.{toZ-ofZ}
 use native.Mathlib.Omega.{arith}
-use Rattle.list_laws.specs.Lists.{rows}
-use Rattle.triplet_channels.specs.Ordered.{outputsOrdered}
 use Rattle.triplet_piece.proofs.LayoutLaws.{cell-in, flags-all, flags-more, flags-none, length-some, length-some-flags, row-in, someFlags, someWeights, weights-all, weights-more, weights-none}
 use Rattle.triplet_outputs.specs.declared.Outputs.{Outputs}
-use Rattle.triplet_types.specs.declared.TpType.{TpType}
-use Rattle.triplet_values.specs.declared.ValueBox.{ValueBox}
+use Rattle.triplet_piece.specs.Weights.{outputsOfSorted}
 use Rattle.triplet_piece.proofs.kernel.fill_points.Statement.{statement}
 use Rattle.triplet_piece.proofs.kernel.fill_points.Tie as tie
 
--- the outputs at a point
-abbrev outs : TpType → List Float → List Float → List ℕ → List Float → List ℕ → List Float → List ℕ → ℕ → ValueBox → ValueBox → ValueBox → ℕ → Outputs
-outs tp points s0 p0 s1 p1 s2 p2 rows x0 x1 x2 k = outputsOrdered tp (getD points k nan) s0 p0 s1 p1 s2 p2 rows x0 x1 x2
-
 abbrev Inv-loop : tie.InvT-loop
-Inv-loop weights₀ flags₀ z tp points t pair s0 p0 s1 p1 s2 p2 rows x0 x1 x2 n pairs x₀ weights flags x =
-    (x ≤ z .points) × ((weights ≡ someWeights z (t * z .pairs + pair) (outs tp points s0 p0 s1 p1 s2 p2 rows x0 x1 x2) x weights₀) × (flags ≡ someFlags z (t * z .pairs + pair) (outs tp points s0 p0 s1 p1 s2 p2 rows x0 x1 x2) x flags₀))
+Inv-loop weights₀ flags₀ z points t pair s0 p0 s1 p1 s2 p2 x0 x1 x2 tp rows n pairs x₀ weights flags x =
+    (x ≤ z .points) × ((weights ≡ someWeights z (t * z .pairs + pair) (outputsOfSorted z points s0 p0 s1 p1 s2 p2 x0 x1 x2) x weights₀) × (flags ≡ someFlags z (t * z .pairs + pair) (outputsOfSorted z points s0 p0 s1 p1 s2 p2 x0 x1 x2) x flags₀))
 
 abbrev μ-loop : tie.MeasureT-loop
-μ-loop weights₀ flags₀ z tp points t pair s0 p0 s1 p1 s2 p2 rows x0 x1 x2 n pairs x₀ weights flags x =
+μ-loop weights₀ flags₀ z points t pair s0 p0 s1 p1 s2 p2 x0 x1 x2 tp rows n pairs x₀ weights flags x =
     z .points - x
+
+-- the outputs at a point
+abbrev outs : tie.Start Inv-loop μ-loop → ℕ → Outputs
+outs s =
+    outputsOfSorted (s .args .z) (s .args .points .now) (s .args .s0 .now) (s .args .p0 .now) (s .args .s1 .now) (s .args .p1 .now) (s .args .s2 .now) (s .args .p2 .now) (s .args .x0) (s .args .x1) (s .args .x2)
 
 loop-holds : tie.Need-loop-holds Inv-loop μ-loop
 loop-holds c =
     let s : _ = c .before .before in
-    (zero-le, (weights-none (s .args .z) (s .args .t * s .args .z .pairs + s .args .pair) (outs (s .args .tp) (s .args .points .now) (s .args .s0 .now) (s .args .p0 .now) (s .args .s1 .now) (s .args .p1 .now) (s .args .s2 .now) (s .args .p2 .now) (s .args .rows) (s .args .x0) (s .args .x1) (s .args .x2)) (s .args .weights .now), flags-none (s .args .z) (s .args .t * s .args .z .pairs + s .args .pair) (outs (s .args .tp) (s .args .points .now) (s .args .s0 .now) (s .args .p0 .now) (s .args .s1 .now) (s .args .p1 .now) (s .args .s2 .now) (s .args .p2 .now) (s .args .rows) (s .args .x0) (s .args .x1) (s .args .x2)) (s .args .flags .now)))
+    (zero-le, (weights-none (s .args .z) (s .args .t * s .args .z .pairs + s .args .pair) (outs s) (s .args .weights .now), flags-none (s .args .z) (s .args .t * s .args .z .pairs + s .args .pair) (outs s) (s .args .flags .now)))
 
 mul-cell : tie.Need-mul-cell Inv-loop μ-loop
 mul-cell c =
     let s : _ = c .before .before .before .before in
     let hx : c .before .loop .x < s .args .z .points = omega arith in
-    let ci : _ = cell-in (s .args .z) (s .pre .1 .0) (s .args .t) (s .args .pair) (c .before .loop .x) (s .pre .1 .1 .0) (s .pre .1 .1 .1) hx in
-    let ri : _ = row-in (s .args .z) (s .pre .1 .0) (s .args .t) (s .args .pair) (c .before .loop .x) (s .pre .1 .1 .0) (s .pre .1 .1 .1) hx in
-    let lf : length (c .before .loop .flags) ≡ length (s .args .flags .now) = ap length (c .before .loop .inv .1 .1) ∙ length-some-flags (s .args .z) (s .args .t * s .args .z .pairs + s .args .pair) (outs (s .args .tp) (s .args .points .now) (s .args .s0 .now) (s .args .p0 .now) (s .args .s1 .now) (s .args .p1 .now) (s .args .s2 .now) (s .args .p2 .now) (s .args .rows) (s .args .x0) (s .args .x1) (s .args .x2)) (c .before .loop .x) (s .args .flags .now) in
-    omega (arith, s .pre .1 .0 .pointed, s .pre .1 .0 .weighed, s .pre .1 .0 .flagged, s .pre .1 .0 .cells, s .good)
+    let ci : _ = cell-in (s .args .z) (s .pre .0) (s .args .t) (s .args .pair) (c .before .loop .x) (s .pre .1 .1 .0) (s .pre .1 .1 .1) hx in
+    let ri : _ = row-in (s .args .z) (s .pre .0) (s .args .t) (s .args .pair) (c .before .loop .x) (s .pre .1 .1 .0) (s .pre .1 .1 .1) hx in
+    let lf : length (c .before .loop .flags) ≡ length (s .args .flags .now) = ap length (c .before .loop .inv .1 .1) ∙ length-some-flags (s .args .z) (s .args .t * s .args .z .pairs + s .args .pair) (outs s) (c .before .loop .x) (s .args .flags .now) in
+    omega (arith, s .pre .1 .0 .pointed, s .pre .1 .0 .weighed, s .pre .1 .0 .flagged, s .pre .0 .cells-are, s .good)
 
 add-cell : tie.Need-add-cell Inv-loop μ-loop
 add-cell c =
     let s : _ = c .before .before .before .before in
     let hx : c .before .loop .x < s .args .z .points = omega arith in
-    let ci : _ = cell-in (s .args .z) (s .pre .1 .0) (s .args .t) (s .args .pair) (c .before .loop .x) (s .pre .1 .1 .0) (s .pre .1 .1 .1) hx in
-    let ri : _ = row-in (s .args .z) (s .pre .1 .0) (s .args .t) (s .args .pair) (c .before .loop .x) (s .pre .1 .1 .0) (s .pre .1 .1 .1) hx in
-    let lf : length (c .before .loop .flags) ≡ length (s .args .flags .now) = ap length (c .before .loop .inv .1 .1) ∙ length-some-flags (s .args .z) (s .args .t * s .args .z .pairs + s .args .pair) (outs (s .args .tp) (s .args .points .now) (s .args .s0 .now) (s .args .p0 .now) (s .args .s1 .now) (s .args .p1 .now) (s .args .s2 .now) (s .args .p2 .now) (s .args .rows) (s .args .x0) (s .args .x1) (s .args .x2)) (c .before .loop .x) (s .args .flags .now) in
-    omega (arith, s .pre .1 .0 .pointed, s .pre .1 .0 .weighed, s .pre .1 .0 .flagged, s .pre .1 .0 .cells, s .good)
+    let ci : _ = cell-in (s .args .z) (s .pre .0) (s .args .t) (s .args .pair) (c .before .loop .x) (s .pre .1 .1 .0) (s .pre .1 .1 .1) hx in
+    let ri : _ = row-in (s .args .z) (s .pre .0) (s .args .t) (s .args .pair) (c .before .loop .x) (s .pre .1 .1 .0) (s .pre .1 .1 .1) hx in
+    let lf : length (c .before .loop .flags) ≡ length (s .args .flags .now) = ap length (c .before .loop .inv .1 .1) ∙ length-some-flags (s .args .z) (s .args .t * s .args .z .pairs + s .args .pair) (outs s) (c .before .loop .x) (s .args .flags .now) in
+    omega (arith, s .pre .1 .0 .pointed, s .pre .1 .0 .weighed, s .pre .1 .0 .flagged, s .pre .0 .cells-are, s .good)
 
 mul-cell-2 : tie.Need-mul-cell-2 Inv-loop μ-loop
 mul-cell-2 c =
     let s : _ = c .before .before .before .before in
     let hx : c .before .loop .x < s .args .z .points = omega arith in
-    let ci : _ = cell-in (s .args .z) (s .pre .1 .0) (s .args .t) (s .args .pair) (c .before .loop .x) (s .pre .1 .1 .0) (s .pre .1 .1 .1) hx in
-    let ri : _ = row-in (s .args .z) (s .pre .1 .0) (s .args .t) (s .args .pair) (c .before .loop .x) (s .pre .1 .1 .0) (s .pre .1 .1 .1) hx in
-    let lf : length (c .before .loop .flags) ≡ length (s .args .flags .now) = ap length (c .before .loop .inv .1 .1) ∙ length-some-flags (s .args .z) (s .args .t * s .args .z .pairs + s .args .pair) (outs (s .args .tp) (s .args .points .now) (s .args .s0 .now) (s .args .p0 .now) (s .args .s1 .now) (s .args .p1 .now) (s .args .s2 .now) (s .args .p2 .now) (s .args .rows) (s .args .x0) (s .args .x1) (s .args .x2)) (c .before .loop .x) (s .args .flags .now) in
-    omega (arith, s .pre .1 .0 .pointed, s .pre .1 .0 .weighed, s .pre .1 .0 .flagged, s .pre .1 .0 .cells, s .good)
+    let ci : _ = cell-in (s .args .z) (s .pre .0) (s .args .t) (s .args .pair) (c .before .loop .x) (s .pre .1 .1 .0) (s .pre .1 .1 .1) hx in
+    let ri : _ = row-in (s .args .z) (s .pre .0) (s .args .t) (s .args .pair) (c .before .loop .x) (s .pre .1 .1 .0) (s .pre .1 .1 .1) hx in
+    let lf : length (c .before .loop .flags) ≡ length (s .args .flags .now) = ap length (c .before .loop .inv .1 .1) ∙ length-some-flags (s .args .z) (s .args .t * s .args .z .pairs + s .args .pair) (outs s) (c .before .loop .x) (s .args .flags .now) in
+    omega (arith, s .pre .1 .0 .pointed, s .pre .1 .0 .weighed, s .pre .1 .0 .flagged, s .pre .0 .cells-are, s .good)
 
 add-cell-2 : tie.Need-add-cell-2 Inv-loop μ-loop
 add-cell-2 c =
     let s : _ = c .before .before .before .before in
     let hx : c .before .loop .x < s .args .z .points = omega arith in
-    let ci : _ = cell-in (s .args .z) (s .pre .1 .0) (s .args .t) (s .args .pair) (c .before .loop .x) (s .pre .1 .1 .0) (s .pre .1 .1 .1) hx in
-    let ri : _ = row-in (s .args .z) (s .pre .1 .0) (s .args .t) (s .args .pair) (c .before .loop .x) (s .pre .1 .1 .0) (s .pre .1 .1 .1) hx in
-    let lf : length (c .before .loop .flags) ≡ length (s .args .flags .now) = ap length (c .before .loop .inv .1 .1) ∙ length-some-flags (s .args .z) (s .args .t * s .args .z .pairs + s .args .pair) (outs (s .args .tp) (s .args .points .now) (s .args .s0 .now) (s .args .p0 .now) (s .args .s1 .now) (s .args .p1 .now) (s .args .s2 .now) (s .args .p2 .now) (s .args .rows) (s .args .x0) (s .args .x1) (s .args .x2)) (c .before .loop .x) (s .args .flags .now) in
-    omega (arith, s .pre .1 .0 .pointed, s .pre .1 .0 .weighed, s .pre .1 .0 .flagged, s .pre .1 .0 .cells, s .good)
+    let ci : _ = cell-in (s .args .z) (s .pre .0) (s .args .t) (s .args .pair) (c .before .loop .x) (s .pre .1 .1 .0) (s .pre .1 .1 .1) hx in
+    let ri : _ = row-in (s .args .z) (s .pre .0) (s .args .t) (s .args .pair) (c .before .loop .x) (s .pre .1 .1 .0) (s .pre .1 .1 .1) hx in
+    let lf : length (c .before .loop .flags) ≡ length (s .args .flags .now) = ap length (c .before .loop .inv .1 .1) ∙ length-some-flags (s .args .z) (s .args .t * s .args .z .pairs + s .args .pair) (outs s) (c .before .loop .x) (s .args .flags .now) in
+    omega (arith, s .pre .1 .0 .pointed, s .pre .1 .0 .weighed, s .pre .1 .0 .flagged, s .pre .0 .cells-are, s .good)
 
 mul-outputs-at : tie.Need-mul-outputs-at Inv-loop μ-loop
 mul-outputs-at c =
     let s : _ = c .before .before .before .before in
     let hx : c .before .loop .x < s .args .z .points = omega arith in
-    let ci : _ = cell-in (s .args .z) (s .pre .1 .0) (s .args .t) (s .args .pair) (c .before .loop .x) (s .pre .1 .1 .0) (s .pre .1 .1 .1) hx in
-    let ri : _ = row-in (s .args .z) (s .pre .1 .0) (s .args .t) (s .args .pair) (c .before .loop .x) (s .pre .1 .1 .0) (s .pre .1 .1 .1) hx in
-    let lf : length (c .before .loop .flags) ≡ length (s .args .flags .now) = ap length (c .before .loop .inv .1 .1) ∙ length-some-flags (s .args .z) (s .args .t * s .args .z .pairs + s .args .pair) (outs (s .args .tp) (s .args .points .now) (s .args .s0 .now) (s .args .p0 .now) (s .args .s1 .now) (s .args .p1 .now) (s .args .s2 .now) (s .args .p2 .now) (s .args .rows) (s .args .x0) (s .args .x1) (s .args .x2)) (c .before .loop .x) (s .args .flags .now) in
-    omega (arith, s .pre .1 .0 .pointed, s .pre .1 .0 .weighed, s .pre .1 .0 .flagged, s .pre .1 .0 .cells, s .good)
+    let ci : _ = cell-in (s .args .z) (s .pre .0) (s .args .t) (s .args .pair) (c .before .loop .x) (s .pre .1 .1 .0) (s .pre .1 .1 .1) hx in
+    let ri : _ = row-in (s .args .z) (s .pre .0) (s .args .t) (s .args .pair) (c .before .loop .x) (s .pre .1 .1 .0) (s .pre .1 .1 .1) hx in
+    let lf : length (c .before .loop .flags) ≡ length (s .args .flags .now) = ap length (c .before .loop .inv .1 .1) ∙ length-some-flags (s .args .z) (s .args .t * s .args .z .pairs + s .args .pair) (outs s) (c .before .loop .x) (s .args .flags .now) in
+    omega (arith, s .pre .1 .0 .pointed, s .pre .1 .0 .weighed, s .pre .1 .0 .flagged, s .pre .0 .cells-are, s .good)
 
 shared-slice-read-outputs-at : tie.Need-shared-slice-read-outputs-at Inv-loop μ-loop
 shared-slice-read-outputs-at c =
     let s : _ = c .before .before .before .before .before in
     let hx : c .before .before .loop .x < s .args .z .points = omega arith in
-    let ci : _ = cell-in (s .args .z) (s .pre .1 .0) (s .args .t) (s .args .pair) (c .before .before .loop .x) (s .pre .1 .1 .0) (s .pre .1 .1 .1) hx in
-    let ri : _ = row-in (s .args .z) (s .pre .1 .0) (s .args .t) (s .args .pair) (c .before .before .loop .x) (s .pre .1 .1 .0) (s .pre .1 .1 .1) hx in
-    let lf : length (c .before .before .loop .flags) ≡ length (s .args .flags .now) = ap length (c .before .before .loop .inv .1 .1) ∙ length-some-flags (s .args .z) (s .args .t * s .args .z .pairs + s .args .pair) (outs (s .args .tp) (s .args .points .now) (s .args .s0 .now) (s .args .p0 .now) (s .args .s1 .now) (s .args .p1 .now) (s .args .s2 .now) (s .args .p2 .now) (s .args .rows) (s .args .x0) (s .args .x1) (s .args .x2)) (c .before .before .loop .x) (s .args .flags .now) in
-    omega (arith, s .pre .1 .0 .pointed, s .pre .1 .0 .weighed, s .pre .1 .0 .flagged, s .pre .1 .0 .cells, s .good)
+    let ci : _ = cell-in (s .args .z) (s .pre .0) (s .args .t) (s .args .pair) (c .before .before .loop .x) (s .pre .1 .1 .0) (s .pre .1 .1 .1) hx in
+    let ri : _ = row-in (s .args .z) (s .pre .0) (s .args .t) (s .args .pair) (c .before .before .loop .x) (s .pre .1 .1 .0) (s .pre .1 .1 .1) hx in
+    let lf : length (c .before .before .loop .flags) ≡ length (s .args .flags .now) = ap length (c .before .before .loop .inv .1 .1) ∙ length-some-flags (s .args .z) (s .args .t * s .args .z .pairs + s .args .pair) (outs s) (c .before .before .loop .x) (s .args .flags .now) in
+    omega (arith, s .pre .1 .0 .pointed, s .pre .1 .0 .weighed, s .pre .1 .0 .flagged, s .pre .0 .cells-are, s .good)
 
 outputs-at-requires : tie.Need-outputs-at-requires Inv-loop μ-loop
 outputs-at-requires c κs =
-    c .before .before .before .before .before .pre .0
+    c .before .before .before .before .before .pre .0 .rows-few
 
 put-weights-requires : tie.Need-put-weights-requires Inv-loop μ-loop
 put-weights-requires c κs =
     let s : _ = c .before .before .before .before .before .before .before in
     let hx : c .before .before .before .before .loop .x < s .args .z .points = omega arith in
-    let ci : _ = cell-in (s .args .z) (s .pre .1 .0) (s .args .t) (s .args .pair) (c .before .before .before .before .loop .x) (s .pre .1 .1 .0) (s .pre .1 .1 .1) hx in
-    let ri : _ = row-in (s .args .z) (s .pre .1 .0) (s .args .t) (s .args .pair) (c .before .before .before .before .loop .x) (s .pre .1 .1 .0) (s .pre .1 .1 .1) hx in
-    let lw : length (c .before .before .before .before .loop .weights) ≡ length (s .args .weights .now) = ap length (c .before .before .before .before .loop .inv .1 .0) ∙ length-some (s .args .z) (s .args .t * s .args .z .pairs + s .args .pair) (outs (s .args .tp) (s .args .points .now) (s .args .s0 .now) (s .args .p0 .now) (s .args .s1 .now) (s .args .p1 .now) (s .args .s2 .now) (s .args .p2 .now) (s .args .rows) (s .args .x0) (s .args .x1) (s .args .x2)) (c .before .before .before .before .loop .x) (s .args .weights .now) in
+    let ci : _ = cell-in (s .args .z) (s .pre .0) (s .args .t) (s .args .pair) (c .before .before .before .before .loop .x) (s .pre .1 .1 .0) (s .pre .1 .1 .1) hx in
+    let ri : _ = row-in (s .args .z) (s .pre .0) (s .args .t) (s .args .pair) (c .before .before .before .before .loop .x) (s .pre .1 .1 .0) (s .pre .1 .1 .1) hx in
+    let lw : length (c .before .before .before .before .loop .weights) ≡ length (s .args .weights .now) = ap length (c .before .before .before .before .loop .inv .1 .0) ∙ length-some (s .args .z) (s .args .t * s .args .z .pairs + s .args .pair) (outs s) (c .before .before .before .before .loop .x) (s .args .weights .now) in
     (ci, lw ∙ s .pre .1 .0 .weighed)
 
 slice-set-from-flag : tie.Need-slice-set-from-flag Inv-loop μ-loop
 slice-set-from-flag c =
     let s : _ = c .before .before .before .before .before .before .before .before .before .before .before in
     let hx : c .before .before .before .before .before .before .before .before .loop .x < s .args .z .points = omega arith in
-    let ci : _ = cell-in (s .args .z) (s .pre .1 .0) (s .args .t) (s .args .pair) (c .before .before .before .before .before .before .before .before .loop .x) (s .pre .1 .1 .0) (s .pre .1 .1 .1) hx in
-    let ri : _ = row-in (s .args .z) (s .pre .1 .0) (s .args .t) (s .args .pair) (c .before .before .before .before .before .before .before .before .loop .x) (s .pre .1 .1 .0) (s .pre .1 .1 .1) hx in
-    let lf : length (c .before .before .before .before .before .before .before .before .loop .flags) ≡ length (s .args .flags .now) = ap length (c .before .before .before .before .before .before .before .before .loop .inv .1 .1) ∙ length-some-flags (s .args .z) (s .args .t * s .args .z .pairs + s .args .pair) (outs (s .args .tp) (s .args .points .now) (s .args .s0 .now) (s .args .p0 .now) (s .args .s1 .now) (s .args .p1 .now) (s .args .s2 .now) (s .args .p2 .now) (s .args .rows) (s .args .x0) (s .args .x1) (s .args .x2)) (c .before .before .before .before .before .before .before .before .loop .x) (s .args .flags .now) in
-    omega (arith, s .pre .1 .0 .pointed, s .pre .1 .0 .weighed, s .pre .1 .0 .flagged, s .pre .1 .0 .cells, s .good)
+    let ci : _ = cell-in (s .args .z) (s .pre .0) (s .args .t) (s .args .pair) (c .before .before .before .before .before .before .before .before .loop .x) (s .pre .1 .1 .0) (s .pre .1 .1 .1) hx in
+    let ri : _ = row-in (s .args .z) (s .pre .0) (s .args .t) (s .args .pair) (c .before .before .before .before .before .before .before .before .loop .x) (s .pre .1 .1 .0) (s .pre .1 .1 .1) hx in
+    let lf : length (c .before .before .before .before .before .before .before .before .loop .flags) ≡ length (s .args .flags .now) = ap length (c .before .before .before .before .before .before .before .before .loop .inv .1 .1) ∙ length-some-flags (s .args .z) (s .args .t * s .args .z .pairs + s .args .pair) (outs s) (c .before .before .before .before .before .before .before .before .loop .x) (s .args .flags .now) in
+    omega (arith, s .pre .1 .0 .pointed, s .pre .1 .0 .weighed, s .pre .1 .0 .flagged, s .pre .0 .cells-are, s .good)
 
 add-x : tie.Need-add-x Inv-loop μ-loop
 add-x c =
     let s : _ = c .before .before .before .before .before .before .before .before .before .before .before in
     let hx : c .before .before .before .before .before .before .before .before .loop .x < s .args .z .points = omega arith in
-    let ci : _ = cell-in (s .args .z) (s .pre .1 .0) (s .args .t) (s .args .pair) (c .before .before .before .before .before .before .before .before .loop .x) (s .pre .1 .1 .0) (s .pre .1 .1 .1) hx in
-    let ri : _ = row-in (s .args .z) (s .pre .1 .0) (s .args .t) (s .args .pair) (c .before .before .before .before .before .before .before .before .loop .x) (s .pre .1 .1 .0) (s .pre .1 .1 .1) hx in
-    let lf : length (c .before .before .before .before .before .before .before .before .loop .flags) ≡ length (s .args .flags .now) = ap length (c .before .before .before .before .before .before .before .before .loop .inv .1 .1) ∙ length-some-flags (s .args .z) (s .args .t * s .args .z .pairs + s .args .pair) (outs (s .args .tp) (s .args .points .now) (s .args .s0 .now) (s .args .p0 .now) (s .args .s1 .now) (s .args .p1 .now) (s .args .s2 .now) (s .args .p2 .now) (s .args .rows) (s .args .x0) (s .args .x1) (s .args .x2)) (c .before .before .before .before .before .before .before .before .loop .x) (s .args .flags .now) in
-    omega (arith, s .pre .1 .0 .pointed, s .pre .1 .0 .weighed, s .pre .1 .0 .flagged, s .pre .1 .0 .cells, s .good)
+    let ci : _ = cell-in (s .args .z) (s .pre .0) (s .args .t) (s .args .pair) (c .before .before .before .before .before .before .before .before .loop .x) (s .pre .1 .1 .0) (s .pre .1 .1 .1) hx in
+    let ri : _ = row-in (s .args .z) (s .pre .0) (s .args .t) (s .args .pair) (c .before .before .before .before .before .before .before .before .loop .x) (s .pre .1 .1 .0) (s .pre .1 .1 .1) hx in
+    let lf : length (c .before .before .before .before .before .before .before .before .loop .flags) ≡ length (s .args .flags .now) = ap length (c .before .before .before .before .before .before .before .before .loop .inv .1 .1) ∙ length-some-flags (s .args .z) (s .args .t * s .args .z .pairs + s .args .pair) (outs s) (c .before .before .before .before .before .before .before .before .loop .x) (s .args .flags .now) in
+    omega (arith, s .pre .1 .0 .pointed, s .pre .1 .0 .weighed, s .pre .1 .0 .flagged, s .pre .0 .cells-are, s .good)
 
 loop-less : tie.Need-loop-less Inv-loop μ-loop
 loop-less c = search needs
@@ -127,25 +123,29 @@ loop-again : tie.Need-loop-again Inv-loop μ-loop
 loop-again c =
     let s : _ = c .before .before .before .before .before .before .before .before .before .before .before in
     let hx : c .before .before .before .before .before .before .before .before .loop .x < s .args .z .points = omega arith in
-    (search needs, (c .before .before .before .put-weights .ensures ∙ rw (c .before .before .before .before .before .before .before .before .loop .inv .1 .0) (weights-more (s .args .z) (outs (s .args .tp) (s .args .points .now) (s .args .s0 .now) (s .args .p0 .now) (s .args .s1 .now) (s .args .p1 .now) (s .args .s2 .now) (s .args .p2 .now) (s .args .rows) (s .args .x0) (s .args .x1) (s .args .x2)) (s .args .t) (s .args .pair) (c .before .before .before .before .before .before .before .before .loop .x) (s .pre .1 .1 .1) hx (s .args .weights .now) (c .before .before .before .before .before .outputs-at .result) (sym (c .before .before .before .before .before .outputs-at .ensures))), rw (c .before .before .before .before .before .before .before .before .loop .inv .1 .1) (flags-more (s .args .z) (outs (s .args .tp) (s .args .points .now) (s .args .s0 .now) (s .args .p0 .now) (s .args .s1 .now) (s .args .p1 .now) (s .args .s2 .now) (s .args .p2 .now) (s .args .rows) (s .args .x0) (s .args .x1) (s .args .x2)) (s .args .t) (s .args .pair) (c .before .before .before .before .before .before .before .before .loop .x) (s .pre .1 .1 .1) hx (s .args .flags .now) _ (sym ((let h : SFits w8 (c .before .before .before .before .before .outputs-at .result .flag) = search needs in toZ-ofZ w8 (c .before .before .before .before .before .outputs-at .result .flag) h) ∙ ap (λ (o : Outputs). o .flag) (c .before .before .before .before .before .outputs-at .ensures))))))
+    (search needs, (c .before .before .before .put-weights .ensures ∙ rw (c .before .before .before .before .before .before .before .before .loop .inv .1 .0) (weights-more (s .args .z) (outs s) (s .args .t) (s .args .pair) (c .before .before .before .before .before .before .before .before .loop .x) (s .pre .1 .1 .1) hx (s .args .weights .now) (c .before .before .before .before .before .outputs-at .result) (sym (c .before .before .before .before .before .outputs-at .ensures))), rw (c .before .before .before .before .before .before .before .before .loop .inv .1 .1) (flags-more (s .args .z) (outs s) (s .args .t) (s .args .pair) (c .before .before .before .before .before .before .before .before .loop .x) (s .pre .1 .1 .1) hx (s .args .flags .now) _ (sym ((let h : SFits w8 (c .before .before .before .before .before .outputs-at .result .flag) = search needs in toZ-ofZ w8 (c .before .before .before .before .before .outputs-at .result .flag) h) ∙ ap (λ (o : Outputs). o .flag) (c .before .before .before .before .before .outputs-at .ensures))))))
 
 same-length : tie.Need-same-length Inv-loop μ-loop
 same-length c =
     let s : _ = c .before .before .before .before in
-    let lw : length (c .before .loop .weights) ≡ length (s .args .weights .now) = ap length (c .before .loop .inv .1 .0) ∙ length-some (s .args .z) (s .args .t * s .args .z .pairs + s .args .pair) (outs (s .args .tp) (s .args .points .now) (s .args .s0 .now) (s .args .p0 .now) (s .args .s1 .now) (s .args .p1 .now) (s .args .s2 .now) (s .args .p2 .now) (s .args .rows) (s .args .x0) (s .args .x1) (s .args .x2)) (c .before .loop .x) (s .args .weights .now) in
+    let lw : length (c .before .loop .weights) ≡ length (s .args .weights .now) = ap length (c .before .loop .inv .1 .0) ∙ length-some (s .args .z) (s .args .t * s .args .z .pairs + s .args .pair) (outs s) (c .before .loop .x) (s .args .weights .now) in
     lw
 
 same-length-2 : tie.Need-same-length-2 Inv-loop μ-loop
 same-length-2 c =
     let s : _ = c .before .before .before .before in
-    let lf : length (c .before .loop .flags) ≡ length (s .args .flags .now) = ap length (c .before .loop .inv .1 .1) ∙ length-some-flags (s .args .z) (s .args .t * s .args .z .pairs + s .args .pair) (outs (s .args .tp) (s .args .points .now) (s .args .s0 .now) (s .args .p0 .now) (s .args .s1 .now) (s .args .p1 .now) (s .args .s2 .now) (s .args .p2 .now) (s .args .rows) (s .args .x0) (s .args .x1) (s .args .x2)) (c .before .loop .x) (s .args .flags .now) in
+    let lf : length (c .before .loop .flags) ≡ length (s .args .flags .now) = ap length (c .before .loop .inv .1 .1) ∙ length-some-flags (s .args .z) (s .args .t * s .args .z .pairs + s .args .pair) (outs s) (c .before .loop .x) (s .args .flags .now) in
     lf
 
 returns : tie.Need-returns Inv-loop μ-loop
 returns c =
     let s : _ = c .before .before .before .before in
     let e : c .before .loop .x ≡ s .args .z .points = omega arith in
-    (c .before .loop .inv .1 .0 ∙ rw e (weights-all (s .args .z) (s .args .t * s .args .z .pairs + s .args .pair) (outs (s .args .tp) (s .args .points .now) (s .args .s0 .now) (s .args .p0 .now) (s .args .s1 .now) (s .args .p1 .now) (s .args .s2 .now) (s .args .p2 .now) (s .args .rows) (s .args .x0) (s .args .x1) (s .args .x2)) (s .args .weights .now) (s .pre .1 .0 .some)), c .before .loop .inv .1 .1 ∙ rw e (flags-all (s .args .z) (s .args .t * s .args .z .pairs + s .args .pair) (outs (s .args .tp) (s .args .points .now) (s .args .s0 .now) (s .args .p0 .now) (s .args .s1 .now) (s .args .p1 .now) (s .args .s2 .now) (s .args .p2 .now) (s .args .rows) (s .args .x0) (s .args .x1) (s .args .x2)) (s .args .flags .now) (s .pre .1 .0 .some)))
+    let q : ℕ = s .args .t * s .args .z .pairs + s .args .pair in
+    record {
+      weights-are = c .before .loop .inv .1 .0 ∙ rw e (weights-all (s .args .z) q (outs s) (s .args .weights .now) (s .pre .0 .points-some));
+      flags-are = c .before .loop .inv .1 .1 ∙ rw e (flags-all (s .args .z) q (outs s) (s .args .flags .now) (s .pre .0 .points-some));
+    }
 
 pub fill-points-spec : {M : Type 1} → statement M
 fill-points-spec =

@@ -2,13 +2,13 @@
 use mathlib.Core.Path.{refl}
 use native.Mathlib.Nat.{mul-le-mul}
 use native.Mathlib.Omega.{arith}
-use Rattle.triplet_study.specs.Given.{areLengths}
+use Rattle.triplet_study.specs.Questions.{areLengths}
 use Rattle.triplet_study.proofs.kernel.lengths_ok.Statement.{statement}
 use Rattle.triplet_study.proofs.kernel.lengths_ok.Tie as tie
 
 mul-entries : tie.Need-mul-entries
 mul-entries c =
-    let h : _ = c .before .pre in let m : _ = mul-le-mul (h .0) (h .1) in omega (arith, m)
+    let h : _ = c .before .pre in let m : _ = mul-le-mul (h .channels-few) (h .cells-few) in omega (arith, m)
 
 returns : tie.Need-returns
 unfolding areLengths
