@@ -2,7 +2,6 @@
 ghost use Rattle.triplet_study.specs.Lent.{studyIn};
 ghost use Rattle.triplet_iw.specs.Calls.{DidFill};
 pub use ask::Answer;
-pub use triplet_addresses::CopyAnswer;
 pub use triplet_addresses::IsNAnswer;
 pub use triplet_addresses::is_n;
 pub use triplet_addresses::set_relative_grid_address;

@@ -2,7 +2,6 @@
 ghost use Rattle.triplet_study.specs.Lent.{studyOfOne};
 ghost use Rattle.triplet_iw.specs.Calls.{DidFill};
 pub use ask::Answer;
-pub use averaging::AveragingAnswer;
 pub use averaging::average_weights_over_degenerate_sets;
 pub use triplet_study::Shape;
 pub use triplet_types::TpType;

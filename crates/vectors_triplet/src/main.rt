@@ -11,6 +11,7 @@
 ghost use mathlib.Core.Path.{_≡_};
 ghost use Prim.Native.Nat.{_<_};
 ghost use lib.ListN.{length};
+use ask::Answer;
 use replay_compare::kernel as compare;
 use replay_input::kernel as input;
 use replay_input::kernel::Cursor;
@@ -19,7 +20,6 @@ use replay_input::kernel::stamps;
 use replay_report::kernel as report;
 use replay_report::kernel::Count;
 use triplet::Shape;
-use triplet::WeightsAnswer;
 
 fn numbers() -> [i64; 4200]
     ensures { λ r. ⌜ 4200 ≡ length r ⌝ }
@@ -144,7 +144,7 @@ fn are_marked(flags: &[i8]) -> bool {
 
 // An accepted call filled the buffers with the stored weights and flags; a refused one gave its number and left them as they were.
 fn weights_agree(
-    answer: WeightsAnswer,
+    answer: Answer,
     refusal: u64,
     weights: &[f64],
     flags: &[i8],
@@ -152,14 +152,14 @@ fn weights_agree(
     stored_flags: &[i64],
 ) -> bool {
     match answer {
-        WeightsAnswer::Filled => {
+        Answer::Done => {
             if refusal == 0 {
                 same_weights(weights, stored) & same_flags(flags, stored_flags)
             } else {
                 false
             }
         }
-        WeightsAnswer::Refused(number) => {
+        Answer::Refused(number) => {
             if (0 < number) & (number == refusal) {
                 stamps::is_marked(weights) & are_marked(flags)
             } else {
@@ -183,7 +183,7 @@ fn answer_of(
     one: [i64; 3],
     weights: &mut [f64],
     flags: &mut [i8],
-) -> WeightsAnswer {
+) -> Answer {
     if record == 4 {
         return triplet_iw::integration_weight_per_triplet(
             shape,
@@ -216,7 +216,7 @@ fn answer_of(
 fn judged(
     text: &[u8],
     c: Cursor,
-    answer: WeightsAnswer,
+    answer: Answer,
     refusal: u64,
     weights: &[f64],
     flags: &[i8],
