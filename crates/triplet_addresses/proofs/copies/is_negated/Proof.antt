@@ -2,7 +2,6 @@
 use borrow.Author.Needs.{needs}
 use mir.Syntax.{w64}
 use mir.ValLaws.{toZ-ofZ}
-use Rattle.list_laws.specs.Lists.{at}
 use Rattle.triplet_addresses.specs.Copies.{isNegated}
 use Rattle.triplet_addresses.proofs.copies.is_negated.Statement.{statement}
 use Rattle.triplet_addresses.proofs.copies.is_negated.Tie as tie
