@@ -10,7 +10,6 @@ use Rattle.common.proofs.MeshLaws.{count-le}
 use Rattle.grgrid.proofs.IndexLaws.{index-lt}
 use Rattle.grgrid.specs.Index.{indexAnswer}
 use Rattle.list_laws.proofs.BoolLaws.{no-of, yes-of}
-use Rattle.list_laws.specs.Lists.{at}
 use Rattle.question_grids.proofs.GridLaws.{mesh-within}
 use Rattle.grgrid.specs.declared.IndexAnswer.the-variants.{Index}
 use Rattle.grgrid.proofs.grid_index_from_address.Statement.{statement}

@@ -12,7 +12,6 @@ use Rattle.bzgrid.specs.Neighbours.{gridOf}
 use Rattle.grid_point_weights.proofs.CallLaws.{sound-study, weights-numbered}
 use Rattle.ask.proofs.AnswerLaws.{done-is, refused-is}
 use Rattle.grid_point_weights.specs.Calls.{weightsQuestions}
-use Rattle.list_laws.specs.Lists.{at}
 use Rattle.ask.proofs.AskLaws.{after-done, all-yes, group-no, group-yes, kept}
 use Rattle.question_grids.proofs.StepLaws.{product-yes}
 use Rattle.ask.specs.Ask.{AllYes, Question, firstNo}

@@ -11,7 +11,6 @@ use Rattle.ask.proofs.AnswerLaws.{done-is, refused-is}
 use Rattle.bzgrid.proofs.CallLaws.{grid-numbered, sound-grid}
 use Rattle.neighbours.specs.Calls.{stepQuestions}
 use Rattle.list_laws.proofs.SignedLaws.{below-lt}
-use Rattle.list_laws.specs.Lists.{at}
 use Rattle.ask.proofs.AskLaws.{after-done, all-yes, group-no, group-yes, kept}
 use Rattle.question_grids.proofs.StepLaws.{steps-triples}
 use Rattle.ask.specs.Ask.{AllYes, Question, firstNo}

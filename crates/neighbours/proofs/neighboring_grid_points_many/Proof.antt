@@ -9,7 +9,6 @@ use native.Mathlib.Omega.{arith}
 use Rattle.ask.proofs.AnswerLaws.{done-is, refused-is}
 use Rattle.bzgrid.proofs.CallLaws.{grid-numbered, sound-grid}
 use Rattle.neighbours.specs.Calls.{stepsQuestions}
-use Rattle.list_laws.specs.Lists.{at}
 use Rattle.ask.proofs.AskLaws.{after-done, all-yes, group-no, group-yes, kept}
 use Rattle.question_grids.proofs.StepLaws.{product-yes, steps-triples}
 use Rattle.ask.specs.Ask.{AllYes, Question, firstNo}

@@ -4,7 +4,7 @@ ghost use Prim.Native.Nat.{_+_, _*_, _/_, _≤_, _<_};
 ghost use lib.ListN.{length};
 ghost use lib.Signed.{ltZ};
 ghost use Rattle.list_laws.specs.Lists.{allBelow, at};
-ghost use Rattle.list_laws.specs.Signed.{within, isBelow, isNat};
+ghost use Rattle.list_laws.specs.Signed.{within};
 ghost use Rattle.ask.specs.Ask.{firstNo};
 ghost use Rattle.question_grids.specs.Grids.{isGridKind, isMesh, areTriples, areAddresses, isPlace, isSparseMap, isDenseMap, isMap, gridQuestions};
 use common::kernel;

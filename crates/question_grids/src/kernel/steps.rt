@@ -1,6 +1,5 @@
 // Questions 7 and 10: the steps of a neighbour call, and grid points.
 ghost use mathlib.Core.Path.{_≡_};
-ghost use lib.ListN.{length};
 ghost use Rattle.question_grids.specs.Steps.{areSteps, areGridPoints};
 use common::kernel;
 

@@ -6,7 +6,6 @@ use mathlib.Core.Path.{_∙_, _≡_, sym}
 use mir.Syntax.{w64}
 use mir.ValLaws.{toZ-ofZ}
 use native.Mathlib.Omega.{arith}
-use Rattle.list_laws.specs.Lists.{at}
 use Rattle.ask.proofs.AskLaws.{after-done, all-yes, kept}
 use Rattle.question_grids.proofs.StepLaws.{product-yes}
 use Rattle.question_grids.proofs.TableLaws.{table-triples}

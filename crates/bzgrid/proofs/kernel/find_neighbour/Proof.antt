@@ -2,7 +2,6 @@
 use borrow.Author.Needs.{needs}
 use Rattle.bzgrid.specs.Neighbours.{neighbourOf}
 use Rattle.common.specs.Mesh.{countOf}
-use Rattle.list_laws.specs.Lists.{at}
 use Rattle.question_grids.proofs.GridLaws.{sparse-length}
 use Rattle.question_grids.specs.Grids.{triplesIn}
 use Rattle.bzgrid.proofs.kernel.find_neighbour.Statement.{statement}

@@ -3,7 +3,6 @@ use borrow.Author.Needs.{needs}
 use mir.Syntax.{w64}
 use mir.ValLaws.{toZ-ofZ}
 use Rattle.bzgrid.specs.Neighbours.{gridOf}
-use Rattle.list_laws.specs.Lists.{at}
 use Rattle.bzgrid.proofs.kernel.grid_of.Statement.{statement}
 use Rattle.bzgrid.proofs.kernel.grid_of.Tie as tie
 

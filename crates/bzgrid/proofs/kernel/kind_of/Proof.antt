@@ -4,7 +4,6 @@ use mathlib.Core.Path.{_∙_, sym}
 use mir.Syntax.{w64}
 use mir.ValLaws.{toZ-ofZ}
 use Rattle.bzgrid.specs.Neighbours.{kindOf}
-use Rattle.list_laws.specs.Lists.{at}
 use Rattle.bzgrid.proofs.kernel.kind_of.Statement.{statement}
 use Rattle.bzgrid.proofs.kernel.kind_of.Tie as tie
 

@@ -7,7 +7,6 @@ use native.Mathlib.Omega.{arith}
 use Rattle.bzgrid.proofs.NeighbourLaws.{doubled-below}
 use Rattle.bzgrid.specs.Neighbours.{mapOnDoubled, sparseNeighbour}
 use Rattle.common.proofs.MeshLaws.{count-le, doubled, wider}
-use Rattle.list_laws.specs.Lists.{at}
 use Rattle.bzgrid.proofs.kernel.sparse_neighbour.Statement.{statement}
 use Rattle.bzgrid.proofs.kernel.sparse_neighbour.Tie as tie
 

@@ -4,7 +4,6 @@ use mathlib.Core.Path.{_∙_, sym}
 use mir.Syntax.{w64}
 use mir.ValLaws.{toZ-ofZ}
 use Rattle.list_laws.proofs.SignedLaws.{within-neg, within-pos}
-use Rattle.list_laws.specs.Lists.{at}
 use Rattle.common.proofs.kernel.is_within.Statement.{statement}
 use Rattle.common.proofs.kernel.is_within.Tie as tie
 

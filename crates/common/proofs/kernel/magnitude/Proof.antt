@@ -6,7 +6,6 @@ use mir.Val.{SFits}
 use mir.ValLaws.{toZ-ofZ}
 use native.Mathlib.Omega.{arith}
 use Rattle.list_laws.proofs.SignedLaws.{cast-pos, flip, mag-pos}
-use Rattle.list_laws.specs.Lists.{at}
 use Rattle.common.proofs.kernel.magnitude.Statement.{statement}
 use Rattle.common.proofs.kernel.magnitude.Tie as tie
 

@@ -6,7 +6,6 @@ use mir.ValLaws.{toZ-ofZ}
 use native.Mathlib.Nat.{mod-lt}
 use native.Mathlib.Omega.{arith}
 use Rattle.list_laws.proofs.SignedLaws.{rem-neg, rem-pos}
-use Rattle.list_laws.specs.Lists.{at}
 use Rattle.common.proofs.kernel.rem_euclid.Statement.{statement}
 use Rattle.common.proofs.kernel.rem_euclid.Tie as tie
 

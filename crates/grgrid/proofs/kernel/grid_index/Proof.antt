@@ -7,7 +7,6 @@ use Rattle.common.specs.Mesh.{countOf}
 use Rattle.grgrid.proofs.IndexLaws.{index-lt}
 use Rattle.grgrid.specs.Index.{gridIndex}
 use Rattle.list_laws.proofs.SignedLaws.{back}
-use Rattle.list_laws.specs.Lists.{at}
 use Rattle.grgrid.proofs.kernel.grid_index.Statement.{statement}
 use Rattle.grgrid.proofs.kernel.grid_index.Tie as tie
 

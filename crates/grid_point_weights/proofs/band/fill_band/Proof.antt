@@ -10,7 +10,7 @@ use Rattle.list_laws.proofs.ColumnLaws.{column-next, column-none}
 use Rattle.list_laws.proofs.FillLaws.{length-area}
 use Rattle.list_laws.proofs.ProductLaws.{digit-lt}
 use Rattle.list_laws.specs.Columns.{InColumn}
-use Rattle.list_laws.specs.Lists.{at, rows}
+use Rattle.list_laws.specs.Lists.{rows}
 use Rattle.list_laws.specs.Matrix.{Replaced}
 use Rattle.tetrahedron_method.proofs.SortedLaws.{weight-is}
 use Rattle.tetrahedron_method.specs.Weight.{weightOf}

@@ -4,7 +4,6 @@ use borrow.Author.Tests.{eq-eqb, ne-eqb}
 use mir.Syntax.{w64}
 use mir.ValLaws.{toZ-ofZ}
 use Rattle.list_laws.proofs.BoolLaws.{no-of, yes-of}
-use Rattle.list_laws.specs.Lists.{at}
 use Rattle.ask.specs.Ask.{firstNo}
 use Rattle.neighbours.proofs.kernel.point_no.Statement.{statement}
 use Rattle.neighbours.proofs.kernel.point_no.Tie as tie

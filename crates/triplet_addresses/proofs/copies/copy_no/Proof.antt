@@ -4,7 +4,6 @@ use mir.Syntax.{w64}
 use mir.ValLaws.{toZ-ofZ}
 use native.Mathlib.Omega.{arith}
 use Rattle.list_laws.proofs.BoolLaws.{no-of, yes-of}
-use Rattle.list_laws.specs.Lists.{at}
 use Rattle.question_grids.proofs.TableLaws.{rows-whole, table-some}
 use Rattle.ask.specs.Ask.{firstNo}
 use Rattle.triplet_addresses.proofs.copies.copy_no.Statement.{statement}

@@ -7,7 +7,6 @@ use native.Mathlib.Omega.{arith}
 use Rattle.common.proofs.MeshLaws.{count-le, wider}
 use Rattle.common.specs.Mesh.{countOf}
 use Rattle.list_laws.proofs.BoolLaws.{no-of, yes-of}
-use Rattle.list_laws.specs.Lists.{at}
 use Rattle.question_grids.proofs.GridLaws.{mesh-within}
 use Rattle.ask.specs.Ask.{firstNo}
 use Rattle.question_grids.proofs.kernel.grid.grid_no.Statement.{statement}

@@ -3,7 +3,6 @@ use borrow.Author.Needs.{needs}
 use mathlib.Core.Path.{_∙_, sym}
 use mir.Syntax.{w64}
 use mir.ValLaws.{toZ-ofZ}
-use Rattle.list_laws.specs.Lists.{at}
 use Rattle.question_grids.specs.Grids.{isMap}
 use Rattle.question_grids.proofs.kernel.grid.map_ok.Statement.{statement}
 use Rattle.question_grids.proofs.kernel.grid.map_ok.Tie as tie

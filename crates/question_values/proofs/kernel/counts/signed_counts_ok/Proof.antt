@@ -1,6 +1,5 @@
 -- `question_values::kernel::counts::signed_counts_ok` meets its contract. Assumes nothing.
 use borrow.Author.Needs.{needs}
-use mathlib.Core.Path.{_≡_, _∙_}
 use mir.Syntax.{w64}
 use mir.ValLaws.{toZ-ofZ}
 use Rattle.question_values.proofs.CountLaws.{signs-first}
