@@ -41,7 +41,8 @@ mul-a c = search needs
 
 array-set-from-a : tie.Need-array-set-from-a Inv-loop μ-loop
 array-set-from-a c =
-    let l : _ = c .before .before .loop in omega (arith, ap length (l .inv .1) ∙ length-area 1152 (entry (c .before .before .before .is-negated .result) (c .before .before .before .before .args .steps .now)) (pos 0) (l .k) (omega arith))
+    let l : _ = c .before .before .loop in
+    omega (arith, ap length (l .inv .1) ∙ length-area 1152 (entry (c .before .before .before .is-negated .result) (c .before .before .before .before .args .steps .now)) (pos 0) (l .k) (omega arith))
 
 add-k : tie.Need-add-k Inv-loop μ-loop
 add-k c = search needs
@@ -51,7 +52,8 @@ loop-less c = search needs
 
 loop-again : tie.Need-loop-again Inv-loop μ-loop
 loop-again c =
-    let l : _ = c .before .before .loop in (search needs, rw (l .inv .1) (area-next 1152 (entry (c .before .before .before .is-negated .result) (c .before .before .before .before .args .steps .now)) (pos 0) (l .k) _ (omega arith) (back (c .step-at .result) (c .step-at .ok) ∙ c .step-at .ensures)))
+    let l : _ = c .before .before .loop in
+    (search needs, rw (l .inv .1) (area-next 1152 (entry (c .before .before .before .is-negated .result) (c .before .before .before .before .args .steps .now)) (pos 0) (l .k) _ (omega arith) (back (c .step-at .result) (c .step-at .ok) ∙ c .step-at .ensures)))
 
 returns : tie.Need-returns Inv-loop μ-loop
 unfolding secondArea

@@ -14,11 +14,15 @@ negate-requires c κs = search needs
 
 returns : tie.Need-returns
 returns c =
-    let z : ℤ = c .before .before .args .z in let b : _ = toZ-ofZ w64 z (c .before .before .fits .z) in rw (c .before .if1 .taken) (back (c .negate .result) (c .negate .ok) ∙ rw b at (c .negate .ensures))
+    let z : ℤ = c .before .before .args .z in
+    let b : _ = toZ-ofZ w64 z (c .before .before .fits .z) in
+    rw (c .before .if1 .taken) (back (c .negate .result) (c .negate .ok) ∙ rw b at (c .negate .ensures))
 
 returns-2 : tie.Need-returns-2
 returns-2 c =
-    let z : ℤ = c .before .args .z in let b : _ = toZ-ofZ w64 z (c .before .fits .z) in rw (c .if1 .left, b)
+    let z : ℤ = c .before .args .z in
+    let b : _ = toZ-ofZ w64 z (c .before .fits .z) in
+    rw (c .if1 .left, b)
 
 pub step-of-spec : {M : Type 1} → statement M
 step-of-spec = tie.close (tie.spec negate-requires returns returns-2)

@@ -29,34 +29,42 @@ studied s = study (s .args .z .shape) (s .args .addresses .now) (s .args .gp-map
 
 second-steps-requires : tie.Need-second-steps-requires Inv-loop μ-loop
 second-steps-requires c κs =
-    let s : _ = c .before .before .before .before in (steps-few (s .pre), s .pre .tested .table)
+    let s : _ = c .before .before .before .before in
+    (steps-few (s .pre), s .pre .tested .table)
 
 loop-holds : tie.Need-loop-holds Inv-loop μ-loop
 loop-holds c =
-    let s : _ = c .before .before .before .before .before in (zero-le, triplets-none (studied s) (s .args .z .pairs) (s .args .weights .now) (s .args .flags .now))
+    let s : _ = c .before .before .before .before .before in
+    (zero-le, triplets-none (studied s) (s .args .z .pairs) (s .args .weights .now) (s .args .flags .now))
 
 array-share-prefix-second : tie.Need-array-share-prefix-second Inv-loop μ-loop
 array-share-prefix-second c =
-    let s : _ = c .before .before .before .before .before .before .before .before .before in omega (arith, steps-few (s .pre))
+    let s : _ = c .before .before .before .before .before .before .before .before .before in
+    omega (arith, steps-few (s .pre))
 
 slice-aggregate-fill-triplet : tie.Need-slice-aggregate-fill-triplet Inv-loop μ-loop
 slice-aggregate-fill-triplet c =
-    let s : _ = c .before .before .before .before .before .before .before .before .before .before in sym (ap length (second-lent (s .args .z .tp) (s .args .steps .now) (c .before .before .before .before .before .second-steps .result) (c .before .before .before .before .before .second-steps .ensures)) ∙ second-length (s .args .z .tp) (s .args .steps .now))
+    let s : _ = c .before .before .before .before .before .before .before .before .before .before in
+    sym (ap length (second-lent (s .args .z .tp) (s .args .steps .now) (c .before .before .before .before .before .second-steps .result) (c .before .before .before .before .before .second-steps .ensures)) ∙ second-length (s .args .z .tp) (s .args .steps .now))
 
 fill-triplet-requires : tie.Need-fill-triplet-requires Inv-loop μ-loop
 fill-triplet-requires c κs =
-    let s : _ = c .before .before .before .before .before .before .before .before .before .before in let l : _ = computed-lengths (c .before .before .before .before .loop .inv .1) in (rw (l .0, l .1) (s .pre), (second-lent (s .args .z .tp) (s .args .steps .now) _ (c .before .before .before .before .before .second-steps .ensures), omega (arith, c .before .before .before .loop-test .taken)))
+    let s : _ = c .before .before .before .before .before .before .before .before .before .before in
+    let l : _ = computed-lengths (c .before .before .before .before .loop .inv .1) in
+    (rw (l .0, l .1) (s .pre), (second-lent (s .args .z .tp) (s .args .steps .now) _ (c .before .before .before .before .before .second-steps .ensures), omega (arith, c .before .before .before .loop-test .taken)))
 
 add-t : tie.Need-add-t Inv-loop μ-loop
 add-t c =
-    let s : _ = c .before .before .before .before .before .before .before .before .before .before .before .before .before .before in omega (arith, c .before .before .before .before .before .before .before .loop-test .taken, ready-counted (s .pre) .triplets-few)
+    let s : _ = c .before .before .before .before .before .before .before .before .before .before .before .before .before .before in
+    omega (arith, c .before .before .before .before .before .before .before .loop-test .taken, ready-counted (s .pre) .triplets-few)
 
 loop-less : tie.Need-loop-less Inv-loop μ-loop
 loop-less c = search needs
 
 loop-again : tie.Need-loop-again Inv-loop μ-loop
 loop-again c =
-    let s : _ = c .before .before .before .before .before .before .before .before .before .before .before .before .before .before in (search needs, triplets-more (studied s) (s .args .z .pairs) (c .before .before .before .before .before .before .before .before .loop .t) (c .before .before .before .before .before .before .before .before .loop .inv .1) (c .before .before .before .fill-triplet .ensures))
+    let s : _ = c .before .before .before .before .before .before .before .before .before .before .before .before .before .before in
+    (search needs, triplets-more (studied s) (s .args .z .pairs) (c .before .before .before .before .before .before .before .before .loop .t) (c .before .before .before .before .before .before .before .before .loop .inv .1) (c .before .before .before .fill-triplet .ensures))
 
 same-length : tie.Need-same-length Inv-loop μ-loop
 same-length c =
@@ -68,7 +76,9 @@ same-length-2 c =
 
 returns : tie.Need-returns Inv-loop μ-loop
 returns c =
-    let s : _ = c .before .before .before .before .before .before .before in let e : c .before .loop .t ≡ s .args .z .triplets = omega arith in all-computed (s .pre) (c .before .loop .t) e refl refl (c .before .loop .inv .1)
+    let s : _ = c .before .before .before .before .before .before .before in
+    let e : c .before .loop .t ≡ s .args .z .triplets = omega arith in
+    all-computed (s .pre) (c .before .loop .t) e refl refl (c .before .loop .inv .1)
 
 pub fill-triplets-spec : {M : Type 1} → statement M
 fill-triplets-spec = tie.close (tie.spec Inv-loop μ-loop second-steps-requires loop-holds array-share-prefix-second slice-aggregate-fill-triplet fill-triplet-requires add-t loop-less loop-again same-length same-length-2 returns)
