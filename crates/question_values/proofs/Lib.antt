@@ -2,3 +2,4 @@
 pub mod AverageLaws
 pub mod CountLaws
 pub mod RowsLaws
+pub mod TypeLaws

@@ -1,3 +1,2 @@
 // The tests, by what they are about.
 pub mod irreducible;
-pub mod study;

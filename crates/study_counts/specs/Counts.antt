@@ -2,10 +2,10 @@
 use mathlib.Core.Bool.{Bool, true, cond, _&&_}
 use Prim.Native.Nat.{ℕ, _*_}
 use lib.Dec.{leb}
-use lib.IntN.{ℤ}
+use lib.IntN.{ℤ, pos}
 use lib.Signed.{mag}
+use Rattle.question_values.specs.Counts.{areCounts}
 use Rattle.question_values.specs.TpTypes.{isTpType, channelsOf}
-use Rattle.questions.specs.Studies.{areStudyCounts}
 
 -- the number of weights, "channels counted"
 unfoldable pub weightCount : ℤ → ℤ → ℤ → ℕ → ℕ → ℕ
@@ -14,4 +14,4 @@ weightCount type bands1 bands2 points triplets = channelsOf type * triplets * po
 -- Question 1: "at most 4,096 weights, channels counted (this count is not tested where 8 or 9 says no)"
 unfoldable pub fewWeights : ℤ → ℤ → ℤ → ℕ → ℕ → Bool
 fewWeights type bands1 bands2 points triplets =
-    cond (isTpType type && areStudyCounts bands1 bands2 points triplets) (leb (weightCount type bands1 bands2 points triplets) 4096) true
+    cond (isTpType type && areCounts bands1 bands2 (pos points) (pos triplets)) (leb (weightCount type bands1 bands2 points triplets) 4096) true

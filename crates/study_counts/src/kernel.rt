@@ -15,7 +15,7 @@ pub fn weight_count_ok(
     if !question_values::kernel::tp_type::tp_type_ok(tp_type) {
         return true;
     }
-    if !questions::kernel::study::study_counts_ok(num_band1, num_band2, points, triplets) {
+    if !question_values::kernel::counts::counts_ok(num_band1, num_band2, points, triplets) {
         return true;
     }
     let channels = question_values::kernel::tp_type::channels_of(tp_type);

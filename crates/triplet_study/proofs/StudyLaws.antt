@@ -5,58 +5,44 @@ use mathlib.Core.List.{List, _++_}
 use Prim.Native.Nat.{ℕ, _*_, _/_, _%_, _≤_}
 use native.Mathlib.Nat.{mul-le-mul}
 use native.Mathlib.Omega.{arith}
-use borrow.Author.Tests.{leb-true, eqb-true}
-use lib.Dec.{leb, eqb}
-use lib.IntN.{ℤ}
+use borrow.Author.Tests.{eqb-true}
+use lib.Dec.{eqb}
+use lib.IntN.{ℤ, pos}
 use lib.Ieee.{Float}
 use lib.ListN.{length}
 use lib.Signed.{mag}
 use Rattle.list_laws.proofs.BoolLaws.{and-left, and-right}
 use Rattle.ask.specs.Ask.{Question, firstNo, AllYes, Numbered}
 use Rattle.ask.proofs.AskLaws.{all-yes, group-yes, group-no}
-use Rattle.question_values.specs.Counts.{isBandCount, isPointCount, isTripletCount, isProduct}
+use Rattle.question_values.specs.Counts.{areCounts, isProduct}
 use Rattle.question_values.specs.Frequencies.{areFrequencies, arePoints}
 use Rattle.question_values.specs.Rows.{hasRows}
 use Rattle.question_grids.specs.Grids.{areTriples, triplesIn, gridQuestions}
 use Rattle.question_grids.specs.Tables.{isTable}
 use Rattle.question_grids.specs.Steps.{areGridPoints}
 use Rattle.question_grids.proofs.StepLaws.{grid-points-at, product-yes}
-use Rattle.questions.proofs.StudyLaws.{table-rows, band-low, band-high}
+use Rattle.question_values.proofs.RowsLaws.{table-rows}
+use Rattle.question_values.proofs.CountLaws.{bands1-low, bands1-high, bands2-low, bands2-high, points-low, points-high, many-high}
 use Rattle.bzgrid.proofs.CallLaws.{sound-grid}
 use Rattle.triplet_values.proofs.ValueLaws.{channel-count-le}
 use Rattle.triplet_study.specs.declared.Shape.{Shape}
 use Rattle.triplet_study.specs.declared.Sizes.{Sizes}
 use Rattle.triplet_study.specs.Study.{Study, study, tpIn, bands1In, bands2In, tripletCount, sizesBy, sizesOf}
-use Rattle.triplet_study.specs.Questions.{tripletsIn, areStudyCounts, areTriplets, holdFrequencies, areStudyFrequencies, tableQuestions, valueQuestions, studyQuestions, areLengths}
+use Rattle.triplet_study.specs.Questions.{tripletsIn, areTriplets, holdFrequencies, areStudyFrequencies, tableQuestions, valueQuestions, studyQuestions, areLengths}
 use Rattle.triplet_study.specs.Tested.{Tested, Counted, Fitting, Ready}
 
 -- ---- the yes to a question
 
 -- 9
-module _ (bands1 bands2 : ℤ) (points triplets : ℕ) (e : areStudyCounts bands1 bands2 points triplets ≡ true) where
-  parts : (((isBandCount bands1 && isBandCount bands2) && isPointCount points) && isTripletCount triplets) ≡ true
-  unfolding areStudyCounts
-  parts = e
-
-  bands : (isBandCount bands1 && isBandCount bands2) ≡ true
-  bands = and-left (isBandCount bands1 && isBandCount bands2) (isPointCount points) (and-left ((isBandCount bands1 && isBandCount bands2) && isPointCount points) (isTripletCount triplets) parts)
-
-  pointed : isPointCount points ≡ true
-  pointed = and-right (isBandCount bands1 && isBandCount bands2) (isPointCount points) (and-left ((isBandCount bands1 && isBandCount bands2) && isPointCount points) (isTripletCount triplets) parts)
-
-  pub counts-say : ((1 ≤ mag bands1) × (mag bands1 ≤ 64)) × (((1 ≤ mag bands2) × (mag bands2 ≤ 64)) × (((1 ≤ points) × (points ≤ 1024)) × (triplets ≤ 65536)))
-  counts-say =
-      let a : isBandCount bands1 ≡ true = and-left (isBandCount bands1) (isBandCount bands2) bands in
-      let b : isBandCount bands2 ≡ true = and-right (isBandCount bands1) (isBandCount bands2) bands in (
-        (band-low bands1 a, band-high bands1 a),
-        (
-          (band-low bands2 b, band-high bands2 b),
-          (
-            (leb-true 1 points (and-left (leb 1 points) (leb points 1024) pointed), leb-true points 1024 (and-right (leb 1 points) (leb points 1024) pointed)),
-            leb-true triplets 65536 (and-right ((isBandCount bands1 && isBandCount bands2) && isPointCount points) (isTripletCount triplets) parts),
-          ),
-        ),
-      )
+pub counts-say : (bands1 bands2 : ℤ) (points triplets : ℕ) → areCounts bands1 bands2 (pos points) (pos triplets) ≡ true
+    → ((1 ≤ mag bands1) × (mag bands1 ≤ 64)) × (((1 ≤ mag bands2) × (mag bands2 ≤ 64)) × (((1 ≤ points) × (points ≤ 1024)) × (triplets ≤ 65536)))
+counts-say bands1 bands2 points triplets e = (
+  (bands1-low bands1 bands2 (pos points) (pos triplets) e, bands1-high bands1 bands2 (pos points) (pos triplets) e),
+  (
+    (bands2-low bands1 bands2 (pos points) (pos triplets) e, bands2-high bands1 bands2 (pos points) (pos triplets) e),
+    ((points-low bands1 bands2 (pos points) (pos triplets) e, points-high bands1 bands2 (pos points) (pos triplets) e), many-high bands1 bands2 (pos points) (pos triplets) e),
+  ),
+)
 
 -- 11: how many frequencies there are
 held-count : (p bands : ℕ) (frequencies : List Float) → holdFrequencies p bands frequencies ≡ true → length frequencies ≡ p * bands

@@ -3,12 +3,12 @@ use mathlib.Core.Bool.{Bool, _&&_}
 use mathlib.Core.List.{List, [], _∷_, _++_}
 use Prim.Native.Nat.{ℕ, _+_, _*_, _/_, _%_}
 use lib.Dec.{eqb}
-use lib.IntN.{ℤ}
+use lib.IntN.{ℤ, pos}
 use lib.Ieee.{Float}
 use lib.ListN.{length}
 use lib.Signed.{mag}
 use Rattle.ask.specs.Ask.{Question, asks}
-use Rattle.question_values.specs.Counts.{isBandCount, isPointCount, isTripletCount, isProduct}
+use Rattle.question_values.specs.Counts.{areCounts, isProduct}
 use Rattle.question_values.specs.Frequencies.{areFrequencies, arePoints}
 use Rattle.question_grids.specs.Grids.{triplesIn, meshQuestions, placeQuestions}
 use Rattle.question_grids.specs.Tables.{isTable}
@@ -20,11 +20,6 @@ use Rattle.triplet_study.specs.Study.{Study}
 -- how many triplets a flat list holds, an unfinished one counted
 abbrev pub tripletsIn : List ℤ → ℕ
 tripletsIn triplets = (length triplets + 2) / 3
-
--- Question 9: "Are band counts 1 to 64, frequency points 1 to 1,024, triplets .. at most 65,536 (0 allowed)?"
-unfoldable pub areStudyCounts : ℤ → ℤ → ℕ → ℕ → Bool
-areStudyCounts bands1 bands2 points triplets =
-    ((isBandCount bands1 && isBandCount bands2) && isPointCount points) && isTripletCount triplets
 
 -- Question 10: "Is .. all three of each triplet, 0 to P-1?"
 unfoldable pub areTriplets : ℕ → List ℤ → Bool
@@ -47,7 +42,7 @@ tableQuestions steps = asks 7 (isTable steps) ∷ []
 abbrev pub valueQuestions : ℕ → ℤ → ℤ → ℤ → List Float → List Float → List Float → List ℤ → List Question
 valueQuestions p type bands1 bands2 frequencies1 frequencies2 points triplets =
     asks 8 (isTpType type)
-    ∷ asks 9 (areStudyCounts bands1 bands2 (length points) (tripletsIn triplets))
+    ∷ asks 9 (areCounts bands1 bands2 (pos (length points)) (pos (tripletsIn triplets)))
     ∷ asks 10 (areTriplets p triplets)
     ∷ asks 11 (areStudyFrequencies p (mag bands1) (mag bands2) frequencies1 frequencies2 points)
     ∷ []

@@ -12,7 +12,7 @@ use Rattle.averaging.specs.Answers.{averagingNo}
 use Rattle.averaging_blocks.specs.Weights.{averagedPoints}
 use Rattle.averaging_blocks.specs.Flags.{averagedFlagPoints}
 use Rattle.averaging_blocks.proofs.SizeLaws.{points-le}
-use Rattle.questions.proofs.StudyLaws.{channels-le}
+use Rattle.question_values.proofs.TypeLaws.{channels-le}
 use Rattle.averaging.proofs.AnswerLaws.{Accepted, accepted}
 use borrow.Author.Needs.{needs}
 use Rattle.averaging.proofs.average_weights_over_degenerate_sets.Statement.{statement}

@@ -16,7 +16,7 @@ use Rattle.question_values.specs.Counts.{areCounts}
 use Rattle.question_values.specs.TpTypes.{isTpType, channelsOf}
 use Rattle.averaging.specs.Answers.{flagCount}
 use Rattle.averaging_blocks.proofs.SizeLaws.{square-le, flags-le, weights-le}
-use Rattle.questions.proofs.StudyLaws.{channels-le}
+use Rattle.question_values.proofs.TypeLaws.{channels-le}
 use Rattle.averaging.proofs.AnswerLaws.{counts-le}
 use borrow.Author.Needs.{needs}
 use Rattle.averaging.proofs.averaging_no.Statement.{statement}

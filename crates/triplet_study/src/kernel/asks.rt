@@ -2,21 +2,11 @@
 ghost use mathlib.Core.Path.{_≡_};
 ghost use Prim.Native.Nat.{_<_};
 ghost use Rattle.ask.specs.Ask.{firstNo};
-ghost use Rattle.triplet_study.specs.Questions.{areStudyCounts, areTriplets, holdFrequencies, areStudyFrequencies, valueQuestions};
+ghost use Rattle.triplet_study.specs.Questions.{areTriplets, holdFrequencies, areStudyFrequencies, valueQuestions};
 use common::kernel::magnitude;
 use question_grids::kernel::steps;
 use question_values::kernel::counts;
 use question_values::kernel::frequencies;
-
-// Question 9.
-pub fn study_counts_ok(num_band1: i64, num_band2: i64, points: usize, triplets: usize) -> bool
-    ensures { λ r. ⌜ r ≡ areStudyCounts «num_band1» «num_band2» points triplets ⌝ }
-{
-    counts::band_count_ok(num_band1)
-        & counts::band_count_ok(num_band2)
-        & counts::point_count_ok(points)
-        & counts::triplet_count_ok(triplets)
-}
 
 // Question 10: whole triplets, of grid points among `p`.
 fn triplets_ok(p: usize, triplets: &[i64]) -> bool
@@ -68,7 +58,7 @@ pub fn value_first_no(
         return questions::BAD_TP_TYPE;
     }
     let count = (triplets.len() + 2) / 3;
-    if !study_counts_ok(num_band1, num_band2, frequency_points.len(), count) {
+    if !counts::counts_ok(num_band1, num_band2, frequency_points.len(), count) {
         return questions::BAD_COUNT;
     }
     if !triplets_ok(p, triplets) {

@@ -1,5 +1,6 @@
 -- `study_counts::kernel::weight_count_ok` meets its contract. Assumes nothing.
 use borrow.Author.Needs.{needs}
+use lib.IntN.{pos}
 use lib.Signed.{mag}
 use mathlib.Core.Bool.{true}
 use mathlib.Core.Path.{_≡_}
@@ -8,7 +9,7 @@ use mir.ValLaws.{toZ-ofZ}
 use native.Mathlib.Omega.{arith}
 use Rattle.list_laws.proofs.BoolLaws.{no-of, yes-of}
 use Rattle.question_values.specs.TpTypes.{channelsOf, isTpType}
-use Rattle.questions.specs.Studies.{areStudyCounts}
+use Rattle.question_values.specs.Counts.{areCounts}
 use Rattle.study_counts.proofs.CountLaws.{bands-small, one-small, three-small, two-small}
 use Rattle.study_counts.specs.Counts.{fewWeights, weightCount}
 use Rattle.study_counts.proofs.kernel.weight_count_ok.Statement.{statement}
@@ -19,10 +20,10 @@ use Rattle.study_counts.proofs.kernel.weight_count_ok.Tie as tie
 type-said : (c : tie.After-tp-type-ok) → c .tp-type-ok .result ≡ isTpType (c .before .args .tp-type)
 type-said c = rw (toZ-ofZ w64 (c .before .args .tp-type) (c .before .fits .tp-type)) at (c .tp-type-ok .ensures)
 
-counts-said : (c : tie.After-study-counts-ok) → c .study-counts-ok .result ≡ areStudyCounts (c .before .before .before .args .num-band1) (c .before .before .before .args .num-band2) (c .before .before .before .args .points) (c .before .before .before .args .triplets)
+counts-said : (c : tie.After-counts-ok) → c .counts-ok .result ≡ areCounts (c .before .before .before .args .num-band1) (c .before .before .before .args .num-band2) (pos (c .before .before .before .args .points)) (pos (c .before .before .before .args .triplets))
 counts-said c =
     let s : tie.Start = c .before .before .before in
-    rw (toZ-ofZ w64 (s .args .num-band1) (s .fits .num-band1), toZ-ofZ w64 (s .args .num-band2) (s .fits .num-band2)) at (c .study-counts-ok .ensures)
+    rw (toZ-ofZ w64 (s .args .num-band1) (s .fits .num-band1), toZ-ofZ w64 (s .args .num-band2) (s .fits .num-band2)) at (c .counts-ok .ensures)
 
 channels-said : (c : tie.After-channels-of) → c .channels-of .result ≡ channelsOf (c .before .before .before .before .before .args .tp-type)
 channels-said c = rw (toZ-ofZ w64 (c .before .before .before .before .before .args .tp-type) (c .before .before .before .before .before .fits .tp-type)) at (c .channels-of .ensures)
@@ -36,7 +37,7 @@ bands2-said c = rw (toZ-ofZ w64 (c .before .before .before .before .before .befo
 -- ---- past the tests 8 and 9 said yes
 
 abbrev Counted : tie.Start → Type 0
-Counted s = areStudyCounts (s .args .num-band1) (s .args .num-band2) (s .args .points) (s .args .triplets) ≡ true
+Counted s = areCounts (s .args .num-band1) (s .args .num-band2) (pos (s .args .points)) (pos (s .args .triplets)) ≡ true
 
 counted : (c : tie.After-magnitude2) → Counted (c .before .before .before .before .before .before .before)
 counted c = yes-of (counts-said (c .before .before .before .before)) (c .before .before .before .if2 .left)
@@ -50,8 +51,8 @@ returns : tie.Need-returns
 unfolding fewWeights
 returns c = rw (no-of (type-said (c .before)) (c .if1 .taken))
 
-study-counts-ok-requires : tie.Need-study-counts-ok-requires
-study-counts-ok-requires c κs = search needs
+counts-ok-requires : tie.Need-counts-ok-requires
+counts-ok-requires c κs = search needs
 
 returns-2 : tie.Need-returns-2
 unfolding fewWeights
@@ -96,7 +97,7 @@ weight-count-ok-spec =
     (tie.spec
     tp-type-ok-requires
     returns
-    study-counts-ok-requires
+    counts-ok-requires
     returns-2
     channels-of-requires
     magnitude-requires

@@ -1,5 +1,6 @@
-use Rattle.triplet_study.specs.Questions.{areStudyCounts, areStudyFrequencies, tripletsIn}
+use Rattle.triplet_study.specs.Questions.{areStudyFrequencies, tripletsIn}
 use Rattle.triplet_study.proofs.StudyLaws.{counts-say}
+use Rattle.question_values.specs.Counts.{areCounts}
 use Rattle.question_values.specs.TpTypes.{isTpType}
 use Rattle.ask.specs.Ask.{firstNo}
 use Rattle.list_laws.proofs.BoolLaws.{no-of, yes-of}
@@ -10,19 +11,12 @@ use mir.Syntax.{w64}
 use mathlib.Core.Path.{_≡_}
 use mathlib.Core.Bool.{Bool}
 use lib.Signed.{mag}
+use lib.IntN.{pos}
 use lib.ListN.{length}
 use borrow.Author.Needs.{needs}
 use Rattle.triplet_study.proofs.kernel.asks.value_first_no.Statement.{statement}
 use Rattle.triplet_study.proofs.kernel.asks.value_first_no.Tie as tie
-use Rattle.triplet_study.proofs.kernel.asks.value_first_no.Reads as reads
-use Rattle.triplet_study.proofs.kernel.asks.value_first_no.Lts as lts
-use Rattle.common.proofs.kernel.magnitude.Reads as magnitude-reads
-use Rattle.question_values.proofs.kernel.tp_type.tp_type_ok.Reads as tp-type-ok-reads
-use Rattle.triplet_study.proofs.kernel.asks.study_counts_ok.Reads as study-counts-ok-reads
-use Rattle.triplet_study.proofs.kernel.asks.study_frequencies_ok.Reads as study-frequencies-ok-reads
-use Rattle.triplet_study.proofs.kernel.asks.triplets_ok.Reads as triplets-ok-reads
 
--- src/kernel/asks.rt:67:9
 -- question 11, of the arguments
 abbrev asked : tie.Start → Bool
 asked s = areStudyFrequencies (s .args .p) (mag (s .args .num-band1)) (mag (s .args .num-band2)) (s .args .frequencies1 .now) (s .args .frequencies2 .now) (s .args .frequency-points .now)
@@ -31,76 +25,65 @@ asked s = areStudyFrequencies (s .args .p) (mag (s .args .num-band1)) (mag (s .a
 type-asked : (s : tie.Start) {b : Bool} → b ≡ isTpType (toZ w64 (ofZ w64 (s .args .tp-type))) → b ≡ isTpType (s .args .tp-type)
 type-asked s e = rw (toZ-ofZ w64 (s .args .tp-type) (s .fits .tp-type)) at e
 
-counts-asked : (s : tie.Start) {b : Bool} → b ≡ areStudyCounts (toZ w64 (ofZ w64 (s .args .num-band1))) (toZ w64 (ofZ w64 (s .args .num-band2))) (length (s .args .frequency-points .now)) (tripletsIn (s .args .triplets .now))
-    → b ≡ areStudyCounts (s .args .num-band1) (s .args .num-band2) (length (s .args .frequency-points .now)) (tripletsIn (s .args .triplets .now))
+counts-asked : (s : tie.Start) {b : Bool} → b ≡ areCounts (toZ w64 (ofZ w64 (s .args .num-band1))) (toZ w64 (ofZ w64 (s .args .num-band2))) (pos (length (s .args .frequency-points .now))) (pos (tripletsIn (s .args .triplets .now)))
+    → b ≡ areCounts (s .args .num-band1) (s .args .num-band2) (pos (length (s .args .frequency-points .now))) (pos (tripletsIn (s .args .triplets .now)))
 counts-asked s e = rw (toZ-ofZ w64 (s .args .num-band1) (s .fits .num-band1), toZ-ofZ w64 (s .args .num-band2) (s .fits .num-band2)) at e
 
 tp-type-ok-requires : tie.Need-tp-type-ok-requires
 tp-type-ok-requires c κs = search needs
 
--- src/kernel/asks.rt:68:9
 returns : tie.Need-returns
 unfolding firstNo
 returns c =
     let s : _ = c .before .before .before .before .before in
     rw (no-of (type-asked s (c .before .tp-type-ok .ensures)) (c .if1 .taken))
 
--- src/kernel/asks.rt:70:18
 add-count : tie.Need-add-count
 add-count c = search needs
 
--- src/kernel/asks.rt:71:9
-study-counts-ok-requires : tie.Need-study-counts-ok-requires
-study-counts-ok-requires c κs = search needs
+counts-ok-requires : tie.Need-counts-ok-requires
+counts-ok-requires c κs = search needs
 
--- src/kernel/asks.rt:72:9
 returns-2 : tie.Need-returns-2
 unfolding firstNo
 returns-2 c =
     let s : _ = c .before .before .before .before .before .before .before in
-    rw (yes-of (type-asked s (c .before .before .before .tp-type-ok .ensures)) (c .before .before .if1 .left), no-of (counts-asked s (c .before .study-counts-ok .ensures)) (c .if2 .taken))
+    rw (yes-of (type-asked s (c .before .before .before .tp-type-ok .ensures)) (c .before .before .if1 .left), no-of (counts-asked s (c .before .counts-ok .ensures)) (c .if2 .taken))
 
--- src/kernel/asks.rt:74:9
 triplets-ok-requires : tie.Need-triplets-ok-requires
 triplets-ok-requires c κs = search needs
 
--- src/kernel/asks.rt:75:9
 returns-3 : tie.Need-returns-3
 unfolding firstNo
 returns-3 c =
     let s : _ = c .before .before .before .before .before .before .before .before .before in
-    rw (yes-of (type-asked s (c .before .before .before .before .before .tp-type-ok .ensures)) (c .before .before .before .before .if1 .left), yes-of (counts-asked s (c .before .before .before .study-counts-ok .ensures)) (c .before .before .if2 .left), no-of (c .before .triplets-ok .ensures) (c .if3 .taken))
+    rw (yes-of (type-asked s (c .before .before .before .before .before .tp-type-ok .ensures)) (c .before .before .before .before .if1 .left), yes-of (counts-asked s (c .before .before .before .counts-ok .ensures)) (c .before .before .if2 .left), no-of (c .before .triplets-ok .ensures) (c .if3 .taken))
 
--- src/kernel/asks.rt:77:9
 magnitude-requires : tie.Need-magnitude-requires
 magnitude-requires c κs = search needs
 
--- src/kernel/asks.rt:78:9
 magnitude-requires-2 : tie.Need-magnitude-requires-2
 magnitude-requires-2 c κs = search needs
 
--- src/kernel/asks.rt:79:9
 study-frequencies-ok-requires : tie.Need-study-frequencies-ok-requires
 study-frequencies-ok-requires c κs =
     let s : _ = c .before .before .before .before .before .before .before .before .before .before .before in
-    let n : _ = counts-say (s .args .num-band1) (s .args .num-band2) (length (s .args .frequency-points .now)) (tripletsIn (s .args .triplets .now)) (yes-of (counts-asked s (c .before .before .before .before .before .study-counts-ok .ensures)) (c .before .before .before .before .if2 .left)) in
+    let n : _ = counts-say (s .args .num-band1) (s .args .num-band2) (length (s .args .frequency-points .now)) (tripletsIn (s .args .triplets .now)) (yes-of (counts-asked s (c .before .before .before .before .before .counts-ok .ensures)) (c .before .before .before .before .if2 .left)) in
     (omega (arith, rw (toZ-ofZ w64 (s .args .num-band1) (s .fits .num-band1)) at (c .before .magnitude .ensures), n .0 .0), omega (arith, rw (toZ-ofZ w64 (s .args .num-band2) (s .fits .num-band2)) at (c .magnitude2 .ensures), n .1 .0 .0))
 
--- src/kernel/asks.rt:80:9
 returns-4 : tie.Need-returns-4
 unfolding firstNo
 returns-4 c =
     let s : _ = c .before .before .before .before .before .before .before .before .before .before .before .before .before in
     let q : c .before .study-frequencies-ok .result ≡ asked s = rw (c .before .study-frequencies-ok .ensures, rw (toZ-ofZ w64 (s .args .num-band1) (s .fits .num-band1)) at (c .before .before .before .magnitude .ensures), rw (toZ-ofZ w64 (s .args .num-band2) (s .fits .num-band2)) at (c .before .before .magnitude2 .ensures)) in
-    rw (yes-of (type-asked s (c .before .before .before .before .before .before .before .before .before .tp-type-ok .ensures)) (c .before .before .before .before .before .before .before .before .if1 .left), yes-of (counts-asked s (c .before .before .before .before .before .before .before .study-counts-ok .ensures)) (c .before .before .before .before .before .before .if2 .left), yes-of (c .before .before .before .before .before .triplets-ok .ensures) (c .before .before .before .before .if3 .left), no-of q (c .if4 .taken))
+    rw (yes-of (type-asked s (c .before .before .before .before .before .before .before .before .before .tp-type-ok .ensures)) (c .before .before .before .before .before .before .before .before .if1 .left), yes-of (counts-asked s (c .before .before .before .before .before .before .before .counts-ok .ensures)) (c .before .before .before .before .before .before .if2 .left), yes-of (c .before .before .before .before .before .triplets-ok .ensures) (c .before .before .before .before .if3 .left), no-of q (c .if4 .taken))
 
--- src/kernel/asks.rt:54:1
 returns-5 : tie.Need-returns-5
 unfolding firstNo
 returns-5 c =
     let s : _ = c .before .before .before .before .before .before .before .before .before .before .before .before .before in
     let q : c .before .study-frequencies-ok .result ≡ asked s = rw (c .before .study-frequencies-ok .ensures, rw (toZ-ofZ w64 (s .args .num-band1) (s .fits .num-band1)) at (c .before .before .before .magnitude .ensures), rw (toZ-ofZ w64 (s .args .num-band2) (s .fits .num-band2)) at (c .before .before .magnitude2 .ensures)) in
-    rw (yes-of (type-asked s (c .before .before .before .before .before .before .before .before .before .tp-type-ok .ensures)) (c .before .before .before .before .before .before .before .before .if1 .left), yes-of (counts-asked s (c .before .before .before .before .before .before .before .study-counts-ok .ensures)) (c .before .before .before .before .before .before .if2 .left), yes-of (c .before .before .before .before .before .triplets-ok .ensures) (c .before .before .before .before .if3 .left), yes-of q (c .if4 .left))
+    rw (yes-of (type-asked s (c .before .before .before .before .before .before .before .before .before .tp-type-ok .ensures)) (c .before .before .before .before .before .before .before .before .if1 .left), yes-of (counts-asked s (c .before .before .before .before .before .before .before .counts-ok .ensures)) (c .before .before .before .before .before .before .if2 .left), yes-of (c .before .before .before .before .before .triplets-ok .ensures) (c .before .before .before .before .if3 .left), yes-of q (c .if4 .left))
 
 pub value-first-no-spec : {M : Type 1} → statement M
 value-first-no-spec =
@@ -109,7 +92,7 @@ value-first-no-spec =
     tp-type-ok-requires
     returns
     add-count
-    study-counts-ok-requires
+    counts-ok-requires
     returns-2
     triplets-ok-requires
     returns-3
