@@ -1,13 +1,33 @@
 // Channels and outputs at a frequency point, of work areas whose rows are in order.
 ghost use mathlib.Core.Path.{_≡_};
-ghost use Prim.Native.Nat.{_≤_};
+ghost use Prim.Native.Nat.{_*_, _≤_};
+ghost use lib.ListN.{length};
+ghost use Rattle.triplet_channels.specs.Values.{areaAt, channelValues};
 ghost use Rattle.triplet_channels.specs.Channels.{holds, valueOf, closedOf, flagOf, outputsBy};
-ghost use Rattle.triplet_channels.specs.Ordered.{furtherRows, orderedChannelAt, orderedFurtherAt, outputsOrdered};
+ghost use Rattle.triplet_channels.specs.Ordered.{furtherRows, orderedChannelAt, orderedFurtherAt, outputsOrdered, Prepared};
 use crate::Channel;
 use crate::Outputs;
 use crate::TpType;
 use crate::ValueBox;
 use tetrahedron_method::WeightFunction;
+
+// Makes a channel ready: its values at the corners of so many rows, their box, and then the rows in order.
+pub fn prepare_channel(
+    area: &mut [f64; 384],
+    places: &mut [usize; 96],
+    channel: usize,
+    frequencies: &[[f64; 384]; 2],
+    rows: usize,
+) -> ValueBox
+    requires { ⌜ (rows ≤ 96) × ((length (now area) ≡ 384) × (length (now places) ≡ 96)) ⌝ }
+    ensures { λ b. ⌜ Prepared rows (channelValues channel (areaAt (now (frequencies .entry)) 0) (areaAt (now (frequencies .entry)) 1) (rows * 4)) (now (area .exit)) (now (places .exit)) b ⌝ }
+{
+    let n = rows * 4;
+    crate::kernel::values::fill_channel(area, channel, &frequencies[0], &frequencies[1], n);
+    let b = crate::kernel::values::box_of(area, n);
+    tetrahedron_method::kernel::sorted::sort_rows(area, places, rows);
+    b
+}
 
 // Whether a point lies in a box, ends included.
 fn is_open(b: ValueBox, f0: f64) -> bool
