@@ -1,14 +1,12 @@
 // Both copies of a tested neighbour table.
 ghost use mathlib.Core.Path.{_≡_};
 ghost use mathlib.Core.Bool.{true};
-ghost use Prim.Native.Nat.{_+_, _*_, _<_};
-ghost use lib.IntN.{negℤ};
+ghost use Prim.Native.Nat.{_*_};
 ghost use lib.ListN.{length};
-ghost use Rattle.list_laws.specs.Lists.{at};
-ghost use Rattle.list_laws.specs.Signed.{within};
 ghost use Rattle.ask.specs.Ask.{firstNo};
 ghost use Rattle.question_grids.specs.Grids.{areTriples};
-ghost use Rattle.triplet_addresses.specs.Copies.{isNegated, stepOf, copyOf, copiesOf, copyQuestions};
+ghost use Rattle.triplet_corners.specs.Corners.{copyOf};
+ghost use Rattle.triplet_addresses.specs.Copies.{copiesOf, copyQuestions};
 
 // The number of the first question that is answered no, or 0.
 pub fn copy_no(relative_grid_address: &[i64], tp_type: i64, out_len: usize) -> u64
@@ -26,35 +24,6 @@ pub fn copy_no(relative_grid_address: &[i64], tp_type: i64, out_len: usize) -> u
     0
 }
 
-// Whether the second copy is negated.
-pub fn is_negated(tp_type: i64) -> bool
-    ensures { λ r. ⌜ r ≡ isNegated «tp_type» ⌝ }
-{
-    common::kernel::is_nat(tp_type, 2) | common::kernel::is_nat(tp_type, 3)
-}
-
-fn negate(z: i64) -> i64
-    requires { ⌜ within 4096 z ≡ true ⌝ }
-    ensures { λ r. ⌜ r ≡ negℤ z ⌝ }
-{
-    0 - z
-}
-
-fn step_of(negated: bool, z: i64) -> i64
-    requires { ⌜ within 4096 z ≡ true ⌝ }
-    ensures { λ r. ⌜ r ≡ stepOf negated z ⌝ }
-{
-    if negated { negate(z) } else { z }
-}
-
-// Component k of a copy of the table.
-fn step_at(negated: bool, table: &[i64], k: usize) -> i64
-    requires { ⌜ (k < length (now table)) × (areTriples (now table) ≡ true) ⌝ }
-    ensures { λ r. ⌜ r ≡ stepOf negated (at (now (table .entry)) k) ⌝ }
-{
-    step_of(negated, table[k])
-}
-
 // One copy of the table.
 fn fill_copy(out: &mut [i64], table: &[i64], negated: bool)
     requires { ⌜ (areTriples (now table) ≡ true) × (length (now out) ≡ length (now table)) ⌝ }
@@ -62,7 +31,7 @@ fn fill_copy(out: &mut [i64], table: &[i64], negated: bool)
 {
     let mut k = 0;
     while k < out.len() {
-        let v = step_at(negated, table, k);
+        let v = triplet_corners::kernel::step_at(negated, table, k);
         out[k] = v;
         k += 1;
     }

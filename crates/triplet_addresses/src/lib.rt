@@ -46,6 +46,11 @@ pub fn set_relative_grid_address(
     if no != 0 {
         return CopyAnswer::Refused(no);
     }
-    copies::fill_copies(out, relative_grid_address, copies::is_negated(tp_type));
+    let tp = triplet_channels::kernel::types::tp_type_of(tp_type);
+    copies::fill_copies(
+        out,
+        relative_grid_address,
+        triplet_corners::kernel::is_negated(tp),
+    );
     CopyAnswer::Filled
 }

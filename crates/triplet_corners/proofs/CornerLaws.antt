@@ -1,6 +1,6 @@
 -- The second copy of the steps is small and whole as the first is, and each corner number is the number of an address. Assumes nothing.
 use mathlib.Core.Path.{_≡_, refl, sym, _∙_}
-use mathlib.Core.Bool.{true}
+use mathlib.Core.Bool.{Bool, true, false}
 use mathlib.Core.List.{List}
 use Prim.Native.Nat.{ℕ, zero, suc, _*_, _%_, _<_}
 use native.Mathlib.Omega.{arith}
@@ -22,9 +22,8 @@ use Rattle.bzgrid.specs.declared.BzGrid.{BzGrid}
 use Rattle.bzgrid.specs.Neighbours.{neighbourOf, wantedAddress, SoundGrid}
 use Rattle.bzgrid.proofs.NeighbourLaws.{neighbour-lt}
 use Rattle.triplet_channels.specs.declared.TpType.{TpType}
-use Rattle.triplet_channels.specs.declared.TpType.the-variants.{Type2, Type3, Type4}
 use Rattle.triplet_channels.specs.Values.{Held}
-use Rattle.triplet_corners.specs.Corners.{stepOf, secondSteps, secondArea, cornerNumbers}
+use Rattle.triplet_corners.specs.Corners.{isNegated, stepOf, copyOf, secondSteps, secondArea, cornerNumbers}
 
 pub small-neg : (z : ℤ) → within 4096 z ≡ true → within 4096 (negℤ z) ≡ true
 unfolding within
@@ -37,33 +36,42 @@ unfolding within
 small-fits (pos n) e = record { sfits = omega (arith, leb-true n 4096 e) }
 small-fits (negsuc n) e = record { sfits = omega (arith, leb-true (suc n) 4096 e) }
 
-step-small : (tp : TpType) (z : ℤ) → within 4096 z ≡ true → within 4096 (stepOf tp z) ≡ true
-step-small Type2 z e = small-neg z e
-step-small Type3 z e = small-neg z e
-step-small Type4 z e = e
+step-small : (negated : Bool) (z : ℤ) → within 4096 z ≡ true → within 4096 (stepOf negated z) ≡ true
+step-small true z e = small-neg z e
+step-small false z e = e
 
-step-zero : (tp : TpType) → stepOf tp (pos 0) ≡ pos 0
-step-zero Type2 = refl
-step-zero Type3 = refl
-step-zero Type4 = refl
+step-zero : (negated : Bool) → stepOf negated (pos 0) ≡ pos 0
+step-zero true = refl
+step-zero false = refl
+
+module _ (negated : Bool) (steps : List ℤ) where
+  copy-length : length (copyOf negated steps) ≡ length steps
+  unfolding copyOf
+  copy-length = length-map steps (stepOf negated)
+
+  copy-at : (k : ℕ) → at (copyOf negated steps) k ≡ stepOf negated (at steps k)
+  unfolding copyOf
+  copy-at k = rw (step-zero negated) at (List·getD-map (stepOf negated) steps k (pos 0))
+
+  -- a copy by its components
+  pub copy-tabulated : tabulate (length steps) (λ k. stepOf negated (at steps k)) ≡ copyOf negated steps
+  copy-tabulated =
+      ext-getD (pos 0) (tabulate (length steps) (λ k. stepOf negated (at steps k))) (copyOf negated steps)
+      (length-tabulate (length steps) (λ k. stepOf negated (at steps k)) ∙ sym copy-length)
+      (λ i h. tabulate-at (length steps) (λ k. stepOf negated (at steps k)) (pos 0) i (omega (arith, length-tabulate (length steps) (λ k. stepOf negated (at steps k)))) ∙ sym (copy-at i))
+
+-- a copy that is not negated is the list
+pub copy-plain : (steps : List ℤ) → copyOf false steps ≡ steps
+copy-plain steps = ext-getD (pos 0) (copyOf false steps) steps (copy-length false steps) (λ i l. copy-at false steps i)
 
 module _ (tp : TpType) (steps : List ℤ) where
   pub second-length : length (secondSteps tp steps) ≡ length steps
-  unfolding secondSteps
-  second-length = length-map steps (stepOf tp)
-
-  second-at : (k : ℕ) → at (secondSteps tp steps) k ≡ stepOf tp (at steps k)
-  unfolding secondSteps
-  second-at k = rw (step-zero tp) at (List·getD-map (stepOf tp) steps k (pos 0))
+  second-length = copy-length (isNegated tp) steps
 
   -- what the array has in front is the second copy
   pub second-front : take (length steps) (secondArea tp steps) ≡ secondSteps tp steps
   unfolding secondArea
-  second-front =
-      area-front 1152 (λ k. stepOf tp (at steps k)) (pos 0) (length steps)
-      ∙ ext-getD (pos 0) (tabulate (length steps) (λ k. stepOf tp (at steps k))) (secondSteps tp steps)
-      (length-tabulate (length steps) (λ k. stepOf tp (at steps k)) ∙ sym second-length)
-      (λ i h. tabulate-at (length steps) (λ k. stepOf tp (at steps k)) (pos 0) i (omega (arith, length-tabulate (length steps) (λ k. stepOf tp (at steps k)))) ∙ sym (second-at i))
+  second-front = area-front 1152 (λ k. stepOf (isNegated tp) (at steps k)) (pos 0) (length steps) ∙ copy-tabulated (isNegated tp) steps
 
   -- as it is lent
   pub second-lent : (a : List ℤ) → a ≡ secondArea tp steps → take (length steps) a ≡ secondSteps tp steps
@@ -74,7 +82,7 @@ module _ (tp : TpType) (steps : List ℤ) where
   second-triples e =
       rw second-length
       (and-both (eq-eqb (length steps % 3) 0 (triples-whole steps e))
-      (below-all (length steps) (λ k. within 4096 (at (secondSteps tp steps) k)) (λ k h. rw (second-at k) (step-small tp (at steps k) (triples-at steps e k h)))))
+      (below-all (length steps) (λ k. within 4096 (at (secondSteps tp steps) k)) (λ k h. rw (copy-at (isNegated tp) steps k) (step-small (isNegated tp) (at steps k) (triples-at steps e k h)))))
 
 module _ (grid : BzGrid) (addresses gp-map : List ℤ) (ok : SoundGrid grid addresses gp-map) (steps : List ℤ) (g : ℕ) where
   -- each corner number is the number of an address

@@ -8,9 +8,20 @@ ghost use Rattle.list_laws.specs.Lists.{at};
 ghost use Rattle.list_laws.specs.Signed.{within};
 ghost use Rattle.question_grids.specs.Grids.{areTriples, triplesIn};
 ghost use Rattle.bzgrid.specs.Neighbours.{SoundGrid};
-ghost use Rattle.triplet_corners.specs.Corners.{stepOf, secondArea, cornerNumbers};
+ghost use Rattle.triplet_corners.specs.Corners.{isNegated, stepOf, secondArea, cornerNumbers};
 use bzgrid::BzGrid;
 use triplet_channels::TpType;
+
+// Whether the second copy is negated: for types 2 and 3, not for 4.
+pub fn is_negated(tp: TpType) -> bool
+    ensures { λ r. ⌜ r ≡ isNegated tp ⌝ }
+{
+    match tp {
+        TpType::Type2 => true,
+        TpType::Type3 => true,
+        TpType::Type4 => false,
+    }
+}
 
 // A tested component with its sign changed.
 fn negate(z: i64) -> i64
@@ -20,24 +31,20 @@ fn negate(z: i64) -> i64
     0 - z
 }
 
-// A component of a step of the second copy: negated for types 2 and 3, not for 4.
-fn step_of(tp: TpType, z: i64) -> i64
+// A component of a copy, negated or as it is.
+fn step_of(negated: bool, z: i64) -> i64
     requires { ⌜ within 4096 z ≡ true ⌝ }
-    ensures { λ r. ⌜ r ≡ stepOf tp z ⌝ }
+    ensures { λ r. ⌜ r ≡ stepOf negated z ⌝ }
 {
-    match tp {
-        TpType::Type2 => negate(z),
-        TpType::Type3 => negate(z),
-        TpType::Type4 => z,
-    }
+    if negated { negate(z) } else { z }
 }
 
-// Component `k` of the second copy.
-fn step_at(tp: TpType, steps: &[i64], k: usize) -> i64
+// Component `k` of a copy of the steps.
+pub fn step_at(negated: bool, steps: &[i64], k: usize) -> i64
     requires { ⌜ (k < length (now steps)) × (areTriples (now steps) ≡ true) ⌝ }
-    ensures { λ r. ⌜ r ≡ stepOf tp (at (now (steps .entry)) k) ⌝ }
+    ensures { λ r. ⌜ r ≡ stepOf negated (at (now (steps .entry)) k) ⌝ }
 {
-    step_of(tp, steps[k])
+    step_of(negated, steps[k])
 }
 
 // The second copy of the steps, in front of an array.
@@ -45,10 +52,11 @@ pub fn second_steps(tp: TpType, steps: &[i64]) -> [i64; 1152]
     requires { ⌜ (length (now steps) ≤ 1152) × (areTriples (now steps) ≡ true) ⌝ }
     ensures { λ r. ⌜ r ≡ secondArea tp (now (steps .entry)) ⌝ }
 {
+    let negated = is_negated(tp);
     let mut a = [0i64; 1152];
     let n = steps.len();
     for k in 0..n {
-        let v = step_at(tp, steps, k);
+        let v = step_at(negated, steps, k);
         a[k] = v;
     }
     a

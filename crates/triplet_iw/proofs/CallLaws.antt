@@ -9,10 +9,10 @@ use Rattle.ask.specs.Answers.{answerOf}
 use Rattle.ask.specs.Ask.{asks, firstNo}
 use Rattle.ask.proofs.AskLaws.{group-no, group-yes}
 use Rattle.triplet_study.specs.declared.Sizes.{Sizes}
-use Rattle.triplet_study.specs.Study.{Study, sizesOf}
+use Rattle.triplet_study.specs.Study.{Study, study, sizesOf}
 use Rattle.triplet_study.specs.Questions.{studyQuestions, areLengths}
-use Rattle.triplet_study.specs.Tested.{Tested, Counted, Ready}
-use Rattle.triplet_study.proofs.StudyLaws.{study-numbered, tested, counted, ready}
+use Rattle.triplet_study.specs.Tested.{Counted, Ready}
+use Rattle.triplet_study.proofs.StudyLaws.{study-numbered, tested, counted, ready, ready-shaped}
 use Rattle.triplet_iw.specs.Calls.{weightsQuestions}
 
 -- question 12 alone
@@ -48,8 +48,8 @@ module _ (s : Study) (weights flags no : ℕ) (e : no ≡ firstNo (studyQuestion
       pub all-yes-12 : firstNo (weightsQuestions s weights flags) ≡ 0
       all-yes-12 = rest ∙ length-yes (areLengths z weights flags) y
 
-      pub study-ready : Ready s z weights flags
-      study-ready = ready s z weights flags (sym e ∙ q) c y
+      pub study-ready : Ready (study (z .shape) (s .addresses) (s .gp-map) (s .steps) (s .frequencies1) (s .frequencies2) (s .points) (s .triplets)) z weights flags
+      study-ready = ready-shaped (ready s z weights flags (sym e ∙ q) c y)
 
 -- ---- the answer
 

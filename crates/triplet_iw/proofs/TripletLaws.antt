@@ -140,6 +140,12 @@ module _ {s : Study} {z : Sizes} {weights flags : ℕ} (r : Ready s z weights fl
 
   -- ---- the pieces of a triplet
 
+  -- the outputs of piece k of triplet t, by its corners
+  outs : (t k : ℕ) (n1 n2 : List ℕ) → n1 ≡ firstCorners s t → n2 ≡ secondCorners s t → (x : ℕ)
+      → outputsOfCorners z (s .points) n1 n2 (s .frequencies1) (k / z .bands2) (s .frequencies2) (k % z .bands2) x ≡ outputsOf s t (k / z .bands2) (k % z .bands2) x
+  unfolding outputsOf
+  outs t k n1 n2 e1 e2 x = rw (e1, e2, r .counts)
+
   -- piece k of triplet t, written by its corners after those before it
   pub pieces-more : (t k : ℕ) (n1 n2 : List ℕ) → n1 ≡ firstCorners s t → n2 ≡ secondCorners s t → k < z .pairs
       → {w₀ : List Float} {f₀ : List ℤ} {w : List Float} {f : List ℤ} {w' : List Float} {f' : List ℤ}
@@ -152,11 +158,6 @@ module _ {s : Study} {z : Sizes} {weights flags : ℕ} (r : Ready s z weights fl
       let h : _ = pair-bands k hk in
       computed-join s (inTriplet (z .pairs) t k) (λ n. eqb n q) (inTriplet (z .pairs) t (k + 1)) (λ n. rw number (in-next (z .pairs) t k n hk)) a
       (written-computed s (r .counts) t (k / z .bands2) (k % z .bands2) (outs t k n1 n2 e1 e2) (h .0) (h .1) refl b)
-    where
-      outs : (t k : ℕ) (n1 n2 : List ℕ) → n1 ≡ firstCorners s t → n2 ≡ secondCorners s t → (x : ℕ)
-          → outputsOfCorners z (s .points) n1 n2 (s .frequencies1) (k / z .bands2) (s .frequencies2) (k % z .bands2) x ≡ outputsOf s t (k / z .bands2) (k % z .bands2) x
-      unfolding outputsOf
-      outs t k n1 n2 e1 e2 x = rw (e1, e2, r .counts)
 
 module _ (s : Study) (pairs t : ℕ) where
   pub pieces-none : (w : List Float) (f : List ℤ) → AreComputed s (inTriplet pairs t 0) w f w f

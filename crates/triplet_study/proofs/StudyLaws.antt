@@ -1,5 +1,5 @@
 -- What the questions tell of a study, of its counts and of the lent lists. Assumes nothing.
-use mathlib.Core.Path.{_≡_, refl, sym, _∙_}
+use mathlib.Core.Path.{_≡_, refl, sym, ap, _∙_, subst⁻¹}
 use mathlib.Core.Bool.{true, false, _&&_}
 use mathlib.Core.List.{List, _++_}
 use Prim.Native.Nat.{ℕ, _*_, _/_, _%_, _≤_}
@@ -24,8 +24,9 @@ use Rattle.question_grids.proofs.StepLaws.{grid-points-at, product-yes}
 use Rattle.questions.proofs.StudyLaws.{table-rows, band-low, band-high}
 use Rattle.bzgrid.proofs.CallLaws.{sound-grid}
 use Rattle.triplet_channels.proofs.ValueLaws.{channel-count-le}
+use Rattle.triplet_study.specs.declared.Shape.{Shape}
 use Rattle.triplet_study.specs.declared.Sizes.{Sizes}
-use Rattle.triplet_study.specs.Study.{Study, tpIn, bands1In, bands2In, tripletCount, sizesBy, sizesOf}
+use Rattle.triplet_study.specs.Study.{Study, study, tpIn, bands1In, bands2In, tripletCount, sizesBy, sizesOf}
 use Rattle.triplet_study.specs.Questions.{tripletsIn, areStudyCounts, areTriplets, holdFrequencies, areStudyFrequencies, tableQuestions, valueQuestions, studyQuestions, areLengths}
 use Rattle.triplet_study.specs.Tested.{Tested, Counted, Fitting, Ready}
 
@@ -189,3 +190,17 @@ ready s z w f e c y =
 -- the counts of a study that is ready
 pub ready-counted : {s : Study} {z : Sizes} {w f : ℕ} → Ready s z w f → Counted z
 ready-counted r = rw (r .counts) (counted (r .tested))
+
+-- the counts keep the numbers as given
+pub study-shaped : (s : Study) (z : Sizes) → z ≡ sizesOf s
+    → study (z .shape) (s .addresses) (s .gp-map) (s .steps) (s .frequencies1) (s .frequencies2) (s .points) (s .triplets) ≡ s
+unfolding sizesBy
+study-shaped s z c =
+    ap (λ (h : Shape). study h (s .addresses) (s .gp-map) (s .steps) (s .frequencies1) (s .frequencies2) (s .points) (s .triplets)) (shape-is s z c)
+  where
+    shape-is : (s : Study) (z : Sizes) → z ≡ sizesOf s → z .shape ≡ s .shape
+    shape-is s z c = rw c
+
+pub ready-shaped : {s : Study} {z : Sizes} {w f : ℕ} → Ready s z w f
+    → Ready (study (z .shape) (s .addresses) (s .gp-map) (s .steps) (s .frequencies1) (s .frequencies2) (s .points) (s .triplets)) z w f
+ready-shaped {s} {z} {w} {f} r = subst⁻¹ (λ (y : Study). Ready y z w f) (study-shaped s z (r .counts)) r

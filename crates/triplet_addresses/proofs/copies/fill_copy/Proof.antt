@@ -6,7 +6,8 @@ use native.Mathlib.Omega.{arith}
 use Rattle.list_laws.proofs.FillLaws.{fill-end, fill-next, fill-none}
 use Rattle.list_laws.proofs.SignedLaws.{back}
 use Rattle.list_laws.specs.Lists.{at, tabulate}
-use Rattle.triplet_addresses.specs.Copies.{copyOf, stepOf}
+use Rattle.triplet_corners.specs.Corners.{stepOf}
+use Rattle.triplet_corners.proofs.CornerLaws.{copy-tabulated}
 use Rattle.triplet_addresses.proofs.copies.fill_copy.Statement.{statement}
 use Rattle.triplet_addresses.proofs.copies.fill_copy.Tie as tie
 
@@ -51,9 +52,8 @@ same-length c =
     c .before .loop .inv .1
 
 returns : tie.Need-returns Inv-loop μ-loop
-unfolding copyOf
 returns c =
-    let s : _ = c .before .before in fill-end (λ k. stepOf (s .args .negated) (at (s .args .table .now) k)) (c .before .loop .out) (c .before .loop .k) (length (s .args .table .now)) (c .before .loop .inv .2) (omega arith) (omega (arith, s .pre .1))
+    let s : _ = c .before .before in fill-end (λ k. stepOf (s .args .negated) (at (s .args .table .now) k)) (c .before .loop .out) (c .before .loop .k) (length (s .args .table .now)) (c .before .loop .inv .2) (omega arith) (omega (arith, s .pre .1)) ∙ copy-tabulated (s .args .negated) (s .args .table .now)
 
 pub fill-copy-spec : {M : Type 1} → statement M
 fill-copy-spec =

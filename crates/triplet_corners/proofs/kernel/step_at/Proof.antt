@@ -21,7 +21,7 @@ step-of-requires c κs =
 
 returns : tie.Need-returns
 returns c =
-    back (c .step-of .result) (c .step-of .ok) ∙ c .step-of .ensures ∙ ap (λ (z : ℤ). stepOf (c .before .before .args .tp) z) (back (getD (c .before .before .args .steps .now) (c .before .before .args .k) (pos 0)) (c .before .step-of-arg .given))
+    back (c .step-of .result) (c .step-of .ok) ∙ c .step-of .ensures ∙ ap (λ (z : ℤ). stepOf (c .before .before .args .negated) z) (back (getD (c .before .before .args .steps .now) (c .before .before .args .k) (pos 0)) (c .before .step-of-arg .given))
 
 pub step-at-spec : {M : Type 1} → statement M
 step-at-spec =

@@ -8,7 +8,9 @@ use Rattle.triplet_study.proofs.kernel.lengths_ok.Tie as tie
 
 mul-entries : tie.Need-mul-entries
 mul-entries c =
-    let h : _ = c .before .pre in let m : _ = mul-le-mul (h .channels-few) (h .cells-few) in omega (arith, m)
+    let h : _ = c .before .pre in
+    let m : _ = mul-le-mul (h .channels-few) (h .cells-few) in
+    omega (arith, m)
 
 returns : tie.Need-returns
 unfolding areLengths

@@ -37,23 +37,36 @@ magnitude-requires-2 c κs = search needs
 -- src/kernel.rt:67:17
 mul-pairs : tie.Need-mul-pairs
 mul-pairs c =
-    let s : _ = c .before .before .before .before .before .before .before .before .before .before in let b1 : _ = rw (back (s .args .shape .«num_band1») (c .before .before .before .before .before .before .struct-told3 .given .1 .1 .1 .0 .1)) at (c .before .magnitude .ensures) in let b2 : _ = rw (back (s .args .shape .«num_band2») (c .before .before .before .before .before .struct-told4 .given .1 .1 .1 .1 .0 .1)) at (c .magnitude2 .ensures) in rw (b1, b2) (let m : _ = mul-le-mul (s .pre .0) (s .pre .1 .0) in omega (arith, m))
+    let s : _ = c .before .before .before .before .before .before .before .before .before .before in
+    let b1 : _ = rw (back (s .args .shape .«num_band1») (c .before .before .before .before .before .before .struct-told3 .given .1 .1 .1 .0 .1)) at (c .before .magnitude .ensures) in
+    let b2 : _ = rw (back (s .args .shape .«num_band2») (c .before .before .before .before .before .struct-told4 .given .1 .1 .1 .1 .0 .1)) at (c .magnitude2 .ensures) in
+    rw (b1, b2) (let m : _ = mul-le-mul (s .pre .0) (s .pre .1 .0) in omega (arith, m))
 
 -- src/kernel.rt:68:17
 mul-cells : tie.Need-mul-cells
 mul-cells c =
-    let s : _ = c .before .before .before .before .before .before .before .before .before .before in let m : _ = mul-le-mul (s .pre .1 .1 .1) (s .pre .1 .1 .0) in omega (arith, m)
+    let s : _ = c .before .before .before .before .before .before .before .before .before .before in
+    let m : _ = mul-le-mul (s .pre .1 .1 .1) (s .pre .1 .1 .0) in
+    omega (arith, m)
 
 -- src/kernel.rt:68:17
 mul-cells-2 : tie.Need-mul-cells-2
 mul-cells-2 c =
-    let s : _ = c .before .before .before .before .before .before .before .before .before .before in let b1 : _ = rw (back (s .args .shape .«num_band1») (c .before .before .before .before .before .before .struct-told3 .given .1 .1 .1 .0 .1)) at (c .before .magnitude .ensures) in let b2 : _ = rw (back (s .args .shape .«num_band2») (c .before .before .before .before .before .struct-told4 .given .1 .1 .1 .1 .0 .1)) at (c .magnitude2 .ensures) in rw (b1, b2) (let m : _ = cells-fit (s .args .triplets) (s .args .points) (mag (s .args .shape .«num_band1»)) (mag (s .args .shape .«num_band2»)) (s .pre .1 .1 .1) (s .pre .1 .1 .0) (s .pre .0) (s .pre .1 .0) in omega (arith, m))
+    let s : _ = c .before .before .before .before .before .before .before .before .before .before in
+    let b1 : _ = rw (back (s .args .shape .«num_band1») (c .before .before .before .before .before .before .struct-told3 .given .1 .1 .1 .0 .1)) at (c .before .magnitude .ensures) in
+    let b2 : _ = rw (back (s .args .shape .«num_band2») (c .before .before .before .before .before .struct-told4 .given .1 .1 .1 .1 .0 .1)) at (c .magnitude2 .ensures) in
+    rw (b1, b2) (let m : _ = cells-fit (s .args .triplets) (s .args .points) (mag (s .args .shape .«num_band1»)) (mag (s .args .shape .«num_band2»)) (s .pre .1 .1 .1) (s .pre .1 .1 .0) (s .pre .0) (s .pre .1 .0) in omega (arith, m))
 
 -- src/kernel.rt:53:1
 returns : tie.Need-returns
 unfolding sizesBy
 returns c =
-    let s : _ = c .before .before .before .before .before .before .before .before .before .before in let b1 : _ = rw (back (s .args .shape .«num_band1») (c .before .before .before .before .before .before .struct-told3 .given .1 .1 .1 .0 .1)) at (c .before .magnitude .ensures) in let b2 : _ = rw (back (s .args .shape .«num_band2») (c .before .before .before .before .before .struct-told4 .given .1 .1 .1 .1 .0 .1)) at (c .magnitude2 .ensures) in let t : _ = rw (back (s .args .shape .«tp_type») (c .before .before .before .before .before .before .before .struct-told2 .given .1 .1 .0 .1)) at (c .before .before .before .before .tp-type-of .ensures) in let g : _ = rw (back (s .args .shape .«bz_grid_type») (c .before .before .before .before .before .before .before .before .before .struct-told .given .0 .1)) at (c .before .before .before .grid-of .ensures) in rw (b1, b2, c .before .before .num-channels .ensures, t, g)
+    let s : _ = c .before .before .before .before .before .before .before .before .before .before in
+    let b1 : _ = rw (back (s .args .shape .«num_band1») (c .before .before .before .before .before .before .struct-told3 .given .1 .1 .1 .0 .1)) at (c .before .magnitude .ensures) in
+    let b2 : _ = rw (back (s .args .shape .«num_band2») (c .before .before .before .before .before .struct-told4 .given .1 .1 .1 .1 .0 .1)) at (c .magnitude2 .ensures) in
+    let t : _ = rw (back (s .args .shape .«tp_type») (c .before .before .before .before .before .before .before .struct-told2 .given .1 .1 .0 .1)) at (c .before .before .before .before .tp-type-of .ensures) in
+    let g : _ = rw (back (s .args .shape .«bz_grid_type») (c .before .before .before .before .before .before .before .before .before .struct-told .given .0 .1)) at (c .before .before .before .grid-of .ensures) in
+    rw (b1, b2, c .before .before .num-channels .ensures, t, g)
 
 pub sizes-of-spec : {M : Type 1} → statement M
 sizes-of-spec =

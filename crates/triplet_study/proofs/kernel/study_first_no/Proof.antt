@@ -24,7 +24,10 @@ grid-no-requires c κs = search needs
 -- src/kernel.rt:32:9
 returns : tie.Need-returns
 returns c =
-    let s : _ = c .before .before .before .before .before .before .before in let a : _ = asked s in let g : _ = rw (back (s .args .shape .«bz_grid_type») (c .before .before .before .struct-told .given .0 .1)) at (c .before .grid-no .ensures) in grid-no a _ g (c .if1 .taken)
+    let s : _ = c .before .before .before .before .before .before .before in
+    let a : _ = asked s in
+    let g : _ = rw (back (s .args .shape .«bz_grid_type») (c .before .before .before .struct-told .given .0 .1)) at (c .before .grid-no .ensures) in
+    grid-no a _ g (c .if1 .taken)
 
 -- src/kernel.rt:34:9
 table-ok-requires : tie.Need-table-ok-requires
@@ -33,7 +36,10 @@ table-ok-requires c κs = search needs
 -- src/kernel.rt:35:9
 returns-2 : tie.Need-returns-2
 returns-2 c =
-    let s : _ = c .before .before .before .before .before .before .before .before .before in let a : _ = asked s in let g : _ = rw (back (s .args .shape .«bz_grid_type») (c .before .before .before .before .before .struct-told .given .0 .1)) at (c .before .before .before .grid-no .ensures) in table-no a _ g (c .before .before .if1 .left) (no-of (c .before .table-ok .ensures) (c .if2 .taken))
+    let s : _ = c .before .before .before .before .before .before .before .before .before in
+    let a : _ = asked s in
+    let g : _ = rw (back (s .args .shape .«bz_grid_type») (c .before .before .before .before .before .struct-told .given .0 .1)) at (c .before .before .before .grid-no .ensures) in
+    table-no a _ g (c .before .before .if1 .left) (no-of (c .before .table-ok .ensures) (c .if2 .taken))
 
 -- src/kernel.rt:40:5
 value-first-no-requires : tie.Need-value-first-no-requires
@@ -42,7 +48,11 @@ value-first-no-requires c κs = search needs
 -- src/kernel.rt:16:1
 returns-3 : tie.Need-returns-3
 returns-3 c =
-    let s : _ = c .before .before .before .before .before .before .before .before .before .before .before .before .before in let a : _ = asked s in let g : _ = rw (back (s .args .shape .«bz_grid_type») (c .before .before .before .before .before .before .before .before .before .struct-told .given .0 .1)) at (c .before .before .before .before .before .before .before .grid-no .ensures) in let v : _ = rw (back (s .args .shape .«tp_type») (c .before .before .before .struct-told2 .given .1 .1 .0 .1), back (s .args .shape .«num_band1») (c .before .before .struct-told3 .given .1 .1 .1 .0 .1), back (s .args .shape .«num_band2») (c .before .struct-told4 .given .1 .1 .1 .1 .0 .1)) at (c .value-first-no .ensures) in value-no a _ g (c .before .before .before .before .before .before .if1 .left) (yes-of (c .before .before .before .before .before .table-ok .ensures) (c .before .before .before .before .if2 .left)) _ v
+    let s : _ = c .before .before .before .before .before .before .before .before .before .before .before .before .before in
+    let a : _ = asked s in
+    let g : _ = rw (back (s .args .shape .«bz_grid_type») (c .before .before .before .before .before .before .before .before .before .struct-told .given .0 .1)) at (c .before .before .before .before .before .before .before .grid-no .ensures) in
+    let v : _ = rw (back (s .args .shape .«tp_type») (c .before .before .before .struct-told2 .given .1 .1 .0 .1), back (s .args .shape .«num_band1») (c .before .before .struct-told3 .given .1 .1 .1 .0 .1), back (s .args .shape .«num_band2») (c .before .struct-told4 .given .1 .1 .1 .1 .0 .1)) at (c .value-first-no .ensures) in
+    value-no a _ g (c .before .before .before .before .before .before .if1 .left) (yes-of (c .before .before .before .before .before .table-ok .ensures) (c .before .before .before .before .if2 .left)) _ v
 
 pub study-first-no-spec : {M : Type 1} → statement M
 study-first-no-spec =

@@ -42,7 +42,8 @@ tp-type-ok-requires c κs = search needs
 returns : tie.Need-returns
 unfolding firstNo
 returns c =
-    let s : _ = c .before .before .before .before .before in rw (no-of (type-asked s (c .before .tp-type-ok .ensures)) (c .if1 .taken))
+    let s : _ = c .before .before .before .before .before in
+    rw (no-of (type-asked s (c .before .tp-type-ok .ensures)) (c .if1 .taken))
 
 -- src/kernel/asks.rt:70:18
 add-count : tie.Need-add-count
@@ -56,7 +57,8 @@ study-counts-ok-requires c κs = search needs
 returns-2 : tie.Need-returns-2
 unfolding firstNo
 returns-2 c =
-    let s : _ = c .before .before .before .before .before .before .before in rw (yes-of (type-asked s (c .before .before .before .tp-type-ok .ensures)) (c .before .before .if1 .left), no-of (counts-asked s (c .before .study-counts-ok .ensures)) (c .if2 .taken))
+    let s : _ = c .before .before .before .before .before .before .before in
+    rw (yes-of (type-asked s (c .before .before .before .tp-type-ok .ensures)) (c .before .before .if1 .left), no-of (counts-asked s (c .before .study-counts-ok .ensures)) (c .if2 .taken))
 
 -- src/kernel/asks.rt:74:9
 triplets-ok-requires : tie.Need-triplets-ok-requires
@@ -66,7 +68,8 @@ triplets-ok-requires c κs = search needs
 returns-3 : tie.Need-returns-3
 unfolding firstNo
 returns-3 c =
-    let s : _ = c .before .before .before .before .before .before .before .before .before in rw (yes-of (type-asked s (c .before .before .before .before .before .tp-type-ok .ensures)) (c .before .before .before .before .if1 .left), yes-of (counts-asked s (c .before .before .before .study-counts-ok .ensures)) (c .before .before .if2 .left), no-of (c .before .triplets-ok .ensures) (c .if3 .taken))
+    let s : _ = c .before .before .before .before .before .before .before .before .before in
+    rw (yes-of (type-asked s (c .before .before .before .before .before .tp-type-ok .ensures)) (c .before .before .before .before .if1 .left), yes-of (counts-asked s (c .before .before .before .study-counts-ok .ensures)) (c .before .before .if2 .left), no-of (c .before .triplets-ok .ensures) (c .if3 .taken))
 
 -- src/kernel/asks.rt:77:9
 magnitude-requires : tie.Need-magnitude-requires
@@ -79,19 +82,25 @@ magnitude-requires-2 c κs = search needs
 -- src/kernel/asks.rt:79:9
 study-frequencies-ok-requires : tie.Need-study-frequencies-ok-requires
 study-frequencies-ok-requires c κs =
-    let s : _ = c .before .before .before .before .before .before .before .before .before .before .before in let n : _ = counts-say (s .args .num-band1) (s .args .num-band2) (length (s .args .frequency-points .now)) (tripletsIn (s .args .triplets .now)) (yes-of (counts-asked s (c .before .before .before .before .before .study-counts-ok .ensures)) (c .before .before .before .before .if2 .left)) in (omega (arith, rw (toZ-ofZ w64 (s .args .num-band1) (s .fits .num-band1)) at (c .before .magnitude .ensures), n .0 .0), omega (arith, rw (toZ-ofZ w64 (s .args .num-band2) (s .fits .num-band2)) at (c .magnitude2 .ensures), n .1 .0 .0))
+    let s : _ = c .before .before .before .before .before .before .before .before .before .before .before in
+    let n : _ = counts-say (s .args .num-band1) (s .args .num-band2) (length (s .args .frequency-points .now)) (tripletsIn (s .args .triplets .now)) (yes-of (counts-asked s (c .before .before .before .before .before .study-counts-ok .ensures)) (c .before .before .before .before .if2 .left)) in
+    (omega (arith, rw (toZ-ofZ w64 (s .args .num-band1) (s .fits .num-band1)) at (c .before .magnitude .ensures), n .0 .0), omega (arith, rw (toZ-ofZ w64 (s .args .num-band2) (s .fits .num-band2)) at (c .magnitude2 .ensures), n .1 .0 .0))
 
 -- src/kernel/asks.rt:80:9
 returns-4 : tie.Need-returns-4
 unfolding firstNo
 returns-4 c =
-    let s : _ = c .before .before .before .before .before .before .before .before .before .before .before .before .before in let q : c .before .study-frequencies-ok .result ≡ asked s = rw (c .before .study-frequencies-ok .ensures, rw (toZ-ofZ w64 (s .args .num-band1) (s .fits .num-band1)) at (c .before .before .before .magnitude .ensures), rw (toZ-ofZ w64 (s .args .num-band2) (s .fits .num-band2)) at (c .before .before .magnitude2 .ensures)) in rw (yes-of (type-asked s (c .before .before .before .before .before .before .before .before .before .tp-type-ok .ensures)) (c .before .before .before .before .before .before .before .before .if1 .left), yes-of (counts-asked s (c .before .before .before .before .before .before .before .study-counts-ok .ensures)) (c .before .before .before .before .before .before .if2 .left), yes-of (c .before .before .before .before .before .triplets-ok .ensures) (c .before .before .before .before .if3 .left), no-of q (c .if4 .taken))
+    let s : _ = c .before .before .before .before .before .before .before .before .before .before .before .before .before in
+    let q : c .before .study-frequencies-ok .result ≡ asked s = rw (c .before .study-frequencies-ok .ensures, rw (toZ-ofZ w64 (s .args .num-band1) (s .fits .num-band1)) at (c .before .before .before .magnitude .ensures), rw (toZ-ofZ w64 (s .args .num-band2) (s .fits .num-band2)) at (c .before .before .magnitude2 .ensures)) in
+    rw (yes-of (type-asked s (c .before .before .before .before .before .before .before .before .before .tp-type-ok .ensures)) (c .before .before .before .before .before .before .before .before .if1 .left), yes-of (counts-asked s (c .before .before .before .before .before .before .before .study-counts-ok .ensures)) (c .before .before .before .before .before .before .if2 .left), yes-of (c .before .before .before .before .before .triplets-ok .ensures) (c .before .before .before .before .if3 .left), no-of q (c .if4 .taken))
 
 -- src/kernel/asks.rt:54:1
 returns-5 : tie.Need-returns-5
 unfolding firstNo
 returns-5 c =
-    let s : _ = c .before .before .before .before .before .before .before .before .before .before .before .before .before in let q : c .before .study-frequencies-ok .result ≡ asked s = rw (c .before .study-frequencies-ok .ensures, rw (toZ-ofZ w64 (s .args .num-band1) (s .fits .num-band1)) at (c .before .before .before .magnitude .ensures), rw (toZ-ofZ w64 (s .args .num-band2) (s .fits .num-band2)) at (c .before .before .magnitude2 .ensures)) in rw (yes-of (type-asked s (c .before .before .before .before .before .before .before .before .before .tp-type-ok .ensures)) (c .before .before .before .before .before .before .before .before .if1 .left), yes-of (counts-asked s (c .before .before .before .before .before .before .before .study-counts-ok .ensures)) (c .before .before .before .before .before .before .if2 .left), yes-of (c .before .before .before .before .before .triplets-ok .ensures) (c .before .before .before .before .if3 .left), yes-of q (c .if4 .left))
+    let s : _ = c .before .before .before .before .before .before .before .before .before .before .before .before .before in
+    let q : c .before .study-frequencies-ok .result ≡ asked s = rw (c .before .study-frequencies-ok .ensures, rw (toZ-ofZ w64 (s .args .num-band1) (s .fits .num-band1)) at (c .before .before .before .magnitude .ensures), rw (toZ-ofZ w64 (s .args .num-band2) (s .fits .num-band2)) at (c .before .before .magnitude2 .ensures)) in
+    rw (yes-of (type-asked s (c .before .before .before .before .before .before .before .before .before .tp-type-ok .ensures)) (c .before .before .before .before .before .before .before .before .if1 .left), yes-of (counts-asked s (c .before .before .before .before .before .before .before .study-counts-ok .ensures)) (c .before .before .before .before .before .before .if2 .left), yes-of (c .before .before .before .before .before .triplets-ok .ensures) (c .before .before .before .before .if3 .left), yes-of q (c .if4 .left))
 
 pub value-first-no-spec : {M : Type 1} → statement M
 value-first-no-spec =
