@@ -9,7 +9,7 @@ use lib.ListN.{getD}
 use Rattle.list_laws.proofs.BoolLaws.{clash}
 use Rattle.list_laws.proofs.FillLaws.{tabulate-ext}
 use Rattle.tetrahedron_method.specs.Weight.{weightOf}
-use Rattle.tetrahedron_method.specs.Sorted.{Ordered, sortedWeight}
+use Rattle.tetrahedron_method.specs.Sorted.{sortedWeight}
 use Rattle.tetrahedron_method.specs.declared.WeightFunction.the-variants.{I}
 use Rattle.tetrahedron_method.proofs.SortedLaws.{weight-is, weight-same}
 use Rattle.triplet_types.specs.declared.TpType.{TpType}
@@ -17,7 +17,7 @@ use Rattle.triplet_types.specs.declared.TpType.the-variants.{Type2, Type3, Type
 use Rattle.triplet_values.specs.declared.ValueBox.{ValueBox}
 use Rattle.triplet_values.specs.Values.{combined, channelValues, leastOf, greatestOf, boxOf, Begun}
 use Rattle.triplet_channels.specs.Channels.{channelAt, furtherAt, outputsAt}
-use Rattle.triplet_channels.specs.Ordered.{furtherRows, orderedChannelAt, orderedFurtherAt, outputsOrdered}
+use Rattle.triplet_channels.specs.Ordered.{furtherRows, orderedChannelAt, orderedFurtherAt, outputsOrdered, Prepared}
 
 -- the values of a channel go by the first entries alone
 pub values-same : (c n : ℕ) {s t u v : List Float} → Begun n s t → Begun n u v → channelValues c s u n ≡ channelValues c t v n
@@ -40,18 +40,12 @@ module _ (n : ℕ) (s t : List Float) (h : Begun n s t) (pos : 1 ≤ n) where
   unfolding boxOf
   box-same = rw (least-same n (omega arith), greatest-same n (omega arith))
 
--- z and p are the rows of s in order, s begins as t does, and b is its box
-pub record Prepared (rows : ℕ) (s t z : List Float) (p : List ℕ) (b : ValueBox) : Type 0 where
-  pub begun : Begun (rows * 4) s t
-  pub sorted : Ordered s rows z p
-  pub bounds : b ≡ boxOf s (rows * 4)
-
-module _ {rows : ℕ} {s t z : List Float} {p : List ℕ} {b : ValueBox} (h : Prepared rows s t z p b) (pos : 1 ≤ rows) (w : Float) where
+module _ {rows : ℕ} {t z : List Float} {p : List ℕ} {b : ValueBox} (h : Prepared rows t z p b) (pos : 1 ≤ rows) (w : Float) where
   channel-is : orderedChannelAt w z p rows b ≡ channelAt w t rows
   unfolding orderedChannelAt channelAt
   channel-is =
-      let e : sortedWeight I w z p rows ≡ weightOf I w t rows = weight-is I w s z p rows (h .sorted) ∙ weight-same I w s t rows (h .begun .same) in
-      let g : b ≡ boxOf t (rows * 4) = h .bounds ∙ box-same (rows * 4) s t (h .begun) (omega arith) in
+      let e : sortedWeight I w z p rows ≡ weightOf I w t rows = weight-is I w (h .filled) z p rows (h .sorted .sorted) ∙ weight-same I w (h .filled) t rows (h .begun .same) in
+      let g : b ≡ boxOf t (rows * 4) = h .bounds ∙ box-same (rows * 4) (h .filled) t (h .begun) (omega arith) in
       rw (e, g)
 
 -- whether a type has a second and a third channel
@@ -60,32 +54,27 @@ hasFurther Type2 = true
 hasFurther Type3 = true
 hasFurther Type4 = false
 
--- the same of the second or the third channel, where the type has it
-pub record Further (tp : TpType) (rows : ℕ) (s t z : List Float) (p : List ℕ) (b : ValueBox) : Type 0 where
-  pub ready : hasFurther tp ≡ true → Prepared rows s t z p b
+-- a second or a third channel is ready, where the type has it
+pub record Further (tp : TpType) (rows : ℕ) (t z : List Float) (p : List ℕ) (b : ValueBox) : Type 0 where
+  pub ready : hasFurther tp ≡ true → Prepared rows t z p b
 
-further-is : (tp : TpType) (w : Float) {rows : ℕ} {s t z : List Float} {p : List ℕ} {b : ValueBox} → Further tp rows s t z p b → 1 ≤ rows → orderedFurtherAt tp w z p rows b ≡ furtherAt tp w t rows
+further-is : (tp : TpType) (w : Float) {rows : ℕ} {t z : List Float} {p : List ℕ} {b : ValueBox} → Further tp rows t z p b → 1 ≤ rows → orderedFurtherAt tp w z p rows b ≡ furtherAt tp w t rows
 unfolding orderedFurtherAt furtherAt
 further-is Type2 w h pos = channel-is (h .ready refl) pos w
 further-is Type3 w h pos = channel-is (h .ready refl) pos w
 further-is Type4 w h pos = refl
 
 -- the outputs of channels in order are the plain outputs
-pub outputs-is : (tp : TpType) (w : Float) (rows : ℕ) → 1 ≤ rows → {s0 t0 z0 s1 t1 z1 s2 t2 z2 : List Float} {p0 p1 p2 : List ℕ} {b0 b1 b2 : ValueBox}
-    → Prepared rows s0 t0 z0 p0 b0 → Further tp rows s1 t1 z1 p1 b1 → Further tp rows s2 t2 z2 p2 b2
+pub outputs-is : (tp : TpType) (w : Float) (rows : ℕ) → 1 ≤ rows → {t0 z0 t1 z1 t2 z2 : List Float} {p0 p1 p2 : List ℕ} {b0 b1 b2 : ValueBox}
+    → Prepared rows t0 z0 p0 b0 → Further tp rows t1 z1 p1 b1 → Further tp rows t2 z2 p2 b2
     → outputsOrdered tp w z0 p0 z1 p1 z2 p2 rows b0 b1 b2 ≡ outputsAt tp w t0 t1 t2 rows
 unfolding outputsOrdered outputsAt
 outputs-is tp w rows pos h0 h1 h2 = rw (channel-is h0 pos w, further-is tp w h1 pos, further-is tp w h2 pos)
 
--- a channel's area made ready: filled, its box taken, its rows put in order
-pub prepare : (c rows : ℕ) {f f' g g' s z : List Float} {p : List ℕ} {b : ValueBox} → Begun (rows * 4) f f' → Begun (rows * 4) g g' → Begun (rows * 4) s (channelValues c f g (rows * 4))
-    → Ordered s rows z p → b ≡ boxOf s (rows * 4) → Prepared rows s (channelValues c f' g' (rows * 4)) z p b
-prepare c rows h k m o e =
-    record {
-      begun = record { size = m .size; same = λ i l. rw (← values-same c (rows * 4) h k) (m .same i l) };
-      sorted = o;
-      bounds = e;
-    }
+-- a channel of frequencies in work areas is the channel of those that they begin with
+pub prepared-as : (c rows : ℕ) {f f' g g' z : List Float} {p : List ℕ} {b : ValueBox} → Begun (rows * 4) f f' → Begun (rows * 4) g g'
+    → Prepared rows (channelValues c f g (rows * 4)) z p b → Prepared rows (channelValues c f' g' (rows * 4)) z p b
+prepared-as c rows {z = z} {p = p} {b = b} h k m = subst (λ (t : List Float). Prepared rows t z p b) (values-same c (rows * 4) h k) m
 
 -- a type gives its further channels all rows or none
 further-all : (tp : TpType) (rows : ℕ) → hasFurther tp ≡ true → furtherRows tp rows ≡ rows
@@ -98,12 +87,10 @@ further-le Type2 rows = omega arith
 further-le Type3 rows = omega arith
 further-le Type4 rows = omega arith
 
--- a further channel's area made ready in the rows that its type gives it
-pub prepare-further : (tp : TpType) (c rows n : ℕ) → n ≡ furtherRows tp rows → {f f' g g' s z : List Float} {p : List ℕ} {b : ValueBox} → Begun (rows * 4) f f' → Begun (rows * 4) g g'
-    → Begun (n * 4) s (channelValues c f g (n * 4)) → Ordered s n z p → b ≡ boxOf s (n * 4) → Further tp rows s (channelValues c f' g' (rows * 4)) z p b
-prepare-further tp c rows n q {f} {f'} {g} {g'} {s} {z} {p} {b} h k m o e =
+-- the same of a further channel, in the rows that its type gives it
+pub further-as : (tp : TpType) (c rows n : ℕ) → n ≡ furtherRows tp rows → {f f' g g' z : List Float} {p : List ℕ} {b : ValueBox} → Begun (rows * 4) f f' → Begun (rows * 4) g g'
+    → Prepared n (channelValues c f g (n * 4)) z p b → Further tp rows (channelValues c f' g' (rows * 4)) z p b
+further-as tp c rows n q {f} {f'} {g} {g'} {z} {p} {b} h k m =
     record {
-      ready = λ y.
-          let u : n ≡ rows = q ∙ further-all tp rows y in
-          prepare c rows h k (subst (λ (i : ℕ). Begun (i * 4) s (channelValues c f g (i * 4))) u m) (subst (λ (i : ℕ). Ordered s i z p) u o) (subst (λ (i : ℕ). b ≡ boxOf s (i * 4)) u e);
+      ready = λ y. prepared-as c rows h k (subst (λ (i : ℕ). Prepared i (channelValues c f g (i * 4)) z p b) (q ∙ further-all tp rows y) m);
     }

@@ -1,7 +1,9 @@
 // Channels and outputs at a frequency point, of work areas whose rows are in order.
 ghost use mathlib.Core.Path.{_≡_};
-ghost use Prim.Native.Nat.{_≤_};
-ghost use Rattle.triplet_channels.specs.Ordered.{furtherRows, orderedChannelAt, orderedFurtherAt, outputsOrdered};
+ghost use Prim.Native.Nat.{_*_, _≤_};
+ghost use lib.ListN.{length};
+ghost use Rattle.triplet_values.specs.Values.{areaAt, channelValues};
+ghost use Rattle.triplet_channels.specs.Ordered.{furtherRows, orderedChannelAt, orderedFurtherAt, outputsOrdered, Prepared};
 use tetrahedron_method::WeightFunction;
 use triplet_outputs::Channel;
 use triplet_outputs::Outputs;
@@ -9,6 +11,24 @@ use triplet_outputs::kernel::combine_outputs;
 use triplet_outputs::kernel::is_open;
 use triplet_types::TpType;
 use triplet_values::ValueBox;
+
+// Makes a channel ready: its values at the corners of so many rows, their box, and then the rows in order.
+pub fn prepare_channel(
+    area: &mut [f64; 384],
+    places: &mut [usize; 96],
+    channel: usize,
+    frequencies: &[[f64; 384]; 2],
+    rows: usize,
+) -> ValueBox
+    requires { ⌜ (rows ≤ 96) × ((length (now area) ≡ 384) × (length (now places) ≡ 96)) ⌝ }
+    ensures { λ b. ⌜ Prepared rows (channelValues channel (areaAt (now (frequencies .entry)) 0) (areaAt (now (frequencies .entry)) 1) (rows * 4)) (now (area .exit)) (now (places .exit)) b ⌝ }
+{
+    let n = rows * 4;
+    triplet_values::kernel::fill_channel(area, channel, &frequencies[0], &frequencies[1], n);
+    let b = triplet_values::kernel::box_of(area, n);
+    tetrahedron_method::kernel::sorted::sort_rows(area, places, rows);
+    b
+}
 
 // A channel: open with its weight I where the point lies in the box.
 fn channel_at(f0: f64, s: &[f64; 384], places: &[usize; 96], rows: usize, b: ValueBox) -> Channel

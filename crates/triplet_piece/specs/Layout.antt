@@ -3,7 +3,7 @@
 use mathlib.Core.Bool.{Bool, cond}
 use mathlib.Core.Path.{_≡_}
 use mathlib.Core.List.{List}
-use Prim.Native.Nat.{ℕ, _+_, _*_, _/_, _%_}
+use Prim.Native.Nat.{ℕ, _+_, _*_, _/_, _%_, _<_}
 use denote.Ref.{now}
 use lib.Dec.{eqb}
 use lib.Ieee.{Float}
@@ -11,6 +11,7 @@ use lib.IntN.{ℤ}
 use lib.ListN.{length}
 use Rattle.list_laws.specs.Patch.{patch}
 use Rattle.triplet_outputs.specs.declared.Outputs.{Outputs}
+use Rattle.triplet_values.specs.Values.{areaAt}
 use Rattle.triplet_study.specs.declared.Sizes.{Sizes}
 use Rattle.triplet_study.specs.Lent.{Lent}
 
@@ -70,13 +71,13 @@ pub record AreWritten (z : Sizes) (q : ℕ) (o : ℕ → Outputs) (weights : Lis
 abbrev pub WritesPiece : Sizes → ℕ → (ℕ → Outputs) → Lent Float → Lent ℤ → Type 0
 WritesPiece z q o weights flags = AreWritten z q o (now (weights .entry)) (now (flags .entry)) (now (weights .exit)) (now (flags .exit))
 
+-- so many work areas of one size
+pub record AreSized {A : Type 0} (count size : ℕ) (areas : List (List A)) : Type 0 where
+  pub counted : length areas ≡ count
+  pub sized : (i : ℕ) → i < count → length (areaAt areas i) ≡ size
+
 -- the sizes of the work areas that a piece is lent
-pub record Areas (f1 f2 a0 a1 a2 : List Float) (p0 p1 p2 : List ℕ) : Type 0 where
-  pub size1 : length f1 ≡ 384
-  pub size2 : length f2 ≡ 384
-  pub channel0 : length a0 ≡ 384
-  pub channel1 : length a1 ≡ 384
-  pub channel2 : length a2 ≡ 384
-  pub places0 : length p0 ≡ 96
-  pub places1 : length p1 ≡ 96
-  pub places2 : length p2 ≡ 96
+pub record Areas (frequencies channels : List (List Float)) (places : List (List ℕ)) : Type 0 where
+  pub frequencies-sized : AreSized 2 384 frequencies
+  pub channels-sized : AreSized 3 384 channels
+  pub places-sized : AreSized 3 96 places

@@ -11,7 +11,7 @@ use lib.Signed.{mag}
 use Rattle.list_laws.specs.Lists.{at}
 use Rattle.triplet_outputs.specs.declared.Outputs.{Outputs}
 use Rattle.triplet_values.specs.declared.ValueBox.{ValueBox}
-use Rattle.triplet_values.specs.Values.{cornerFrequencies, channelValues}
+use Rattle.triplet_values.specs.Values.{areaAt, cornerFrequencies, channelValues}
 use Rattle.triplet_channels.specs.Channels.{outputsAt}
 use Rattle.triplet_channels.specs.Ordered.{outputsOrdered}
 use Rattle.triplet_study.specs.declared.Sizes.{Sizes}
@@ -20,9 +20,10 @@ use Rattle.triplet_study.specs.Lent.{Lent}
 use Rattle.triplet_corners.specs.Corners.{secondSteps, cornerNumbers}
 use Rattle.triplet_piece.specs.Layout.{tripletAt, pointAt, pairAt, channelOf, patchPieces}
 
--- the outputs at point x, of channels in order with their boxes
-abbrev pub outputsOfSorted : Sizes → List Float → List Float → List ℕ → List Float → List ℕ → List Float → List ℕ → ValueBox → ValueBox → ValueBox → ℕ → Outputs
-outputsOfSorted z points s0 p0 s1 p1 s2 p2 x0 x1 x2 x = outputsOrdered (z .tp) (getD points x nan) s0 p0 s1 p1 s2 p2 (z .rows) x0 x1 x2
+-- the outputs at point x, of channels in order, the places of their first values and their boxes
+abbrev pub outputsOfSorted : Sizes → List Float → List (List Float) → List (List ℕ) → ValueBox → ValueBox → ValueBox → ℕ → Outputs
+outputsOfSorted z points channels places x0 x1 x2 x =
+    outputsOrdered (z .tp) (getD points x nan) (areaAt channels 0) (areaAt places 0) (areaAt channels 1) (areaAt places 1) (areaAt channels 2) (areaAt places 2) (z .rows) x0 x1 x2
 
 -- the outputs of bands b1, b2 at point x, of a triplet with these corner numbers of its second and third point
 unfoldable pub outputsOfCorners : Sizes → List Float → List ℕ → List ℕ → List Float → ℕ → List Float → ℕ → ℕ → Outputs

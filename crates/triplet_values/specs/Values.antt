@@ -1,7 +1,7 @@
 -- Corner values of a band pair, and the box of a channel.
 use mathlib.Core.Path.{_≡_}
 use mathlib.Core.Bool.{cond}
-use mathlib.Core.List.{List}
+use mathlib.Core.List.{List, []}
 use Prim.Native.Nat.{ℕ, zero, suc, _+_, _*_, _<_}
 use lib.ListN.{getD, length}
 use lib.Ieee.{Float, nan, lt, neg}
@@ -11,6 +11,10 @@ use Rattle.tetrahedron_fractions.specs.Binary64.{_⊕_, _⊖_}
 use Rattle.triplet_types.specs.declared.TpType.{TpType}
 use Rattle.triplet_types.specs.declared.TpType.the-variants.{Type2, Type3, Type4}
 use Rattle.triplet_values.specs.declared.ValueBox.{ValueBox}
+
+-- one of several work areas
+abbrev pub areaAt : {A : Type 0} → List (List A) → ℕ → List A
+areaAt areas i = getD areas i []
 
 -- a value below 0 replaced by 0
 abbrev pub clamped : Float → Float

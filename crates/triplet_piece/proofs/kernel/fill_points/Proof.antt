@@ -14,17 +14,17 @@ use Rattle.triplet_piece.proofs.kernel.fill_points.Statement.{statement
 use Rattle.triplet_piece.proofs.kernel.fill_points.Tie as tie
 
 abbrev Inv-loop : tie.InvT-loop
-Inv-loop weights₀ flags₀ z points t pair s0 p0 s1 p1 s2 p2 x0 x1 x2 tp rows n pairs x₀ weights flags x =
-    (x ≤ z .points) × ((weights ≡ someWeights z (t * z .pairs + pair) (outputsOfSorted z points s0 p0 s1 p1 s2 p2 x0 x1 x2) x weights₀) × (flags ≡ someFlags z (t * z .pairs + pair) (outputsOfSorted z points s0 p0 s1 p1 s2 p2 x0 x1 x2) x flags₀))
+Inv-loop weights₀ flags₀ z points t pair channels places x0 x1 x2 tp rows n pairs x₀ weights flags x =
+    (x ≤ z .points) × ((weights ≡ someWeights z (t * z .pairs + pair) (outputsOfSorted z points channels places x0 x1 x2) x weights₀) × (flags ≡ someFlags z (t * z .pairs + pair) (outputsOfSorted z points channels places x0 x1 x2) x flags₀))
 
 abbrev μ-loop : tie.MeasureT-loop
-μ-loop weights₀ flags₀ z points t pair s0 p0 s1 p1 s2 p2 x0 x1 x2 tp rows n pairs x₀ weights flags x =
+μ-loop weights₀ flags₀ z points t pair channels places x0 x1 x2 tp rows n pairs x₀ weights flags x =
     z .points - x
 
 -- the outputs at a point
 abbrev outs : tie.Start Inv-loop μ-loop → ℕ → Outputs
 outs s =
-    outputsOfSorted (s .args .z) (s .args .points .now) (s .args .s0 .now) (s .args .p0 .now) (s .args .s1 .now) (s .args .p1 .now) (s .args .s2 .now) (s .args .p2 .now) (s .args .x0) (s .args .x1) (s .args .x2)
+    outputsOfSorted (s .args .z) (s .args .points .now) (s .args .channels .now) (s .args .places .now) (s .args .x0) (s .args .x1) (s .args .x2)
 
 loop-holds : tie.Need-loop-holds Inv-loop μ-loop
 loop-holds c =
@@ -85,35 +85,53 @@ shared-slice-read-outputs-at c =
     let lf : length (c .before .before .loop .flags) ≡ length (s .args .flags .now) = ap length (c .before .before .loop .inv .1 .1) ∙ length-some-flags (s .args .z) (s .args .t * s .args .z .pairs + s .args .pair) (outs s) (c .before .before .loop .x) (s .args .flags .now) in
     omega (arith, s .pre .1 .0 .pointed, s .pre .1 .0 .weighed, s .pre .1 .0 .flagged, s .pre .0 .cells-are, s .good)
 
+index-1-outputs-at : tie.Need-index-1-outputs-at Inv-loop μ-loop
+index-1-outputs-at c = search needs
+
+index-1-outputs-at-2 : tie.Need-index-1-outputs-at-2 Inv-loop μ-loop
+index-1-outputs-at-2 c = search needs
+
+index-1-outputs-at-3 : tie.Need-index-1-outputs-at-3 Inv-loop μ-loop
+index-1-outputs-at-3 c = search needs
+
+index-1-outputs-at-4 : tie.Need-index-1-outputs-at-4 Inv-loop μ-loop
+index-1-outputs-at-4 c = search needs
+
+index-1-outputs-at-5 : tie.Need-index-1-outputs-at-5 Inv-loop μ-loop
+index-1-outputs-at-5 c = search needs
+
+index-1-outputs-at-6 : tie.Need-index-1-outputs-at-6 Inv-loop μ-loop
+index-1-outputs-at-6 c = search needs
+
 outputs-at-requires : tie.Need-outputs-at-requires Inv-loop μ-loop
 outputs-at-requires c κs =
-    c .before .before .before .before .before .pre .0 .rows-few
+    c .before .before .before .before .before .before .before .before .before .before .before .pre .0 .rows-few
 
 put-weights-requires : tie.Need-put-weights-requires Inv-loop μ-loop
 put-weights-requires c κs =
-    let s : _ = c .before .before .before .before .before .before .before in
-    let hx : c .before .before .before .before .loop .x < s .args .z .points = omega arith in
-    let ci : _ = cell-in (s .args .z) (s .pre .0) (s .args .t) (s .args .pair) (c .before .before .before .before .loop .x) (s .pre .1 .1 .0) (s .pre .1 .1 .1) hx in
-    let ri : _ = row-in (s .args .z) (s .pre .0) (s .args .t) (s .args .pair) (c .before .before .before .before .loop .x) (s .pre .1 .1 .0) (s .pre .1 .1 .1) hx in
-    let lw : length (c .before .before .before .before .loop .weights) ≡ length (s .args .weights .now) = ap length (c .before .before .before .before .loop .inv .1 .0) ∙ length-some (s .args .z) (s .args .t * s .args .z .pairs + s .args .pair) (outs s) (c .before .before .before .before .loop .x) (s .args .weights .now) in
+    let s : _ = c .before .before .before .before .before .before .before .before .before .before .before .before .before in
+    let hx : c .before .before .before .before .before .before .before .before .before .before .loop .x < s .args .z .points = omega arith in
+    let ci : _ = cell-in (s .args .z) (s .pre .0) (s .args .t) (s .args .pair) (c .before .before .before .before .before .before .before .before .before .before .loop .x) (s .pre .1 .1 .0) (s .pre .1 .1 .1) hx in
+    let ri : _ = row-in (s .args .z) (s .pre .0) (s .args .t) (s .args .pair) (c .before .before .before .before .before .before .before .before .before .before .loop .x) (s .pre .1 .1 .0) (s .pre .1 .1 .1) hx in
+    let lw : length (c .before .before .before .before .before .before .before .before .before .before .loop .weights) ≡ length (s .args .weights .now) = ap length (c .before .before .before .before .before .before .before .before .before .before .loop .inv .1 .0) ∙ length-some (s .args .z) (s .args .t * s .args .z .pairs + s .args .pair) (outs s) (c .before .before .before .before .before .before .before .before .before .before .loop .x) (s .args .weights .now) in
     (ci, lw ∙ s .pre .1 .0 .weighed)
 
 slice-set-from-flag : tie.Need-slice-set-from-flag Inv-loop μ-loop
 slice-set-from-flag c =
-    let s : _ = c .before .before .before .before .before .before .before .before .before .before .before in
-    let hx : c .before .before .before .before .before .before .before .before .loop .x < s .args .z .points = omega arith in
-    let ci : _ = cell-in (s .args .z) (s .pre .0) (s .args .t) (s .args .pair) (c .before .before .before .before .before .before .before .before .loop .x) (s .pre .1 .1 .0) (s .pre .1 .1 .1) hx in
-    let ri : _ = row-in (s .args .z) (s .pre .0) (s .args .t) (s .args .pair) (c .before .before .before .before .before .before .before .before .loop .x) (s .pre .1 .1 .0) (s .pre .1 .1 .1) hx in
-    let lf : length (c .before .before .before .before .before .before .before .before .loop .flags) ≡ length (s .args .flags .now) = ap length (c .before .before .before .before .before .before .before .before .loop .inv .1 .1) ∙ length-some-flags (s .args .z) (s .args .t * s .args .z .pairs + s .args .pair) (outs s) (c .before .before .before .before .before .before .before .before .loop .x) (s .args .flags .now) in
+    let s : _ = c .before .before .before .before .before .before .before .before .before .before .before .before .before .before .before .before .before in
+    let hx : c .before .before .before .before .before .before .before .before .before .before .before .before .before .before .loop .x < s .args .z .points = omega (arith, c .before .before .before .before .before .before .before .before .before .before .before .before .before .loop-test .taken) in
+    let ci : _ = cell-in (s .args .z) (s .pre .0) (s .args .t) (s .args .pair) (c .before .before .before .before .before .before .before .before .before .before .before .before .before .before .loop .x) (s .pre .1 .1 .0) (s .pre .1 .1 .1) hx in
+    let ri : _ = row-in (s .args .z) (s .pre .0) (s .args .t) (s .args .pair) (c .before .before .before .before .before .before .before .before .before .before .before .before .before .before .loop .x) (s .pre .1 .1 .0) (s .pre .1 .1 .1) hx in
+    let lf : length (c .before .before .before .before .before .before .before .before .before .before .before .before .before .before .loop .flags) ≡ length (s .args .flags .now) = ap length (c .before .before .before .before .before .before .before .before .before .before .before .before .before .before .loop .inv .1 .1) ∙ length-some-flags (s .args .z) (s .args .t * s .args .z .pairs + s .args .pair) (outs s) (c .before .before .before .before .before .before .before .before .before .before .before .before .before .before .loop .x) (s .args .flags .now) in
     omega (arith, s .pre .1 .0 .pointed, s .pre .1 .0 .weighed, s .pre .1 .0 .flagged, s .pre .0 .cells-are, s .good)
 
 add-x : tie.Need-add-x Inv-loop μ-loop
 add-x c =
-    let s : _ = c .before .before .before .before .before .before .before .before .before .before .before in
-    let hx : c .before .before .before .before .before .before .before .before .loop .x < s .args .z .points = omega arith in
-    let ci : _ = cell-in (s .args .z) (s .pre .0) (s .args .t) (s .args .pair) (c .before .before .before .before .before .before .before .before .loop .x) (s .pre .1 .1 .0) (s .pre .1 .1 .1) hx in
-    let ri : _ = row-in (s .args .z) (s .pre .0) (s .args .t) (s .args .pair) (c .before .before .before .before .before .before .before .before .loop .x) (s .pre .1 .1 .0) (s .pre .1 .1 .1) hx in
-    let lf : length (c .before .before .before .before .before .before .before .before .loop .flags) ≡ length (s .args .flags .now) = ap length (c .before .before .before .before .before .before .before .before .loop .inv .1 .1) ∙ length-some-flags (s .args .z) (s .args .t * s .args .z .pairs + s .args .pair) (outs s) (c .before .before .before .before .before .before .before .before .loop .x) (s .args .flags .now) in
+    let s : _ = c .before .before .before .before .before .before .before .before .before .before .before .before .before .before .before .before .before in
+    let hx : c .before .before .before .before .before .before .before .before .before .before .before .before .before .before .loop .x < s .args .z .points = omega (arith, c .before .before .before .before .before .before .before .before .before .before .before .before .before .loop-test .taken) in
+    let ci : _ = cell-in (s .args .z) (s .pre .0) (s .args .t) (s .args .pair) (c .before .before .before .before .before .before .before .before .before .before .before .before .before .before .loop .x) (s .pre .1 .1 .0) (s .pre .1 .1 .1) hx in
+    let ri : _ = row-in (s .args .z) (s .pre .0) (s .args .t) (s .args .pair) (c .before .before .before .before .before .before .before .before .before .before .before .before .before .before .loop .x) (s .pre .1 .1 .0) (s .pre .1 .1 .1) hx in
+    let lf : length (c .before .before .before .before .before .before .before .before .before .before .before .before .before .before .loop .flags) ≡ length (s .args .flags .now) = ap length (c .before .before .before .before .before .before .before .before .before .before .before .before .before .before .loop .inv .1 .1) ∙ length-some-flags (s .args .z) (s .args .t * s .args .z .pairs + s .args .pair) (outs s) (c .before .before .before .before .before .before .before .before .before .before .before .before .before .before .loop .x) (s .args .flags .now) in
     omega (arith, s .pre .1 .0 .pointed, s .pre .1 .0 .weighed, s .pre .1 .0 .flagged, s .pre .0 .cells-are, s .good)
 
 loop-less : tie.Need-loop-less Inv-loop μ-loop
@@ -121,9 +139,9 @@ loop-less c = search needs
 
 loop-again : tie.Need-loop-again Inv-loop μ-loop
 loop-again c =
-    let s : _ = c .before .before .before .before .before .before .before .before .before .before .before in
-    let hx : c .before .before .before .before .before .before .before .before .loop .x < s .args .z .points = omega arith in
-    (search needs, (c .before .before .before .put-weights .ensures ∙ rw (c .before .before .before .before .before .before .before .before .loop .inv .1 .0) (weights-more (s .args .z) (outs s) (s .args .t) (s .args .pair) (c .before .before .before .before .before .before .before .before .loop .x) (s .pre .1 .1 .1) hx (s .args .weights .now) (c .before .before .before .before .before .outputs-at .result) (sym (c .before .before .before .before .before .outputs-at .ensures))), rw (c .before .before .before .before .before .before .before .before .loop .inv .1 .1) (flags-more (s .args .z) (outs s) (s .args .t) (s .args .pair) (c .before .before .before .before .before .before .before .before .loop .x) (s .pre .1 .1 .1) hx (s .args .flags .now) _ (sym ((let h : SFits w8 (c .before .before .before .before .before .outputs-at .result .flag) = search needs in toZ-ofZ w8 (c .before .before .before .before .before .outputs-at .result .flag) h) ∙ ap (λ (o : Outputs). o .flag) (c .before .before .before .before .before .outputs-at .ensures))))))
+    let s : _ = c .before .before .before .before .before .before .before .before .before .before .before .before .before .before .before .before .before in
+    let hx : c .before .before .before .before .before .before .before .before .before .before .before .before .before .before .loop .x < s .args .z .points = omega (arith, c .before .before .before .before .before .before .before .before .before .before .before .before .before .loop-test .taken) in
+    (search needs, (c .before .before .before .put-weights .ensures ∙ rw (c .before .before .before .before .before .before .before .before .before .before .before .before .before .before .loop .inv .1 .0) (weights-more (s .args .z) (outs s) (s .args .t) (s .args .pair) (c .before .before .before .before .before .before .before .before .before .before .before .before .before .before .loop .x) (s .pre .1 .1 .1) hx (s .args .weights .now) (c .before .before .before .before .before .outputs-at .result) (sym (c .before .before .before .before .before .outputs-at .ensures))), rw (c .before .before .before .before .before .before .before .before .before .before .before .before .before .before .loop .inv .1 .1) (flags-more (s .args .z) (outs s) (s .args .t) (s .args .pair) (c .before .before .before .before .before .before .before .before .before .before .before .before .before .before .loop .x) (s .pre .1 .1 .1) hx (s .args .flags .now) _ (sym ((let h : SFits w8 (c .before .before .before .before .before .outputs-at .result .flag) = search needs in toZ-ofZ w8 (c .before .before .before .before .before .outputs-at .result .flag) h) ∙ ap (λ (o : Outputs). o .flag) (c .before .before .before .before .before .outputs-at .ensures))))))
 
 same-length : tie.Need-same-length Inv-loop μ-loop
 same-length c =
@@ -160,6 +178,12 @@ fill-points-spec =
     add-cell-2
     mul-outputs-at
     shared-slice-read-outputs-at
+    index-1-outputs-at
+    index-1-outputs-at-2
+    index-1-outputs-at-3
+    index-1-outputs-at-4
+    index-1-outputs-at-5
+    index-1-outputs-at-6
     outputs-at-requires
     put-weights-requires
     slice-set-from-flag
