@@ -24,7 +24,7 @@ use Rattle.question_grids.proofs.StepLaws.{grid-points-at, product-yes}
 use Rattle.question_values.proofs.RowsLaws.{table-rows}
 use Rattle.question_values.proofs.CountLaws.{bands1-low, bands1-high, bands2-low, bands2-high, points-low, points-high, many-high}
 use Rattle.bzgrid.proofs.CallLaws.{sound-grid}
-use Rattle.triplet_values.proofs.ValueLaws.{channel-count-le}
+use Rattle.triplet_types.proofs.TypeLaws.{channel-count-le}
 use Rattle.triplet_study.specs.declared.Shape.{Shape}
 use Rattle.triplet_study.specs.declared.Sizes.{Sizes}
 use Rattle.triplet_study.specs.Study.{Study, study, tpIn, bands1In, bands2In, tripletCount, sizesBy, sizesOf}

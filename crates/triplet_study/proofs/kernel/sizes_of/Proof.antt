@@ -11,7 +11,7 @@ use Rattle.triplet_study.proofs.kernel.sizes_of.Reads as reads
 use Rattle.triplet_study.proofs.kernel.sizes_of.Lts as lts
 use Rattle.bzgrid.proofs.kernel.grid_of.Reads as grid-of-reads
 use Rattle.common.proofs.kernel.magnitude.Reads as magnitude-reads
-use Rattle.triplet_channels.proofs.TpType.num_channels.Reads as num-channels-reads
+use Rattle.triplet_types.proofs.TpType.num_channels.Reads as num-channels-reads
 use Rattle.triplet_types.proofs.kernel.tp_type_of.Reads as tp-type-of-reads
 
 -- src/kernel.rt:62:9
