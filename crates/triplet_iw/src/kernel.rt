@@ -35,35 +35,26 @@ pub fn fill_triplet(
     let g1 = common::kernel::magnitude_at(triplets, 3 * t + 1);
     let g2 = common::kernel::magnitude_at(triplets, 3 * t + 2);
     let grid = z.grid;
-    let numbers1 = triplet_corners::kernel::corner_numbers(grid, addresses, gp_map, steps, g1);
-    let numbers2 = triplet_corners::kernel::corner_numbers(grid, addresses, gp_map, second, g2);
-    let mut f1 = [0.0; 384];
-    let mut f2 = [0.0; 384];
-    let mut a0 = [0.0; 384];
-    let mut a1 = [0.0; 384];
-    let mut a2 = [0.0; 384];
-    let mut p0 = [0usize; 96];
-    let mut p1 = [0usize; 96];
-    let mut p2 = [0usize; 96];
+    let numbers = [
+        triplet_corners::kernel::corner_numbers(grid, addresses, gp_map, steps, g1),
+        triplet_corners::kernel::corner_numbers(grid, addresses, gp_map, second, g2),
+    ];
+    let mut frequencies = [[0.0; 384]; 2];
+    let mut channels = [[0.0; 384]; 3];
+    let mut places = [[0usize; 96]; 3];
     let pairs = z.pairs;
     let bands2 = z.bands2;
     for k in 0..pairs {
         let b1 = k / bands2;
         let b2 = k % bands2;
         triplet_piece::kernel::fill_piece(
-            &mut f1,
-            &mut f2,
-            &mut a0,
-            &mut a1,
-            &mut a2,
-            &mut p0,
-            &mut p1,
-            &mut p2,
+            &mut frequencies,
+            &mut channels,
+            &mut places,
             weights,
             flags,
             z,
-            &numbers1,
-            &numbers2,
+            &numbers,
             frequencies1,
             frequencies2,
             points,

@@ -4,7 +4,7 @@ use mathlib.Core.List.{List, []}
 use Prim.Native.Nat.{ℕ, zero, suc, _*_, _≤_, _<_}
 use native.Mathlib.Omega.{arith}
 use lib.Ieee.{Float}
-use lib.ListN.{length, set, length-set}
+use lib.ListN.{length, set, length-set, replicate, length-replicate, getD-replicate}
 use lib.Seq.{getD-set-same, getD-set-other}
 use Rattle.triplet_types.specs.declared.TpType.{TpType}
 use Rattle.triplet_values.specs.declared.ValueBox.{ValueBox}
@@ -62,6 +62,17 @@ beside {areas = areas} h i j a ne lt = ap length (getD-set-other areas i j a [] 
 
 pub third : {A : Type 0} {size : ℕ} {areas : List (List A)} → AreSized 3 size areas → (a b : List A) → length (areaAt (both areas a b) 2) ≡ size
 third {areas = areas} h a b = ap length (getD-set-other (set areas 0 a) 1 2 b [] (λ e. omega arith)) ∙ beside h 0 2 a (λ e. omega arith) (omega arith)
+
+-- new areas
+fresh : {A : Type 0} (count size : ℕ) (x : A) → AreSized count size (replicate count (replicate size x))
+fresh count size x =
+    record {
+      counted = length-replicate count (replicate size x);
+      sized = λ i l. ap length (getD-replicate count i (replicate size x) [] l) ∙ length-replicate size x;
+    }
+
+pub fresh-areas : (x : Float) (n : ℕ) → Areas (replicate 2 (replicate 384 x)) (replicate 3 (replicate 384 x)) (replicate 3 (replicate 96 n))
+fresh-areas x n = record { frequencies-sized = fresh 2 384 x; channels-sized = fresh 3 384 x; places-sized = fresh 3 96 n }
 
 -- the work areas of a piece once its three channels are ready: f1, f2 are the corner frequencies, n the rows of the further channels
 module _ (tp : TpType) (rows n : ℕ) (q : n ≡ furtherRows tp rows) {f1 f2 u1 u2 : List Float} {frequencies channels : List (List Float)} {places : List (List ℕ)} (h : Areas frequencies channels places)

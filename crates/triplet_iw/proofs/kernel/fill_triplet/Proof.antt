@@ -1,25 +1,26 @@
-use Rattle.triplet_iw.proofs.TripletLaws.{first-corners, grid-sound, held-first, held-second, inTriplet, pair-bands, pieces-all, pieces-more, pieces-none, second-corners, steps-few, triplet-in}
-use Rattle.triplet_piece.proofs.WeightLaws.{computed-lengths}
-use Rattle.triplet_piece.specs.Weights.{AreComputed}
-use Rattle.triplet_piece.specs.Layout.{Areas}
+-- `triplet_iw::kernel::fill_triplet` meets its contract. Assumes nothing.
+use Prim.Native.Nat.{_*_, _+_, _-_, _<_, _≤_, zero-le}
+use borrow.Author.Needs.{needs}
+use lib.ListN.{length}
+use mathlib.Core.Path.{_≡_}
+use native.Mathlib.Omega.{arith}
 use Rattle.triplet_corners.proofs.CornerLaws.{second-length, second-triples}
+use Rattle.triplet_iw.proofs.TripletLaws.{first-corners, grid-sound, held-first, held-second, inTriplet, pair-bands, pieces-all, pieces-more, pieces-none, second-corners, steps-few, triplet-in}
+use Rattle.triplet_piece.proofs.AreaLaws.{fresh-areas}
+use Rattle.triplet_piece.proofs.WeightLaws.{computed-lengths}
+use Rattle.triplet_piece.specs.Layout.{Areas}
+use Rattle.triplet_piece.specs.Weights.{AreComputed}
 use Rattle.triplet_study.proofs.StudyLaws.{ready-counted}
 use Rattle.triplet_study.specs.Study.{Study, study}
-use native.Mathlib.Omega.{arith}
-use mathlib.Core.Path.{_≡_, refl}
-use lib.ListN.{length}
-use Prim.Native.Nat.{_*_, _+_, _-_, _<_, _≤_, zero-le}
--- `triplet_iw::kernel::fill_triplet` meets its contract. Assumes nothing.
-use borrow.Author.Needs.{needs}
 use Rattle.triplet_iw.proofs.kernel.fill_triplet.Statement.{statement}
 use Rattle.triplet_iw.proofs.kernel.fill_triplet.Tie as tie
 
 abbrev Inv-loop : tie.InvT-loop
-Inv-loop weights₀ flags₀ z addresses gp-map steps second frequencies1 frequencies2 points triplets t g1 g2 numbers1 numbers2 f1₀ f2₀ a0₀ a1₀ a2₀ p0₀ p1₀ p2₀ pairs bands2 k₀ weights flags f1 f2 a0 a1 a2 p0 p1 p2 k =
-    (k ≤ z .pairs) × (Areas f1 f2 a0 a1 a2 p0 p1 p2 × AreComputed (study (z .shape) addresses gp-map steps frequencies1 frequencies2 points triplets) (inTriplet (z .pairs) t k) weights₀ flags₀ weights flags)
+Inv-loop weights₀ flags₀ z addresses gp-map steps second frequencies1 frequencies2 points triplets t g1 g2 numbers frequencies₀ channels₀ places₀ pairs bands2 k₀ weights flags frequencies channels places k =
+    (k ≤ z .pairs) × (Areas frequencies channels places × AreComputed (study (z .shape) addresses gp-map steps frequencies1 frequencies2 points triplets) (inTriplet (z .pairs) t k) weights₀ flags₀ weights flags)
 
 abbrev μ-loop : tie.MeasureT-loop
-μ-loop weights₀ flags₀ z addresses gp-map steps second frequencies1 frequencies2 points triplets t g1 g2 numbers1 numbers2 f1₀ f2₀ a0₀ a1₀ a2₀ p0₀ p1₀ p2₀ pairs bands2 k₀ weights flags f1 f2 a0 a1 a2 p0 p1 p2 k =
+μ-loop weights₀ flags₀ z addresses gp-map steps second frequencies1 frequencies2 points triplets t g1 g2 numbers frequencies₀ channels₀ places₀ pairs bands2 k₀ weights flags frequencies channels places k =
     z .pairs - k
 
 -- the study that the arguments make
@@ -77,7 +78,7 @@ corner-numbers-requires-2 c κs =
 loop-holds : tie.Need-loop-holds Inv-loop μ-loop
 loop-holds c =
     let s : _ = c .before .before .before .before .before .before .before .before .before in
-    (zero-le, (record { size1 = refl; size2 = refl; channel0 = refl; channel1 = refl; channel2 = refl; places0 = refl; places1 = refl; places2 = refl }, pieces-none (studied s) (s .args .z .pairs) (s .args .t) (s .args .weights .now) (s .args .flags .now)))
+    (zero-le, (fresh-areas _ _, pieces-none (studied s) (s .args .z .pairs) (s .args .t) (s .args .weights .now) (s .args .flags .now)))
 
 div-b1 : tie.Need-div-b1 Inv-loop μ-loop
 div-b1 c =
@@ -91,30 +92,30 @@ rem-b2 c =
 
 fill-piece-requires : tie.Need-fill-piece-requires Inv-loop μ-loop
 fill-piece-requires c κs =
-    let s : _ = c .before .before .before .before .before .before .before .before .before .before .before .before .before .before .before .before .before .before .before .before .before .before .before in
-    let l : _ = c .before .before .before .before .before .before .before .before .before .before .before .before .before .loop in
-    let hk : l .k < s .args .z .pairs = omega (arith, c .before .before .before .before .before .before .before .before .before .before .before .before .loop-test .taken) in
-    let n1 : _ = first-corners (s .pre .0) (s .args .t) _ _ (c .before .before .before .before .before .before .before .before .before .before .before .before .before .before .before .corner-numbers .ensures) (c .before .before .before .before .before .before .before .before .before .before .before .before .before .before .before .before .before .before .magnitude-at .ensures) in
-    let n2 : _ = second-corners (s .pre .0) (s .args .t) _ _ _ (c .before .before .before .before .before .before .before .before .before .before .before .before .before .before .corner-numbers2 .ensures) (c .before .before .before .before .before .before .before .before .before .before .before .before .before .before .before .before .before .magnitude-at2 .ensures) (s .pre .1 .0) in
+    let s : _ = c .before .before .before .before .before .before .before .before .before .before .before .before .before .before .before .before .before in
+    let l : _ = c .before .before .before .before .before .before .before .loop in
+    let hk : l .k < s .args .z .pairs = omega (arith, c .before .before .before .before .before .before .loop-test .taken) in
+    let n1 : _ = first-corners (s .pre .0) (s .args .t) _ _ (c .before .before .before .before .before .before .before .before .before .corner-numbers .ensures) (c .before .before .before .before .before .before .before .before .before .before .before .before .magnitude-at .ensures) in
+    let n2 : _ = second-corners (s .pre .0) (s .args .t) _ _ _ (c .before .before .before .before .before .before .before .before .corner-numbers2 .ensures) (c .before .before .before .before .before .before .before .before .before .before .before .magnitude-at2 .ensures) (s .pre .1 .0) in
     let e : _ = computed-lengths (l .inv .1 .1) in
     let h : _ = pair-bands (s .pre .0) (l .k) hk in
     ((ready-counted (s .pre .0), (rw (e .0, e .1) (s .pre .0 .fits), (s .pre .1 .1, h))), ((held-first (s .pre .0) (s .args .t) _ n1 _ (h .0), held-second (s .pre .0) (s .args .t) _ n2 _ (h .1)), l .inv .1 .0))
 
 add-k : tie.Need-add-k Inv-loop μ-loop
 add-k c =
-    let s : _ = c .before .before .before .before .before .before .before .before .before .before .before .before .before .before .before .before .before .before .before .before .before .before .before .before .before .before .before in
-    omega (arith, c .before .before .before .before .before .before .before .before .before .before .before .before .before .before .before .before .loop-test .taken, ready-counted (s .pre .0) .pairs-few)
+    let s : _ = c .before .before .before .before .before .before .before .before .before .before .before .before .before .before .before .before .before .before .before .before .before in
+    omega (arith, c .before .before .before .before .before .before .before .before .before .before .loop-test .taken, ready-counted (s .pre .0) .pairs-few)
 
 loop-less : tie.Need-loop-less Inv-loop μ-loop
 loop-less c = search needs
 
 loop-again : tie.Need-loop-again Inv-loop μ-loop
 loop-again c =
-    let s : _ = c .before .before .before .before .before .before .before .before .before .before .before .before .before .before .before .before .before .before .before .before .before .before .before .before .before .before .before in
-    let l : _ = c .before .before .before .before .before .before .before .before .before .before .before .before .before .before .before .before .before .loop in
-    let hk : l .k < s .args .z .pairs = omega (arith, c .before .before .before .before .before .before .before .before .before .before .before .before .before .before .before .before .loop-test .taken) in
-    let n1 : _ = first-corners (s .pre .0) (s .args .t) _ _ (c .before .before .before .before .before .before .before .before .before .before .before .before .before .before .before .before .before .before .before .corner-numbers .ensures) (c .before .before .before .before .before .before .before .before .before .before .before .before .before .before .before .before .before .before .before .before .before .before .magnitude-at .ensures) in
-    let n2 : _ = second-corners (s .pre .0) (s .args .t) _ _ _ (c .before .before .before .before .before .before .before .before .before .before .before .before .before .before .before .before .before .before .corner-numbers2 .ensures) (c .before .before .before .before .before .before .before .before .before .before .before .before .before .before .before .before .before .before .before .before .before .magnitude-at2 .ensures) (s .pre .1 .0) in
+    let s : _ = c .before .before .before .before .before .before .before .before .before .before .before .before .before .before .before .before .before .before .before .before .before in
+    let l : _ = c .before .before .before .before .before .before .before .before .before .before .before .loop in
+    let hk : l .k < s .args .z .pairs = omega (arith, c .before .before .before .before .before .before .before .before .before .before .loop-test .taken) in
+    let n1 : _ = first-corners (s .pre .0) (s .args .t) _ _ (c .before .before .before .before .before .before .before .before .before .before .before .before .before .corner-numbers .ensures) (c .before .before .before .before .before .before .before .before .before .before .before .before .before .before .before .before .magnitude-at .ensures) in
+    let n2 : _ = second-corners (s .pre .0) (s .args .t) _ _ _ (c .before .before .before .before .before .before .before .before .before .before .before .before .corner-numbers2 .ensures) (c .before .before .before .before .before .before .before .before .before .before .before .before .before .before .before .magnitude-at2 .ensures) (s .pre .1 .0) in
     let f : _ = c .before .before .before .fill-piece in
     (search needs, (f .ensures .0, pieces-more (s .pre .0) (s .args .t) (l .k) _ _ n1 n2 hk (l .inv .1 .1) (f .ensures .1)))
 
