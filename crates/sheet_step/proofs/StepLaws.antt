@@ -17,15 +17,17 @@ use Rattle.ask.specs.Ask.{Question, asks, firstNo, AllYes, Numbered}
 use Rattle.question_values.specs.Averages.{areDegenerateIds}
 use Rattle.question_values.proofs.AverageLaws.{ids-length}
 use Rattle.ask.proofs.AskLaws.{group-no, group-yes, all-yes, after-done, after-refused}
-use Rattle.triplet_piece.specs.declared.Sizes.{Sizes}
-use Rattle.triplet_study.specs.Given.{Given, givenQuestions, areLengths}
-use Rattle.triplet_study.proofs.GivenLaws.{given-numbered, lengths-say}
+use Rattle.triplet_study.specs.declared.Sizes.{Sizes}
+use Rattle.triplet_study.specs.Study.{Study, sizesOf}
+use Rattle.triplet_study.specs.Questions.{studyQuestions, areLengths}
+use Rattle.triplet_study.specs.Tested.{Counted}
+use Rattle.triplet_study.proofs.StudyLaws.{study-numbered, lengths-say, tested, counted}
 use Rattle.marks.specs.Bytes.{bytesFor, Holds}
 use Rattle.sheet_marks.specs.declared.SheetAnswer.{SheetAnswer}
 use Rattle.sheet_marks.specs.Tallies.{sheetAnswer, refusedWith}
 use Rattle.sheet_marks.proofs.TallyLaws.{refused-is}
-use Rattle.sheet_step.specs.Steps.{Sheet, sheet, Call, Did, countsOf, piecesOf, commonQuestions, Counted, areSheetLengths, isPiece, areIdLists, sheetQuestions, pieceQuestions, averageQuestions, ownQuestions, verdict, effect, step}
-use Rattle.sheet_step.proofs.CountLaws.{counted, marks-held}
+use Rattle.sheet_step.specs.Steps.{Sheet, sheet, Call, Did, piecesOf, commonQuestions, areSheetLengths, isPiece, areIdLists, sheetQuestions, pieceQuestions, averageQuestions, ownQuestions, verdict, effect, step}
+use Rattle.sheet_step.proofs.CountLaws.{marks-held}
 
 -- a yes to all is a yes to each group
 pub both-yes : (qs rest : List Question) → Numbered qs → firstNo (qs ++ rest) ≡ 0 → (firstNo qs ≡ 0) × (firstNo rest ≡ 0)
@@ -41,41 +43,41 @@ sheet-lengths z w f m e =
     let l : _ = lengths-say z w f (and-left (areLengths z w f) (eqb m (bytesFor (piecesOf z))) e) in
     (l .0, (l .1, eqb-true m (bytesFor (piecesOf z)) (and-right (areLengths z w f) (eqb m (bytesFor (piecesOf z))) e)))
 
-module _ (g : Given) (s : Sheet) (c : Call) where
+module _ (g : Study) (s : Sheet) (c : Call) where
   -- the questions that every call asks
   abbrev pub commonOf : List Question
   commonOf = commonQuestions g (length (s .weights)) (length (s .flags)) (s .marks)
 
-  sheet-numbered : Numbered (sheetQuestions (countsOf g) (length (s .weights)) (length (s .flags)) (s .marks))
+  sheet-numbered : Numbered (sheetQuestions (sizesOf g) (length (s .weights)) (length (s .flags)) (s .marks))
   sheet-numbered = (omega arith, (omega arith, tt))
 
   pub verdict-common : (firstNo commonOf ≡ 0 → ⊥) → verdict g s c ≡ firstNo commonOf
   unfolding verdict
   verdict-common h =
-      ap firstNo (sym (append-assoc (givenQuestions g) (sheetQuestions (countsOf g) (length (s .weights)) (length (s .flags)) (s .marks)) (ownQuestions g s c)))
+      ap firstNo (sym (append-assoc (studyQuestions g) (sheetQuestions (sizesOf g) (length (s .weights)) (length (s .flags)) (s .marks)) (ownQuestions g s c)))
       ∙ group-no commonOf (ownQuestions g s c) h
 
-  pub given-yes : firstNo commonOf ≡ 0 → firstNo (givenQuestions g) ≡ 0
-  given-yes e = both-yes (givenQuestions g) _ (given-numbered g) e .0
+  pub study-yes : firstNo commonOf ≡ 0 → firstNo (studyQuestions g) ≡ 0
+  study-yes e = both-yes (studyQuestions g) _ (study-numbered g) e .0
 
-  sheet-yes : firstNo commonOf ≡ 0 → firstNo (sheetQuestions (countsOf g) (length (s .weights)) (length (s .flags)) (s .marks)) ≡ 0
-  sheet-yes e = both-yes (givenQuestions g) _ (given-numbered g) e .1
+  sheet-yes : firstNo commonOf ≡ 0 → firstNo (sheetQuestions (sizesOf g) (length (s .weights)) (length (s .flags)) (s .marks)) ≡ 0
+  sheet-yes e = both-yes (studyQuestions g) _ (study-numbered g) e .1
 
   pub verdict-own : firstNo commonOf ≡ 0 → verdict g s c ≡ firstNo (ownQuestions g s c)
   unfolding verdict
   verdict-own e =
-      group-yes (givenQuestions g) _ (given-numbered g) (given-yes e)
-      ∙ group-yes (sheetQuestions (countsOf g) (length (s .weights)) (length (s .flags)) (s .marks)) (ownQuestions g s c) sheet-numbered (sheet-yes e)
+      group-yes (studyQuestions g) _ (study-numbered g) (study-yes e)
+      ∙ group-yes (sheetQuestions (sizesOf g) (length (s .weights)) (length (s .flags)) (s .marks)) (ownQuestions g s c) sheet-numbered (sheet-yes e)
 
-  pub counts-yes : firstNo commonOf ≡ 0 → Counted (countsOf g)
-  counts-yes e = counted g (given-yes e)
+  pub counts-yes : firstNo commonOf ≡ 0 → Counted (sizesOf g)
+  counts-yes e = counted (tested g (study-yes e))
 
   pub lengths-yes : firstNo commonOf ≡ 0
-      → (length (s .weights) ≡ countsOf g .channels * countsOf g .cells) × ((length (s .flags) ≡ countsOf g .cells) × Holds (piecesOf (countsOf g)) (s .marks))
+      → (length (s .weights) ≡ sizesOf g .channels * sizesOf g .cells) × ((length (s .flags) ≡ sizesOf g .cells) × Holds (piecesOf (sizesOf g)) (s .marks))
   lengths-yes e =
-      let y : AllYes (sheetQuestions (countsOf g) (length (s .weights)) (length (s .flags)) (s .marks)) = all-yes (sheetQuestions (countsOf g) (length (s .weights)) (length (s .flags)) (s .marks)) sheet-numbered (sheet-yes e) in
-      let l : _ = sheet-lengths (countsOf g) (length (s .weights)) (length (s .flags)) (length (s .marks)) (y .0) in
-      (l .0, (l .1 .0, marks-held (countsOf g) (counts-yes e) (s .marks) (l .1 .1)))
+      let y : AllYes (sheetQuestions (sizesOf g) (length (s .weights)) (length (s .flags)) (s .marks)) = all-yes (sheetQuestions (sizesOf g) (length (s .weights)) (length (s .flags)) (s .marks)) sheet-numbered (sheet-yes e) in
+      let l : _ = sheet-lengths (sizesOf g) (length (s .weights)) (length (s .flags)) (length (s .marks)) (y .0) in
+      (l .0, (l .1 .0, marks-held (sizesOf g) (counts-yes e) (s .marks) (l .1 .1)))
 
   -- ---- a refused call
 

@@ -4,11 +4,12 @@ ghost use Prim.Native.Nat.{_+_, _*_, _<_};
 ghost use lib.ListN.{length};
 ghost use Rattle.ask.specs.Ask.{firstNo};
 ghost use Rattle.marks.specs.Bytes.{Holds};
+ghost use Rattle.triplet_study.specs.Tested.{Counted};
 ghost use Rattle.triplet_study.specs.Lent.{studyIn};
-ghost use Rattle.sheet_step.specs.Steps.{commonQuestions, sheetQuestions, pieceQuestions, averageQuestions, areTripletWeights, Counted, piecesOf};
+ghost use Rattle.sheet_step.specs.Steps.{commonQuestions, sheetQuestions, pieceQuestions, averageQuestions, areTripletWeights, piecesOf};
 use marks::kernel as mark;
-use triplet_piece::Sizes;
 use triplet_study::Shape;
+use triplet_study::Sizes;
 
 // Questions 12 and 13, of the sheet.
 fn sheet_no(z: Sizes, weights: usize, flags: usize, marks: &[u8]) -> u64
@@ -44,7 +45,7 @@ pub fn common_no(
     ensures { λ r. ⌜ r ≡ firstNo (commonQuestions (studyIn shape addresses «gp_map» «relative_grid_address» frequencies1 frequencies2 «frequency_points» triplets)
         weights flags (now (marks .entry))) ⌝ }
 {
-    let no = triplet_study::kernel::given_no(
+    let no = triplet_study::kernel::study_first_no(
         shape,
         addresses,
         gp_map,
@@ -57,7 +58,12 @@ pub fn common_no(
     if no != 0 {
         return no;
     }
-    let z = triplet_study::kernel::sizes_of(shape, frequency_points.len(), triplets.len() / 3);
+    let z = triplet_study::kernel::sizes_of(
+        shape,
+        relative_grid_address.len() / 12,
+        frequency_points.len(),
+        triplets.len() / 3,
+    );
     sheet_no(z, weights, flags, marks)
 }
 
