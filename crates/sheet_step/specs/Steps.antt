@@ -2,7 +2,7 @@
 use mathlib.Core.Path.{_≡_}
 use mathlib.Core.Bool.{Bool, _&&_}
 use mathlib.Core.List.{List, [], _∷_, _++_}
-use Prim.Native.Nat.{ℕ, _+_, _*_, _/_, _%_, _≤_}
+use Prim.Native.Nat.{ℕ, _+_, _*_, _/_, _%_}
 use lib.Dec.{eqb}
 use lib.IntN.{ℤ, pos}
 use lib.Ieee.{Float, nan}
@@ -13,10 +13,11 @@ use Rattle.list_laws.specs.Patch.{patch}
 use Rattle.list_laws.specs.Signed.{isBelow}
 use Rattle.ask.specs.Ask.{Question, asks, firstNo, afterCall}
 use Rattle.question_values.specs.Averages.{areDegenerateIds, areWeights}
-use Rattle.triplet_piece.specs.declared.Sizes.{Sizes}
+use Rattle.triplet_study.specs.declared.Sizes.{Sizes}
+use Rattle.triplet_study.specs.Study.{Study, sizesOf}
+use Rattle.triplet_study.specs.Questions.{studyQuestions, areLengths}
 use Rattle.triplet_piece.specs.Layout.{tripletAt}
-use Rattle.triplet_piece.specs.Study.{sizesOf, computedWeights, computedFlags}
-use Rattle.triplet_study.specs.Given.{Given, givenQuestions, studyOf, areLengths}
+use Rattle.triplet_piece.specs.Weights.{computedWeights, computedFlags}
 use Rattle.averaging_blocks.specs.Weights.{averaged}
 use Rattle.averaging_blocks.specs.Flags.{averagedFlags}
 use Rattle.sheet_marks.specs.declared.SheetAnswer.{SheetAnswer}
@@ -42,27 +43,9 @@ pub data Call : Type 0 where
   carry : Call
   average : ℤ → List ℤ → List ℤ → Call
 
--- the counts of a study
-abbrev pub countsOf : Given → Sizes
-countsOf g = sizesOf (studyOf g)
-
 -- how many pieces a sheet has
 abbrev pub piecesOf : Sizes → ℕ
 piecesOf z = z .triplets * z .pairs
-
--- what the questions on a study say of its counts
-pub record Counted (z : Sizes) : Type 0 where
-  pub channels-few : z .channels ≤ 3
-  pub triplets-few : z .triplets ≤ 65536
-  pub points-some : 1 ≤ z .points
-  pub points-few : z .points ≤ 1024
-  pub pairs-some : 1 ≤ z .pairs
-  pub pairs-few : z .pairs ≤ 4096
-  pub bands1-some : 1 ≤ z .bands1
-  pub bands1-few : z .bands1 ≤ 64
-  pub bands2-some : 1 ≤ z .bands2
-  pub pairs-are : z .pairs ≡ z .bands1 * z .bands2
-  pub cells-are : z .cells ≡ z .triplets * z .points * z .pairs
 
 -- ---- the questions
 
@@ -92,8 +75,8 @@ sheetQuestions z weights flags marks =
     asks 12 (areSheetLengths z weights flags (length marks)) ∷ asks 13 (areMarks (z .pairs) (piecesOf z) marks) ∷ []
 
 -- 3 to 13, which every call asks
-abbrev pub commonQuestions : Given → ℕ → ℕ → List ℕ → List Question
-commonQuestions g weights flags marks = givenQuestions g ++ sheetQuestions (countsOf g) weights flags marks
+abbrev pub commonQuestions : Study → ℕ → ℕ → List ℕ → List Question
+commonQuestions g weights flags marks = studyQuestions g ++ sheetQuestions (sizesOf g) weights flags marks
 
 -- 14 and 15, of a named piece
 abbrev pub pieceQuestions : Sizes → List ℕ → ℤ → ℤ → ℤ → List Question
@@ -111,17 +94,17 @@ averageQuestions z weights marks t ids1 ids2 =
     ∷ []
 
 -- what the kinds of call ask each: to run 14, 15, 20; to carry on 20; to average 14 to 19
-abbrev pub ownQuestions : Given → Sheet → Call → List Question
-ownQuestions g s (run t b1 b2) = pieceQuestions (countsOf g) (s .marks) t b1 b2 ++ tallyQuestions (s .tally) 1
-ownQuestions g s carry = tallyQuestions (s .tally) (openPieces (piecesOf (countsOf g)) (s .marks))
-ownQuestions g s (average t ids1 ids2) = averageQuestions (countsOf g) (s .weights) (s .marks) t ids1 ids2
+abbrev pub ownQuestions : Study → Sheet → Call → List Question
+ownQuestions g s (run t b1 b2) = pieceQuestions (sizesOf g) (s .marks) t b1 b2 ++ tallyQuestions (s .tally) 1
+ownQuestions g s carry = tallyQuestions (s .tally) (openPieces (piecesOf (sizesOf g)) (s .marks))
+ownQuestions g s (average t ids1 ids2) = averageQuestions (sizesOf g) (s .weights) (s .marks) t ids1 ids2
 
 -- "A call asks, in this order, those that concern what it takes": the study's 3 to 11, the sheet's 12 and 13, its own
-abbrev pub callQuestions : Given → Sheet → Call → List Question
-callQuestions g s c = givenQuestions g ++ (sheetQuestions (countsOf g) (length (s .weights)) (length (s .flags)) (s .marks) ++ ownQuestions g s c)
+abbrev pub callQuestions : Study → Sheet → Call → List Question
+callQuestions g s c = studyQuestions g ++ (sheetQuestions (sizesOf g) (length (s .weights)) (length (s .flags)) (s .marks) ++ ownQuestions g s c)
 
 -- "The first "no" is the result": its number, and 0 where the call is accepted
-unfoldable pub verdict : Given → Sheet → Call → ℕ
+unfoldable pub verdict : Study → Sheet → Call → ℕ
 verdict g s c = firstNo (callQuestions g s c)
 
 -- ---- what an accepted call does
@@ -150,37 +133,37 @@ tripletFlagsAveraged z t ids1 ids2 l =
 
 -- "Running a piece writes its own entries at every point and sets its mark to 1. Carrying on runs all pieces marked 0 .. Averaging one
 -- triplet .. sets its marks to 2. The tally counts accepted runs"
-unfoldable pub effect : Given → Sheet → Call → Sheet
+unfoldable pub effect : Study → Sheet → Call → Sheet
 effect g s (run t b1 b2) =
-    sheet (computedWeights (studyOf g) (λ n. eqb n (pieceOf (countsOf g) t b1 b2)) (s .weights))
-    (computedFlags (studyOf g) (λ n. eqb n (pieceOf (countsOf g) t b1 b2)) (s .flags))
-    (patchMarks (λ n. eqb n (pieceOf (countsOf g) t b1 b2)) (λ n. 1) (s .marks))
+    sheet (computedWeights g (λ n. eqb n (pieceOf (sizesOf g) t b1 b2)) (s .weights))
+    (computedFlags g (λ n. eqb n (pieceOf (sizesOf g) t b1 b2)) (s .flags))
+    (patchMarks (λ n. eqb n (pieceOf (sizesOf g) t b1 b2)) (λ n. 1) (s .marks))
     (s .tally + 1)
 effect g s carry =
-    sheet (computedWeights (studyOf g) (isOpenAt (piecesOf (countsOf g)) (s .marks)) (s .weights))
-    (computedFlags (studyOf g) (isOpenAt (piecesOf (countsOf g)) (s .marks)) (s .flags))
-    (carriedMarks (piecesOf (countsOf g)) (s .marks))
-    (s .tally + openPieces (piecesOf (countsOf g)) (s .marks))
+    sheet (computedWeights g (isOpenAt (piecesOf (sizesOf g)) (s .marks)) (s .weights))
+    (computedFlags g (isOpenAt (piecesOf (sizesOf g)) (s .marks)) (s .flags))
+    (carriedMarks (piecesOf (sizesOf g)) (s .marks))
+    (s .tally + openPieces (piecesOf (sizesOf g)) (s .marks))
 effect g s (average t ids1 ids2) =
-    sheet (tripletAveraged (countsOf g) (mag t) ids1 ids2 (s .weights))
-    (tripletFlagsAveraged (countsOf g) (mag t) ids1 ids2 (s .flags))
-    (averagedMarks (countsOf g .pairs) (mag t) (s .marks))
+    sheet (tripletAveraged (sizesOf g) (mag t) ids1 ids2 (s .weights))
+    (tripletFlagsAveraged (sizesOf g) (mag t) ids1 ids2 (s .flags))
+    (averagedMarks (sizesOf g .pairs) (mag t) (s .marks))
     (s .tally)
 
 -- The sheet and the tally after a call; "a refused call changes no lent buffer, and the tally stays".
-unfoldable pub step : Given → Sheet → Call → Sheet
+unfoldable pub step : Study → Sheet → Call → Sheet
 step g s c = afterCall (verdict g s c) (effect g s c) s
 
 -- the answer of a call: done, or refused with the number of the first no, and the tally beside it
-abbrev pub stepAnswer : Given → Sheet → Call → SheetAnswer
+abbrev pub stepAnswer : Study → Sheet → Call → SheetAnswer
 stepAnswer g s c = sheetAnswer (verdict g s c) (step g s c .tally)
 
 -- What a call came to: the number of its first no, 0 where it is done, and the sheet that it left.
-pub record Called (g : Given) (s : Sheet) (c : Call) (number : ℕ) (left : Sheet) : Type 0 where
+pub record Called (g : Study) (s : Sheet) (c : Call) (number : ℕ) (left : Sheet) : Type 0 where
   pub says : number ≡ verdict g s c
   pub leaves : left ≡ step g s c
 
 -- What a call did: its answer, and the sheet that it left.
-pub record Did (g : Given) (s : Sheet) (c : Call) (answer : SheetAnswer) (left : Sheet) : Type 0 where
+pub record Did (g : Study) (s : Sheet) (c : Call) (answer : SheetAnswer) (left : Sheet) : Type 0 where
   pub answers : answer ≡ stepAnswer g s c
   pub leaves : left ≡ step g s c

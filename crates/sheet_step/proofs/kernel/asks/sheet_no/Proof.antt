@@ -6,7 +6,7 @@ use mathlib.Core.Path.{_≡_}
 use native.Mathlib.Omega.{arith}
 use Rattle.list_laws.proofs.BoolLaws.{no-of, yes-of}
 use Rattle.ask.specs.Ask.{firstNo}
-use Rattle.sheet_step.proofs.CountLaws.{few, pieces-few, marks-held}
+use Rattle.sheet_step.proofs.CountLaws.{pieces-few, marks-held}
 use Rattle.sheet_step.proofs.StepLaws.{sheet-lengths}
 use Rattle.sheet_step.specs.Steps.{areSheetLengths}
 use Rattle.sheet_step.proofs.kernel.asks.sheet_no.Statement.{statement}
@@ -24,7 +24,7 @@ mul-pieces c =
 
 lengths-ok-requires : tie.Need-lengths-ok-requires
 lengths-ok-requires c κs =
-    few (c .before .before .args .z) (c .before .before .pre)
+    c .before .before .pre
 
 bytes-for-requires : tie.Need-bytes-for-requires
 bytes-for-requires c κs =

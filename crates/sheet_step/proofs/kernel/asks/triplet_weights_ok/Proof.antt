@@ -7,7 +7,7 @@ use native.Mathlib.Omega.{arith}
 use Rattle.list_laws.proofs.BelowLaws.{below-end, below-next, below-none}
 use Rattle.list_laws.specs.Lists.{allBelow, part}
 use Rattle.question_values.specs.Averages.{areWeights}
-use Rattle.sheet_step.proofs.CountLaws.{channel-place, entries-few, few, size-few, triplet-place}
+use Rattle.sheet_step.proofs.CountLaws.{channel-place, entries-few, size-few, triplet-place}
 use Rattle.sheet_step.specs.Steps.{areTripletWeights}
 use Rattle.sheet_step.proofs.kernel.asks.triplet_weights_ok.Statement.{statement}
 use Rattle.sheet_step.proofs.kernel.asks.triplet_weights_ok.Tie as tie
@@ -27,7 +27,7 @@ mul-size c =
 mul-base : tie.Need-mul-base Inv-loop μ-loop
 mul-base c =
     let s : _ = c .before .before in
-    omega (arith, triplet-place (s .args .z) (s .pre .0) (s .args .t) (s .pre .1 .0), few (s .args .z) (s .pre .0))
+    omega (arith, triplet-place (s .args .z) (s .pre .0) (s .args .t) (s .pre .1 .0), s .pre .0 .cells-few)
 
 loop-holds : tie.Need-loop-holds Inv-loop μ-loop
 loop-holds c =
