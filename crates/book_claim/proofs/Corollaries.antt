@@ -19,7 +19,7 @@ use Rattle.book_claim.proofs.RunLaws.{weights-long, flags-long, marks-l
 use Rattle.book_claim.proofs.Demand3.{demand-3}
 use Rattle.book_claim.proofs.AlongLaws.{tally-along}
 use Rattle.book_claim.proofs.CutLaws.{played-cut, answers-cut, all-refused, none-open}
-use Rattle.book_claim.proofs.Words.{words-long, never-ran, ran, averaged, ran-weight, ran-flag, ran-marked, averaged-weight-on, averaged-flag-on, averaged-marked}
+use Rattle.book_claim.proofs.Words.{words-long, never-ran, ran, averaged, ran-placed, averaged-placed}
 
 -- a start on which no piece is marked, any content, any tally; and any list of calls
 module _ (g : Study) (start : Sheet) (unmarked : start .marks ≡ replicate (length (start .marks)) 0) (calls : List Call) where
@@ -85,7 +85,7 @@ module _ (g : Study) (start : Sheet) (unmarked : start .marks ≡ replicate (len
   unfolding weightBy
   computed-weight i d h e n =
       weight-is i d h
-      ∙ ap (λ (w : Word). weightBy g w i (getD (start .weights) i d)) (ran g start calls (pieceOfWeight g i) (ran-weight g start calls (pieceOfWeight g i) e i h) e n)
+      ∙ ap (λ (w : Word). weightBy g w i (getD (start .weights) i d)) (ran g start calls (pieceOfWeight g i) (ran-placed g start calls (pieceOfWeight g i) e .weights i h) e n)
 
   pub computed-flag : (j : ℕ) (d : ℤ) → j < length (start .flags)
       → hasRun g start (opened g start) (pieceOfFlag g j) calls ≡ true → averagings g start (opened g start) (pieceOfFlag g j / sizesOf g .pairs) calls ≡ 0
@@ -93,11 +93,11 @@ module _ (g : Study) (start : Sheet) (unmarked : start .marks ≡ replicate (len
   unfolding flagBy
   computed-flag j d h e n =
       flag-is j d h
-      ∙ ap (λ (w : Word). flagBy g w j (getD (start .flags) j d)) (ran g start calls (pieceOfFlag g j) (ran-flag g start calls (pieceOfFlag g j) e j h) e n)
+      ∙ ap (λ (w : Word). flagBy g w j (getD (start .flags) j d)) (ran g start calls (pieceOfFlag g j) (ran-placed g start calls (pieceOfFlag g j) e .flags j h) e n)
 
   pub computed-mark : (q : ℕ) → q < piecesOf (sizesOf g) → hasRun g start (opened g start) q calls ≡ true
       → averagings g start (opened g start) (q / sizesOf g .pairs) calls ≡ 0 → markAt (played g start calls .marks) q ≡ 1
-  computed-mark q h e n = mark-is q (ran-marked g start calls q e q h) ∙ ap markOf (ran g start calls q h e n)
+  computed-mark q h e n = mark-is q (ran-placed g start calls q e .marks q h) ∙ ap markOf (ran g start calls q h e n)
 
   -- ---- one of a triplet of which an averaging was accepted: its entries are the average of the study's by that call's lists, its mark is 2
 
@@ -106,7 +106,7 @@ module _ (g : Study) (start : Sheet) (unmarked : start .marks ≡ replicate (len
       → getD (played g start calls .weights) i d ≡ averagedAt (sizesOf g) ids1 ids2 (computedRow g i) i
   unfolding weightBy
   averaged-weight i d ids1 ids2 h a =
-      let on : _ = averaged-weight-on g start calls (pieceOfWeight g i / sizesOf g .pairs) ids1 ids2 a i h in
+      let on : _ = averaged-placed g start calls (pieceOfWeight g i / sizesOf g .pairs) ids1 ids2 a .weights i h in
       weight-is i d h ∙ ap (λ (w : Word). weightBy g w i (getD (start .weights) i d)) (averaged g start calls (pieceOfWeight g i) ids1 ids2 on a)
 
   pub averaged-flag : (j : ℕ) (d : ℤ) (ids1 ids2 : List ℤ) → j < length (start .flags)
@@ -114,12 +114,12 @@ module _ (g : Study) (start : Sheet) (unmarked : start .marks ≡ replicate (len
       → getD (played g start calls .flags) j d ≡ averagedFlagAt (sizesOf g) ids1 ids2 (computedFlagRow g j) j
   unfolding flagBy
   averaged-flag j d ids1 ids2 h a =
-      let on : _ = averaged-flag-on g start calls (pieceOfFlag g j / sizesOf g .pairs) ids1 ids2 a j h in
+      let on : _ = averaged-placed g start calls (pieceOfFlag g j / sizesOf g .pairs) ids1 ids2 a .flags j h in
       flag-is j d h ∙ ap (λ (w : Word). flagBy g w j (getD (start .flags) j d)) (averaged g start calls (pieceOfFlag g j) ids1 ids2 on a)
 
   pub averaged-mark : (q : ℕ) (ids1 ids2 : List ℤ) → q < piecesOf (sizesOf g) → AveragedBy g start (opened g start) (q / sizesOf g .pairs) ids1 ids2 calls
       → markAt (played g start calls .marks) q ≡ 2
-  averaged-mark q ids1 ids2 h a = mark-is q (averaged-marked g start calls (q / sizesOf g .pairs) ids1 ids2 a q h) ∙ ap markOf (averaged g start calls q ids1 ids2 h a)
+  averaged-mark q ids1 ids2 h a = mark-is q (averaged-placed g start calls (q / sizesOf g .pairs) ids1 ids2 a .marks q h) ∙ ap markOf (averaged g start calls q ids1 ids2 h a)
 
   -- ---- the tally has grown by exactly the accepted runs
 

@@ -14,7 +14,7 @@ use Rattle.list_laws.proofs.MapLaws.{getD-replicate}
 use Rattle.marks.specs.Bytes.{placesIn}
 use Rattle.triplet_study.specs.Study.{Study, sizesOf}
 use Rattle.sheet_step.specs.Steps.{piecesOf, Sheet, Call, average}
-use Rattle.book_claim.specs.Book.{pieceOfWeight, pieceOfFlag, wordAt, Word, fresh, computed, averagedBy, Book, isOpen, turn, opened, booked}
+use Rattle.book_claim.specs.Book.{pieceOfWeight, pieceOfFlag, wordAt, Word, fresh, computed, averagedBy, Book, isOpen, bookNo, turn, opened, booked}
 use Rattle.book_claim.specs.Counts.{hasRun, averagings, AveragedBy, isAveraged}
 use Rattle.book_claim.proofs.RunLaws.{weight-on, flag-on, mark-on}
 use Rattle.book_claim.proofs.Demand3.{opened-long}
@@ -43,6 +43,12 @@ one-true : (u : Bool) → oneIf u ≡ 0 → u ≡ false
 one-true true e = absurd (let z : ⊥ = omega arith in z)
 one-true false e = refl
 
+-- each place is of a piece of the sheet, and each piece has a mark
+pub record Placed (g : Study) (start : Sheet) : Type 0 where
+  pub weights : (i : ℕ) → i < length (start .weights) → pieceOfWeight g i < piecesOf (sizesOf g)
+  pub flags : (j : ℕ) → j < length (start .flags) → pieceOfFlag g j < piecesOf (sizesOf g)
+  pub marks : (q : ℕ) → q < piecesOf (sizesOf g) → q < placesIn (start .marks)
+
 module _ (g : Study) (start : Sheet) where
   opened-fresh : (q : ℕ) → wordAt (opened g start) q ≡ fresh
   unfolding opened
@@ -55,28 +61,18 @@ module _ (g : Study) (start : Sheet) where
   in-opened : (q : ℕ) → q < piecesOf (sizesOf g) → On g start (opened g start) q
   in-opened q h = (opened-long g start, h)
 
-  -- ---- where a call was accepted, the piece of every weight and of every flag is on the sheet
+  -- ---- where a call was accepted, every weight and every flag is of a piece of the sheet, and every piece has a mark
 
-  module _ (calls : List Call) (q : ℕ) (r : hasRun g start (opened g start) q calls ≡ true) where
-    pub ran-weight : (i : ℕ) → i < length (start .weights) → pieceOfWeight g i < piecesOf (sizesOf g)
-    ran-weight i h = let l : _ = ran-accepted g start q (opened g start) calls r in weight-on g start (l .0) (l .1 .1 .0) (yes g start (l .0) (l .1 .1 .0) (l .1 .1 .1)) i h
+  placed : (b : Book) (c : Call) → bookNo g start b c ≡ 0 → Placed g start
+  placed b c e =
+      let a : _ = yes g start b c e in
+      record { weights = weight-on g start b c a; flags = flag-on g start b c a; marks = mark-on g start b c a }
 
-    pub ran-flag : (j : ℕ) → j < length (start .flags) → pieceOfFlag g j < piecesOf (sizesOf g)
-    ran-flag j h = let l : _ = ran-accepted g start q (opened g start) calls r in flag-on g start (l .0) (l .1 .1 .0) (yes g start (l .0) (l .1 .1 .0) (l .1 .1 .1)) j h
+  pub ran-placed : (calls : List Call) (q : ℕ) → hasRun g start (opened g start) q calls ≡ true → Placed g start
+  ran-placed calls q r = let l : _ = ran-accepted g start q (opened g start) calls r in placed (l .0) (l .1 .1 .0) (l .1 .1 .1)
 
-    -- and every piece has a mark
-    pub ran-marked : (p : ℕ) → p < piecesOf (sizesOf g) → p < placesIn (start .marks)
-    ran-marked p h = let l : _ = ran-accepted g start q (opened g start) calls r in mark-on g start (l .0) (l .1 .1 .0) (yes g start (l .0) (l .1 .1 .0) (l .1 .1 .1)) p h
-
-  module _ (calls : List Call) (t : ℕ) (ids1 ids2 : List ℤ) (a : AveragedBy g start (opened g start) t ids1 ids2 calls) where
-    pub averaged-weight-on : (i : ℕ) → i < length (start .weights) → pieceOfWeight g i < piecesOf (sizesOf g)
-    averaged-weight-on i h = let b : Book = booked g start (opened g start) (a .before) in weight-on g start b (average (a .named) ids1 ids2) (yes g start b (average (a .named) ids1 ids2) (a .accepted)) i h
-
-    pub averaged-flag-on : (j : ℕ) → j < length (start .flags) → pieceOfFlag g j < piecesOf (sizesOf g)
-    averaged-flag-on j h = let b : Book = booked g start (opened g start) (a .before) in flag-on g start b (average (a .named) ids1 ids2) (yes g start b (average (a .named) ids1 ids2) (a .accepted)) j h
-
-    pub averaged-marked : (p : ℕ) → p < piecesOf (sizesOf g) → p < placesIn (start .marks)
-    averaged-marked p h = let b : Book = booked g start (opened g start) (a .before) in mark-on g start b (average (a .named) ids1 ids2) (yes g start b (average (a .named) ids1 ids2) (a .accepted)) p h
+  pub averaged-placed : (calls : List Call) (t : ℕ) (ids1 ids2 : List ℤ) → AveragedBy g start (opened g start) t ids1 ids2 calls → Placed g start
+  averaged-placed calls t ids1 ids2 a = placed (booked g start (opened g start) (a .before)) (average (a .named) ids1 ids2) (a .accepted)
 
   -- ---- what its word says of the calls on a piece
 
