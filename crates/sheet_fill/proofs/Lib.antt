@@ -1,4 +1,3 @@
 -- Laws that several proofs cite.
 pub mod OpenLaws
 pub mod PieceLaws
-pub mod AverageLaws

@@ -1,4 +1,3 @@
 // For the crate above, on a tested study and sheet.
-pub mod average;
 pub mod carry;
 pub mod run;

@@ -1,2 +1,2 @@
-// What the accepted calls on a sheet write: one piece, all open pieces, the averages of a triplet.
+// What the accepted runs on a sheet write: one piece, or all open pieces.
 pub mod kernel;

@@ -2,9 +2,9 @@
 use mathlib.Core.Path.{_≡_, refl, sym, ap, _∙_}
 use mathlib.Core.Bool.{true, false, _&&_}
 use mathlib.Core.List.{List, [], _∷_, _++_, append-assoc}
-use Prim.Native.Nat.{ℕ, _*_, _<_}
+use Prim.Native.Nat.{ℕ, _+_, _*_, _^_, _<_}
 use native.Mathlib.Omega.{arith}
-use borrow.Author.Tests.{eqb-true}
+use borrow.Author.Tests.{eqb-true, ltb-true}
 use lib.Dec.{eqb}
 use lib.Ieee.{Float}
 use lib.IntN.{ℤ}
@@ -20,12 +20,13 @@ use Rattle.ask.proofs.AskLaws.{group-no, group-yes, all-yes, after-done, after-
 use Rattle.triplet_study.specs.declared.Sizes.{Sizes}
 use Rattle.triplet_study.specs.Study.{Study, sizesOf}
 use Rattle.triplet_study.specs.Questions.{studyQuestions, areLengths}
-use Rattle.triplet_study.specs.Tested.{Counted}
-use Rattle.triplet_study.proofs.StudyLaws.{study-numbered, lengths-say, tested, counted}
+use Rattle.triplet_study.specs.Tested.{Counted, Ready}
+use Rattle.triplet_study.proofs.StudyLaws.{study-numbered, lengths-say, tested, counted, ready}
 use Rattle.marks.specs.Bytes.{bytesFor, Holds}
 use Rattle.sheet_marks.specs.declared.SheetAnswer.{SheetAnswer}
-use Rattle.sheet_marks.specs.Tallies.{sheetAnswer, refusedWith}
-use Rattle.sheet_marks.proofs.TallyLaws.{refused-is}
+use Rattle.ask.specs.Answers.{answerNumber}
+use Rattle.sheet_marks.specs.Tallies.{sheetAnswer, refusedWith, isRoom, tallyQuestions, addedTo}
+use Rattle.sheet_marks.proofs.TallyLaws.{number-is, refused-is}
 use Rattle.sheet_step.specs.Steps.{Sheet, sheet, Call, Did, piecesOf, commonQuestions, areSheetLengths, isPiece, areIdLists, sheetQuestions, pieceQuestions, averageQuestions, ownQuestions, verdict, effect, step}
 use Rattle.sheet_step.proofs.CountLaws.{marks-held}
 
@@ -72,12 +73,24 @@ module _ (g : Study) (s : Sheet) (c : Call) where
   pub counts-yes : firstNo commonOf ≡ 0 → Counted (sizesOf g)
   counts-yes e = counted (tested g (study-yes e))
 
+  -- question 12's yes, after those on the study
+  long-yes : firstNo commonOf ≡ 0 → areSheetLengths (sizesOf g) (length (s .weights)) (length (s .flags)) (length (s .marks)) ≡ true
+  long-yes e =
+      let y : AllYes (sheetQuestions (sizesOf g) (length (s .weights)) (length (s .flags)) (s .marks)) = all-yes (sheetQuestions (sizesOf g) (length (s .weights)) (length (s .flags)) (s .marks)) sheet-numbered (sheet-yes e) in
+      y .0
+
   pub lengths-yes : firstNo commonOf ≡ 0
       → (length (s .weights) ≡ sizesOf g .channels * sizesOf g .cells) × ((length (s .flags) ≡ sizesOf g .cells) × Holds (piecesOf (sizesOf g)) (s .marks))
   lengths-yes e =
-      let y : AllYes (sheetQuestions (sizesOf g) (length (s .weights)) (length (s .flags)) (s .marks)) = all-yes (sheetQuestions (sizesOf g) (length (s .weights)) (length (s .flags)) (s .marks)) sheet-numbered (sheet-yes e) in
-      let l : _ = sheet-lengths (sizesOf g) (length (s .weights)) (length (s .flags)) (length (s .marks)) (y .0) in
+      let l : _ = sheet-lengths (sizesOf g) (length (s .weights)) (length (s .flags)) (length (s .marks)) (long-yes e) in
       (l .0, (l .1 .0, marks-held (sizesOf g) (counts-yes e) (s .marks) (l .1 .1)))
+
+  -- the study is ready for the sheet
+  pub ready-yes : firstNo commonOf ≡ 0 → Ready g (sizesOf g) (length (s .weights)) (length (s .flags))
+  unfolding areSheetLengths
+  ready-yes e =
+      ready g (sizesOf g) (length (s .weights)) (length (s .flags)) (study-yes e) refl
+      (and-left (areLengths (sizesOf g) (length (s .weights)) (length (s .flags))) (eqb (length (s .marks)) (bytesFor (piecesOf (sizesOf g)))) (long-yes e))
 
   -- ---- a refused call
 
@@ -126,14 +139,39 @@ piece-on z t b1 b2 e =
       ),
     )
 
+-- the tally's answer by its number, and the tally that it gives
+module _ (tally runs : ℕ) {a : SheetAnswer} (e : a ≡ addedTo tally runs) where
+  pub added-no : {n : ℕ} → n ≡ answerNumber (a .answer) → n ≡ firstNo (tallyQuestions tally runs)
+  added-no h = h ∙ ap (λ (x : SheetAnswer). answerNumber (x .answer)) e ∙ number-is (firstNo (tallyQuestions tally runs))
+
+  pub added-runs : firstNo (tallyQuestions tally runs) ≡ 0 → a .tally .runs ≡ tally + runs
+  added-runs z = ap (λ (x : SheetAnswer). x .tally .runs) e ∙ sym (after-done (firstNo (tallyQuestions tally runs)) (tally + runs) tally z)
+
 module _ (z : Sizes) (marks : List ℕ) (t b1 b2 : ℤ) where
-  pub piece-numbered : Numbered (pieceQuestions z marks t b1 b2)
+  piece-numbered : Numbered (pieceQuestions z marks t b1 b2)
   piece-numbered = (omega arith, (omega arith, tt))
 
-  pub piece-named : firstNo (pieceQuestions z marks t b1 b2) ≡ 0 → (mag t < z .triplets) × ((mag b1 < z .bands1) × (mag b2 < z .bands2))
+  piece-named : firstNo (pieceQuestions z marks t b1 b2) ≡ 0 → (mag t < z .triplets) × ((mag b1 < z .bands1) × (mag b2 < z .bands2))
   piece-named e =
       let y : AllYes (pieceQuestions z marks t b1 b2) = all-yes (pieceQuestions z marks t b1 b2) piece-numbered e in
       piece-on z t b1 b2 (y .0)
+
+  -- 14 and 15, then 20
+  module _ (tally : ℕ) where
+    pub run-no : {n : ℕ} → n ≡ firstNo (pieceQuestions z marks t b1 b2) → (n ≡ 0 → ⊥) → n ≡ firstNo (pieceQuestions z marks t b1 b2 ++ tallyQuestions tally 1)
+    run-no e h = e ∙ sym (group-no (pieceQuestions z marks t b1 b2) (tallyQuestions tally 1) (λ k. h (e ∙ k)))
+
+    pub run-room : {m n : ℕ} → m ≡ firstNo (pieceQuestions z marks t b1 b2) → m ≡ 0 → n ≡ firstNo (tallyQuestions tally 1) → n ≡ firstNo (pieceQuestions z marks t b1 b2 ++ tallyQuestions tally 1)
+    run-room e h f = f ∙ sym (group-yes (pieceQuestions z marks t b1 b2) (tallyQuestions tally 1) piece-numbered (sym e ∙ h))
+
+    -- the yes to all three
+    pub run-yes : firstNo (pieceQuestions z marks t b1 b2 ++ tallyQuestions tally 1) ≡ 0
+        → ((mag t < z .triplets) × ((mag b1 < z .bands1) × (mag b2 < z .bands2))) × (tally + 1 < 2 ^ 63)
+    unfolding isRoom
+    run-yes e =
+        let b : _ = both-yes (pieceQuestions z marks t b1 b2) (tallyQuestions tally 1) piece-numbered e in
+        let y : AllYes (tallyQuestions tally 1) = all-yes (tallyQuestions tally 1) (omega arith, tt) (b .1) in
+        (piece-named (b .0), ltb-true (tally + 1) (2 ^ 63) (y .0))
 
 module _ (z : Sizes) (weights : List Float) (marks : List ℕ) (t : ℤ) (ids1 ids2 : List ℤ) where
   pub average-named : firstNo (averageQuestions z weights marks t ids1 ids2) ≡ 0

@@ -140,11 +140,16 @@ module _ {s : Study} {z : Sizes} {weights flags : ℕ} (r : Ready s z weights fl
 
   -- ---- the pieces of a triplet
 
-  -- the outputs of piece k of triplet t, by its corners
-  outs : (t k : ℕ) (n1 n2 : List ℕ) → n1 ≡ firstCorners s t → n2 ≡ secondCorners s t → (x : ℕ)
-      → outputsOfCorners z (s .points) n1 n2 (s .frequencies1) (k / z .bands2) (s .frequencies2) (k % z .bands2) x ≡ outputsOf s t (k / z .bands2) (k % z .bands2) x
+  -- a piece of triplet t that is written by its corners is computed
+  pub corners-computed : (t b1 b2 : ℕ) (n1 n2 : List ℕ) → n1 ≡ firstCorners s t → n2 ≡ secondCorners s t → b1 < z .bands1 → b2 < z .bands2
+      → {w : List Float} {f : List ℤ} {w' : List Float} {f' : List ℤ}
+      → AreWritten z (t * z .pairs + (b1 * z .bands2 + b2)) (outputsOfCorners z (s .points) n1 n2 (s .frequencies1) b1 (s .frequencies2) b2) w f w' f'
+      → AreComputed s (λ n. eqb n (t * z .pairs + (b1 * z .bands2 + b2))) w f w' f'
   unfolding outputsOf
-  outs t k n1 n2 e1 e2 x = rw (e1, e2, r .counts)
+  corners-computed t b1 b2 n1 n2 e1 e2 h1 h2 = written-computed s (r .counts) t b1 b2 outs h1 h2 refl
+    where
+      outs : (x : ℕ) → outputsOfCorners z (s .points) n1 n2 (s .frequencies1) b1 (s .frequencies2) b2 x ≡ outputsOf s t b1 b2 x
+      outs x = rw (e1, e2, r .counts)
 
   -- piece k of triplet t, written by its corners after those before it
   pub pieces-more : (t k : ℕ) (n1 n2 : List ℕ) → n1 ≡ firstCorners s t → n2 ≡ secondCorners s t → k < z .pairs
@@ -157,7 +162,7 @@ module _ {s : Study} {z : Sizes} {weights flags : ℕ} (r : Ready s z weights fl
       let number : q ≡ t * z .pairs + k = ap (λ (m : ℕ). t * z .pairs + m) (div-add-mod' k (z .bands2)) in
       let h : _ = pair-bands k hk in
       computed-join s (inTriplet (z .pairs) t k) (λ n. eqb n q) (inTriplet (z .pairs) t (k + 1)) (λ n. rw number (in-next (z .pairs) t k n hk)) a
-      (written-computed s (r .counts) t (k / z .bands2) (k % z .bands2) (outs t k n1 n2 e1 e2) (h .0) (h .1) refl b)
+      (corners-computed t (k / z .bands2) (k % z .bands2) n1 n2 e1 e2 (h .0) (h .1) b)
 
 module _ (s : Study) (pairs t : ℕ) where
   pub pieces-none : (w : List Float) (f : List ℤ) → AreComputed s (inTriplet pairs t 0) w f w f

@@ -64,7 +64,7 @@ pub third : {A : Type 0} {size : ℕ} {areas : List (List A)} → AreSized 3 siz
 third {areas = areas} h a b = ap length (getD-set-other (set areas 0 a) 1 2 b [] (λ e. omega arith)) ∙ beside h 0 2 a (λ e. omega arith) (omega arith)
 
 -- new areas
-fresh : {A : Type 0} (count size : ℕ) (x : A) → AreSized count size (replicate count (replicate size x))
+pub fresh : {A : Type 0} (count size : ℕ) (x : A) → AreSized count size (replicate count (replicate size x))
 fresh count size x =
     record {
       counted = length-replicate count (replicate size x);

@@ -1,13 +1,17 @@
 // The questions of the calls on a sheet, in their order: the number of the first that is answered no, or 0.
 ghost use mathlib.Core.Path.{_≡_};
+ghost use mathlib.Core.List.{_++_};
 ghost use Prim.Native.Nat.{_+_, _*_, _<_};
 ghost use lib.ListN.{length};
 ghost use Rattle.ask.specs.Ask.{firstNo};
 ghost use Rattle.marks.specs.Bytes.{Holds};
+ghost use Rattle.sheet_marks.specs.Tallies.{tallyQuestions};
 ghost use Rattle.triplet_study.specs.Tested.{Counted};
 ghost use Rattle.triplet_study.specs.Lent.{studyIn};
 ghost use Rattle.sheet_step.specs.Steps.{commonQuestions, sheetQuestions, pieceQuestions, averageQuestions, areTripletWeights, piecesOf};
+use ask::kernel::number_of;
 use marks::kernel as mark;
+use sheet_marks::Tally;
 use triplet_study::Shape;
 use triplet_study::Sizes;
 
@@ -68,7 +72,7 @@ pub fn common_no(
 }
 
 // Questions 14 and 15, of a named piece.
-pub fn piece_no(z: Sizes, marks: &[u8], triplet: i64, b1: i64, b2: i64) -> u64
+fn piece_no(z: Sizes, marks: &[u8], triplet: i64, b1: i64, b2: i64) -> u64
     requires { ⌜ Counted z × Holds (piecesOf z) (now marks) ⌝ }
     ensures { λ r. ⌜ r ≡ firstNo (pieceQuestions z (now (marks .entry)) triplet b1 b2) ⌝ }
 {
@@ -83,6 +87,21 @@ pub fn piece_no(z: Sizes, marks: &[u8], triplet: i64, b1: i64, b2: i64) -> u64
         return questions::ALREADY_AVERAGED;
     }
     0
+}
+
+// Questions 14, 15 and 20, of a run.
+pub fn run_first_no(z: Sizes, marks: &[u8], runs: u64, triplet: i64, b1: i64, b2: i64) -> u64
+    requires { ⌜ Counted z × Holds (piecesOf z) (now marks) ⌝ }
+    ensures { λ r. ⌜ r ≡ firstNo (pieceQuestions z (now (marks .entry)) triplet b1 b2 ++ tallyQuestions runs 1) ⌝ }
+{
+    let own = piece_no(z, marks, triplet, b1, b2);
+    if own != 0 {
+        return own;
+    }
+    let tally = Tally { runs };
+    let added = tally.add(1);
+    let room = added.answer;
+    number_of(room)
 }
 
 // Question 19, of triplet `t`.

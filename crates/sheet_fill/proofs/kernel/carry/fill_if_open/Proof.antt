@@ -1,28 +1,29 @@
 -- `sheet_fill::kernel::carry::fill_if_open` meets its contract. Assumes nothing.
-use Rattle.triplet_piece.specs.Study.{Study, study}
-use Rattle.triplet_iw.proofs.TripletLaws.{pairs-some}
-use Rattle.marks.proofs.BytesLaws.{place-in, small-mark}
-use Rattle.sheet_fill.proofs.OpenLaws.{open-one, shut-one, closed-one, kept-one}
-use Rattle.sheet_step.specs.Steps.{piecesOf}
-use Rattle.triplet_piece.proofs.StudyLaws.{weights-alike, flags-alike, weights-nothing, flags-nothing}
-use Rattle.sheet_fill.proofs.PieceLaws.{piece-at, piece-is}
-use Rattle.marks.specs.Marks.{isOpenMark}
-use borrow.Author.Tests.{eq-eqb, ne-eqb}
-use mathlib.Core.Path.{_∙_, _≡_, sym}
-use mathlib.Core.Bool.{false, true}
-use native.Mathlib.Omega.{arith}
 use borrow.Author.Needs.{needs}
+use borrow.Author.Tests.{eq-eqb, ne-eqb}
+use mathlib.Core.Bool.{false, true}
+use mathlib.Core.Path.{_∙_, _≡_, sym}
+use native.Mathlib.Omega.{arith}
+use Rattle.marks.proofs.BytesLaws.{place-in, small-mark}
+use Rattle.marks.specs.Marks.{isOpenMark}
+use Rattle.sheet_fill.proofs.OpenLaws.{open-one, shut-one, closed-one, kept-one}
+use Rattle.sheet_fill.proofs.PieceLaws.{piece-at, piece-is}
+use Rattle.sheet_step.specs.Steps.{piecesOf}
+use Rattle.triplet_piece.proofs.WeightLaws.{computed-alike, computed-none}
+use Rattle.triplet_study.proofs.StudyLaws.{ready-counted}
+use Rattle.triplet_study.specs.Study.{Study, study}
 use Rattle.sheet_fill.proofs.kernel.carry.fill_if_open.Statement.{statement}
 use Rattle.sheet_fill.proofs.kernel.carry.fill_if_open.Tie as tie
 
 -- the study that the arguments make
 abbrev studied : tie.Start → Study
-studied s = study (s .args .tp) (s .args .grid) (s .args .addresses .now) (s .args .gp-map .now) (s .args .steps .now) (s .args .z .bands1) (s .args .z .bands2) (s .args .frequencies1 .now) (s .args .frequencies2 .now) (s .args .points .now) (s .args .triplets .now)
+studied s =
+    study (s .args .z .shape) (s .args .addresses .now) (s .args .gp-map .now) (s .args .steps .now) (s .args .frequencies1 .now) (s .args .frequencies2 .now) (s .args .points .now) (s .args .triplets .now)
 
 mark-at-requires : tie.Need-mark-at-requires
 mark-at-requires c κs =
     let s : _ = c .before .before .before .before .before .before in
-    place-in (piecesOf (s .args .z)) (s .args .marks .now) (s .args .q) (s .pre .1 .0 .1 .1 .1) (s .pre .1 .0 .1 .1 .0)
+    place-in (piecesOf (s .args .z)) (s .args .marks .now) (s .args .q) (s .pre .1 .0 .1 .1) (s .pre .1 .0 .1 .0)
 
 same-length : tie.Need-same-length
 same-length c = search needs
@@ -31,40 +32,34 @@ returns : tie.Need-returns
 unfolding isOpenMark
 returns c =
     let s : _ = c .before .before .before .before .before .before .before .before in
-    let r = s .pre .0 in
-    let q = s .pre .1 .0 in
     let m = s .args .marks .now in
     let n = s .args .q in
     let o : isOpenMark m n ≡ false = ne-eqb _ 0 (λ e. c .if1 .taken (c .before .mark-at .ensures ∙ e)) in
-    (s .pre .1 .1, (weights-nothing (studied s) _ (shut-one m n o) (s .args .weights .now), (flags-nothing (studied s) _ (shut-one m n o) (s .args .flags .now), kept-one m n o)))
+    (s .pre .1 .1, (computed-none (studied s) _ (shut-one m n o) (s .args .weights .now) (s .args .flags .now), kept-one m n o))
 
 div-t : tie.Need-div-t
-div-t c =
-    pairs-some (c .before .before .before .before .before .before .before .before .pre .0)
+div-t c = ready-counted (c .before .before .before .before .before .before .before .before .pre .0) .pairs-some
 
 rem-pair : tie.Need-rem-pair
-rem-pair c =
-    pairs-some (c .before .before .before .before .before .before .before .before .pre .0)
+rem-pair c = ready-counted (c .before .before .before .before .before .before .before .before .pre .0) .pairs-some
 
 div-fill-named : tie.Need-div-fill-named
-div-fill-named c =
-    c .before .before .before .before .before .before .before .before .before .before .before .before .before .before .before .before .before .before .before .before .pre .0 .bands2-low
+div-fill-named c = ready-counted (c .before .before .before .before .before .before .before .before .before .before .before .before .before .before .pre .0) .bands2-some
 
 rem-fill-named : tie.Need-rem-fill-named
-rem-fill-named c =
-    c .before .before .before .before .before .before .before .before .before .before .before .before .before .before .before .before .before .before .before .before .pre .0 .bands2-low
+rem-fill-named c = ready-counted (c .before .before .before .before .before .before .before .before .before .before .before .before .before .before .pre .0) .bands2-some
 
 fill-named-requires : tie.Need-fill-named-requires
 fill-named-requires c κs =
-    let s : _ = c .before .before .before .before .before .before .before .before .before .before .before .before .before .before .before .before .before .before .before .before in
+    let s : _ = c .before .before .before .before .before .before .before .before .before .before .before .before .before .before in
     let r = s .pre .0 in
     let q = s .pre .1 .0 in
-    (r, ((q .0, (q .1 .0, piece-at r (s .args .q) (q .1 .1 .0))), s .pre .1 .1))
+    (r, ((q .0, piece-at r (s .args .q) (q .1 .0)), s .pre .1 .1))
 
 set-mark-requires : tie.Need-set-mark-requires
 set-mark-requires c κs =
-    let s : _ = c .before .before .before .before .before .before .before .before .before .before .before .before .before .before .before .before .before .before .before .before .before .before .before .before .before in
-    (place-in (piecesOf (s .args .z)) (s .args .marks .now) (s .args .q) (s .pre .1 .0 .1 .1 .1) (s .pre .1 .0 .1 .1 .0), small-mark 1 (omega arith))
+    let s : _ = c .before .before .before .before .before .before .before .before .before .before .before .before .before .before .before .before .before .before .before in
+    (place-in (piecesOf (s .args .z)) (s .args .marks .now) (s .args .q) (s .pre .1 .0 .1 .1) (s .pre .1 .0 .1 .0), small-mark 1 (omega arith))
 
 same-length-2 : tie.Need-same-length-2
 same-length-2 c = search needs
@@ -78,19 +73,12 @@ same-length-4 c = search needs
 returns-2 : tie.Need-returns-2
 unfolding isOpenMark
 returns-2 c =
-    let s : _ = c .before .before .before .before .before .before .before .before .before .before .before .before .before .before .before .before .before .before .before .before .before .before .before .before .before .before .before .before in
-    let r = s .pre .0 in
-    let q = s .pre .1 .0 in
+    let s : _ = c .before .before .before .before .before .before .before .before .before .before .before .before .before .before .before .before .before .before .before .before .before .before in
     let m = s .args .marks .now in
     let n = s .args .q in
-    let o : isOpenMark m n ≡ true = eq-eqb _ 0 (sym (c .before .before .before .before .before .before .before .before .before .before .before .before .before .before .before .before .before .before .before .before .before .mark-at .ensures) ∙ c .before .before .before .before .before .before .before .before .before .before .before .before .before .before .before .before .before .before .before .before .if1 .left) in
-    let f = c .before .before .before .before .before .before .before .fill-named .ensures in (
-      ((λ h. f .1 .0), f .0),
-      (
-        f .1 .1 .0 ∙ weights-alike (studied s) _ _ (open-one m n o _ (piece-is r n)) (s .args .weights .now),
-        (f .1 .1 .1 ∙ flags-alike (studied s) _ _ (open-one m n o _ (piece-is r n)) (s .args .flags .now), c .before .before .set-mark .ensures ∙ closed-one m n o),
-      ),
-    )
+    let o : isOpenMark m n ≡ true = eq-eqb _ 0 (sym (c .before .before .before .before .before .before .before .before .before .before .before .before .before .before .before .mark-at .ensures) ∙ c .before .before .before .before .before .before .before .before .before .before .before .before .before .before .if1 .left) in
+    let f = c .before .before .before .before .before .before .before .fill-named .ensures in
+    (f .0, (computed-alike (studied s) _ _ (open-one m n o _ (piece-is n (s .args .z .pairs) (s .args .z .bands2))) (f .1), c .before .before .set-mark .ensures ∙ closed-one m n o))
 
 pub fill-if-open-spec : {M : Type 1} → statement M
 fill-if-open-spec =

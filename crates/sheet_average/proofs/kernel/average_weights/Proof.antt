@@ -1,4 +1,4 @@
--- `sheet_fill::kernel::average::average_weights` meets its contract. Assumes nothing.
+-- `sheet_average::kernel::average_weights` meets its contract. Assumes nothing.
 use Prim.Native.Nat.{_-_, _≤_, zero-le}
 use borrow.Author.Needs.{needs}
 use lib.Ieee.{nan}
@@ -7,9 +7,9 @@ use mathlib.Core.Path.{_∙_, _≡_, ap}
 use native.Mathlib.Omega.{arith}
 use Rattle.list_laws.proofs.GroupLaws.{groups-length, groups-none, someGroups}
 use Rattle.averaging_blocks.specs.Weights.{averaged}
-use Rattle.sheet_fill.proofs.AverageLaws.{channel-turn, channels-all}
-use Rattle.sheet_fill.proofs.kernel.average.average_weights.Statement.{statement}
-use Rattle.sheet_fill.proofs.kernel.average.average_weights.Tie as tie
+use Rattle.sheet_average.proofs.AverageLaws.{channel-turn, channels-all}
+use Rattle.sheet_average.proofs.kernel.average_weights.Statement.{statement}
+use Rattle.sheet_average.proofs.kernel.average_weights.Tie as tie
 
 abbrev Inv-loop : tie.InvT-loop
 Inv-loop z weights₀ t degenerate-ids1 degenerate-ids2 channels c₀ weights c =
@@ -40,7 +40,7 @@ loop-less c =
 loop-again : tie.Need-loop-again Inv-loop μ-loop
 loop-again c =
     let s : _ = c .before .before .before .before .before .before .before in
-    (search needs, c .before .before .average-channel .ensures ∙ channel-turn (s .args .z) (s .pre .0 .0) (s .args .degenerate-ids1 .now) (s .args .degenerate-ids2 .now) (s .pre .0 .1 .1 .0) (s .args .t) (c .before .before .before .before .before .loop .c) (s .args .weights .now) (c .before .before .before .before .before .loop .weights) (s .pre .0 .1 .0) (s .pre .1 .0) (c .before .before .before .before .before .loop .inv .1))
+    (search needs, c .before .before .average-channel .ensures ∙ channel-turn (s .args .z) (s .pre .0 .0) (s .args .degenerate-ids1 .now) (s .args .degenerate-ids2 .now) (s .pre .0 .1 .1) (s .args .t) (c .before .before .before .before .before .loop .c) (s .args .weights .now) (c .before .before .before .before .before .loop .weights) (s .pre .0 .1 .0) (s .pre .1 .0) (c .before .before .before .before .before .loop .inv .1))
 
 same-length : tie.Need-same-length Inv-loop μ-loop
 same-length c =
@@ -51,7 +51,7 @@ same-length c =
 returns : tie.Need-returns Inv-loop μ-loop
 returns c =
     let s : _ = c .before .before .before in
-    c .before .loop .inv .1 ∙ channels-all (s .args .z) (s .pre .0 .0) (s .args .degenerate-ids1 .now) (s .args .degenerate-ids2 .now) (s .pre .0 .1 .1 .0) (s .args .t) (c .before .loop .c) (s .args .weights .now) (omega arith) (s .pre .0 .1 .0) (s .pre .1 .0)
+    c .before .loop .inv .1 ∙ channels-all (s .args .z) (s .pre .0 .0) (s .args .degenerate-ids1 .now) (s .args .degenerate-ids2 .now) (s .pre .0 .1 .1) (s .args .t) (c .before .loop .c) (s .args .weights .now) (omega arith) (s .pre .0 .1 .0) (s .pre .1 .0)
 
 pub average-weights-spec : {M : Type 1} → statement M
 average-weights-spec =

@@ -17,13 +17,14 @@ use Rattle.list_laws.proofs.StrideLaws.{strided}
 use Rattle.list_laws.specs.Groups.{groupMade}
 use Rattle.list_laws.proofs.GroupLaws.{group-back, someGroups, groups-more}
 use Rattle.ieee_laws.specs.Zeros.{plusZero}
-use Rattle.triplet_piece.specs.declared.Sizes.{Sizes}
+use Rattle.triplet_study.specs.declared.Sizes.{Sizes}
 use Rattle.triplet_piece.specs.Layout.{tripletAt}
 use Rattle.averaging_blocks.specs.Weights.{averaged, averagedPoints}
 use Rattle.averaging_blocks.specs.Flags.{averagedFlags, averagedFlagPoints}
 use Rattle.averaging_blocks.proofs.WeightLaws.{averaged-length}
 use Rattle.averaging_blocks.proofs.FlagLaws.{flags-length}
-use Rattle.sheet_step.specs.Steps.{tripletAveraged, tripletFlagsAveraged, Counted}
+use Rattle.triplet_study.specs.Tested.{Counted}
+use Rattle.sheet_step.specs.Steps.{tripletAveraged, tripletFlagsAveraged}
 use Rattle.sheet_step.proofs.CountLaws.{cells-by-size}
 
 -- the triplet of a place of the weights

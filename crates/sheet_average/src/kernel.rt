@@ -1,12 +1,13 @@
-// The averages of one triplet.
+// For the crates above, on a tested study and sheet: the averages of one triplet.
 ghost use mathlib.Core.Path.{_≡_};
 ghost use Prim.Native.Nat.{_+_, _*_, _<_, _≤_};
 ghost use lib.Ieee.{nan};
 ghost use lib.ListN.{length};
 ghost use Rattle.list_laws.specs.Groups.{groupMade};
 ghost use Rattle.averaging_blocks.specs.Weights.{averaged};
-ghost use Rattle.sheet_step.specs.Steps.{tripletAveraged, tripletFlagsAveraged, Counted};
-use triplet_piece::Sizes;
+ghost use Rattle.triplet_study.specs.Tested.{Counted};
+ghost use Rattle.sheet_step.specs.Steps.{tripletAveraged, tripletFlagsAveraged};
+use triplet_study::Sizes;
 
 // The weights of triplet `t` in channel `c`.
 fn average_channel(
@@ -17,7 +18,7 @@ fn average_channel(
     degenerate_ids1: &[i64],
     degenerate_ids2: &[i64],
 )
-    requires { ⌜ Counted z × (((t < z .triplets) × (c < z .channels)) × ((z .bands1 ≡ z .bands2) × (z .bands1 ≤ 64))) ⌝ }
+    requires { ⌜ Counted z × (((t < z .triplets) × (c < z .channels)) × (z .bands1 ≡ z .bands2)) ⌝ }
     requires { ⌜ (length (now weights) ≡ z .channels * z .cells) × ((length (now «degenerate_ids1») ≡ z .bands1) × (length (now «degenerate_ids2») ≡ z .bands1)) ⌝ }
     ensures { λ _. ⌜ now (weights .exit) ≡ groupMade (z .points) (z .pairs) (averaged (z .bands1) (now («degenerate_ids1» .entry)) (now («degenerate_ids2» .entry))) nan (c * z .triplets + t) (now (weights .entry)) ⌝ }
 {
@@ -43,7 +44,7 @@ pub fn average_weights(
     degenerate_ids1: &[i64],
     degenerate_ids2: &[i64],
 )
-    requires { ⌜ Counted z × ((t < z .triplets) × ((z .bands1 ≡ z .bands2) × (z .bands1 ≤ 64))) ⌝ }
+    requires { ⌜ Counted z × ((t < z .triplets) × (z .bands1 ≡ z .bands2)) ⌝ }
     requires { ⌜ (length (now weights) ≡ z .channels * z .cells) × ((length (now «degenerate_ids1») ≡ z .bands1) × (length (now «degenerate_ids2») ≡ z .bands1)) ⌝ }
     ensures { λ _. ⌜ now (weights .exit) ≡ tripletAveraged z t (now («degenerate_ids1» .entry)) (now («degenerate_ids2» .entry)) (now (weights .entry)) ⌝ }
 {
@@ -61,7 +62,7 @@ pub fn average_flags(
     degenerate_ids1: &[i64],
     degenerate_ids2: &[i64],
 )
-    requires { ⌜ Counted z × ((t < z .triplets) × ((z .bands1 ≡ z .bands2) × (z .bands1 ≤ 64))) ⌝ }
+    requires { ⌜ Counted z × ((t < z .triplets) × (z .bands1 ≡ z .bands2)) ⌝ }
     requires { ⌜ (length (now flags) ≡ z .cells) × ((length (now «degenerate_ids1») ≡ z .bands1) × (length (now «degenerate_ids2») ≡ z .bands1)) ⌝ }
     ensures { λ _. ⌜ now (flags .exit) ≡ tripletFlagsAveraged z t (now («degenerate_ids1» .entry)) (now («degenerate_ids2» .entry)) (now (flags .entry)) ⌝ }
 {
