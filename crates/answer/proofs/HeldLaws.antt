@@ -23,7 +23,6 @@ use Rattle.study_print.proofs.StudyOnlyLaws.{printed-only}
 use Rattle.study_print.proofs.LengthLaws.{Small, study-small}
 use Rattle.listing_length.proofs.ListingLengthLaws.{refusal-short}
 use Rattle.ask.specs.Ask.{firstNo}
-use Rattle.triplet_study.specs.Given.{studyOf}
 use Rattle.answer_weights.specs.Asked.{questionsOf}
 use Rattle.answer_weights.specs.Answers.{listingFor, answerBy, answerTo}
 use Rattle.answer_weights.proofs.ReadyLaws.{listing-room}
@@ -99,7 +98,7 @@ answer-within r text old new e g = omega (arith, e, ap length g, length-append (
 -- ---- how long an answer can be
 
 module _ (s : StudyText) (w : Small s) where
-  by-number : (n : ℕ) → firstNo (questionsOf (askedOf s)) ≡ n → length (answerBy n (listingFor (studyOf (askedOf s)))) ≤ 118617
+  by-number : (n : ℕ) → firstNo (questionsOf (askedOf s)) ≡ n → length (answerBy n (listingFor (askedOf s))) ≤ 118617
   by-number zero e = listing-room (askedOf s) e (omega (arith, length-floats (s .points), w .points)) (w .triplets)
   by-number (suc n) e = omega (arith, refusal-short (suc n))
 

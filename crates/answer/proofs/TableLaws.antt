@@ -3,6 +3,7 @@ use mathlib.Core.Path.{_≡_, refl}
 use mathlib.Core.Bool.{Bool, true, false, cond}
 use Prim.Native.Nat.{ℕ, zero, suc, _<_}
 use native.Mathlib.Omega.{arith}
+use lib.IntN.{pos}
 use lib.ListN.{length}
 use lib.Signed.{mag}
 use Rattle.list_laws.specs.Lists.{allBelow}
@@ -10,14 +11,14 @@ use Rattle.list_laws.specs.Signed.{within, isBetween}
 use Rattle.ask.specs.Ask.{firstNo}
 use Rattle.common.specs.Mesh.{countOf, meshOf}
 use Rattle.question_grids.specs.Grids.{areTriples, triplesIn, isGridKind, isMesh, areAddresses, isMap}
-use Rattle.questions.specs.Studies.{tripletsIn, areStudyCounts, areTriplets, areStudyFrequencies}
+use Rattle.question_values.specs.Counts.{areCounts}
 use Rattle.question_values.specs.TpTypes.{isTpType}
 use Rattle.question_grids.specs.Tables.{isTable}
 use Rattle.tetrahedron_tables.specs.Tables.{tableOf, flat, table0, table1, table2, table3}
 use Rattle.triplet_study.specs.declared.Shape.{Shape}
-use Rattle.triplet_study.specs.Given.{Given}
-use Rattle.answer_weights.specs.Asked.{questionsOf}
-use Rattle.study_counts.specs.Counts.{fewWeights}
+use Rattle.triplet_study.specs.Study.{Study}
+use Rattle.triplet_study.specs.Questions.{tripletsIn, areTriplets, areStudyFrequencies}
+use Rattle.answer_weights.specs.Asked.{asksFew, questionsOf}
 use Rattle.study.specs.Studies.{StudyText}
 use Rattle.answer.specs.Texts.{askedOf}
 use Rattle.answer.proofs.AnswerLaws.{diagonal-lt}
@@ -34,12 +35,12 @@ built-in (suc (suc (suc (suc d)))) h = absurd (omega (arith, h))
 pub never-seven : (s : StudyText) → isBetween 0 3 (s .head .diag) ≡ true → firstNo (questionsOf (askedOf s)) ≡ 7 → ⊥
 unfolding firstNo
 never-seven s d e =
-    let g : Given = askedOf s in
+    let g : Study = askedOf s in
     let h : Shape = g .shape in
     let n : ℕ = countOf (meshOf (h .«d_diag»)) in
     let p : ℕ = triplesIn (g .addresses) in
-    go (fewWeights (h .«tp_type») (h .«num_band1») (h .«num_band2») (length (g .points)) (tripletsIn (g .triplets))) (isGridKind (h .«bz_grid_type»)) (isMesh 128 (h .«d_diag»)) (areAddresses n (g .addresses))
-    (isMap (h .«bz_grid_type») n p (g .gp-map)) (isTpType (h .«tp_type»)) (areStudyCounts (h .«num_band1») (h .«num_band2») (length (g .points)) (tripletsIn (g .triplets))) (areTriplets p (g .triplets))
+    go (asksFew g) (isGridKind (h .«bz_grid_type»)) (isMesh 128 (h .«d_diag»)) (areAddresses n (g .addresses))
+    (isMap (h .«bz_grid_type») n p (g .gp-map)) (isTpType (h .«tp_type»)) (areCounts (h .«num_band1») (h .«num_band2») (pos (length (g .points))) (pos (tripletsIn (g .triplets)))) (areTriplets p (g .triplets))
     (areStudyFrequencies p (mag (h .«num_band1»)) (mag (h .«num_band2»)) (g .frequencies1) (g .frequencies2) (g .points))
     (rw (built-in (mag (s .head .diag)) (diagonal-lt (s .head .diag) d)) at e)
   where

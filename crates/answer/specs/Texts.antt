@@ -9,7 +9,7 @@ use lib.Signed.{mag}
 use Rattle.list_laws.specs.Lists.{tabulate}
 use Rattle.tetrahedron_tables.specs.Tables.{tableOf, flat}
 use Rattle.triplet_study.specs.declared.Shape.{Shape}
-use Rattle.triplet_study.specs.Given.{Given, given}
+use Rattle.triplet_study.specs.Study.{Study, study}
 use Rattle.triplet_study.specs.Lent.{Lent}
 use Rattle.listing.specs.Listings.{refusalOf}
 use Rattle.study_head.specs.declared.Head.{Head}
@@ -30,16 +30,16 @@ abbrev pub tableFor : Head → List ℤ
 tableFor h = flat (tableOf (mag (h .diag)))
 
 -- a study by its head and its lists
-abbrev pub asked : Head → List ℤ → List ℤ → List Float → List Float → List Float → List ℤ → Given
-asked h addresses gp-map frequencies1 frequencies2 points triplets = given (shapeOf h) addresses gp-map (tableFor h) frequencies1 frequencies2 points triplets
+abbrev pub asked : Head → List ℤ → List ℤ → List Float → List Float → List Float → List ℤ → Study
+asked h addresses gp-map frequencies1 frequencies2 points triplets = study (shapeOf h) addresses gp-map (tableFor h) frequencies1 frequencies2 points triplets
 
 -- that of lists that are lent
-abbrev pub askedIn : Head → Lent ℤ → Lent ℤ → Lent Float → Lent Float → Lent Float → Lent ℤ → Given
+abbrev pub askedIn : Head → Lent ℤ → Lent ℤ → Lent Float → Lent Float → Lent Float → Lent ℤ → Study
 askedIn h addresses gp-map frequencies1 frequencies2 points triplets =
     asked h (now (addresses .entry)) (now (gp-map .entry)) (now (frequencies1 .entry)) (now (frequencies2 .entry)) (now (points .entry)) (now (triplets .entry))
 
 -- a study of a text with its floats as numbers
-abbrev pub askedOf : StudyText → Given
+abbrev pub askedOf : StudyText → Study
 askedOf s = asked (s .head) (s .addresses) (s .gp-map) (floatsOf (s .f1)) (floatsOf (s .f2)) (floatsOf (s .points)) (s .triplets)
 
 -- the answer by what a text holds; a text that is too long or not well formed is refused with 1

@@ -40,7 +40,7 @@ fn first_no(
     if !few_weights(shape, points.len(), count) {
         return questions::BAD_TEXT;
     }
-    triplet_study::kernel::given_no(
+    triplet_study::kernel::study_first_no(
         shape,
         addresses,
         gp_map,

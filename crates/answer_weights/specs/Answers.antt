@@ -5,9 +5,9 @@ use Prim.Native.Nat.{ℕ, zero, suc, _≤_}
 use denote.Ref.{now}
 use lib.ListN.{length}
 use Rattle.ask.specs.Ask.{firstNo}
-use Rattle.triplet_piece.specs.declared.Sizes.{Sizes}
-use Rattle.triplet_piece.specs.Study.{Study, sizesOf, Ready}
-use Rattle.triplet_study.specs.Given.{Given, givenQuestions, studyOf}
+use Rattle.triplet_study.specs.declared.Sizes.{Sizes}
+use Rattle.triplet_study.specs.Study.{Study, sizesOf}
+use Rattle.triplet_study.specs.Tested.{Ready}
 use Rattle.triplet_study.specs.Lent.{Lent}
 use Rattle.triplet_iw.specs.Whole.{allWeights, allFlags}
 use Rattle.listing.specs.Listings.{listingOf, refusalOf}
@@ -24,12 +24,12 @@ answerBy zero listing = listing
 answerBy (suc n) listing = refusalOf (suc n)
 
 -- the answer to a well formed text
-unfoldable pub answerTo : Given → List ℕ
-answerTo g = answerBy (firstNo (questionsOf g)) (listingFor (studyOf g))
+unfoldable pub answerTo : Study → List ℕ
+answerTo s = answerBy (firstNo (questionsOf s)) (listingFor s)
 
--- a study that passed 3 to 11, with counts and buffers that fit it, and whose listing fits the output
-abbrev pub Listable : Given → Sizes → ℕ → ℕ → Type 0
-Listable g z weights flags = ((firstNo (givenQuestions g) ≡ 0) × Ready (studyOf g) z weights flags) × (length (listingFor (studyOf g)) ≤ 118617)
+-- a tested study, with counts and buffers that fit it, whose listing fits the output
+abbrev pub Listable : Study → Sizes → ℕ → ℕ → Type 0
+Listable s z weights flags = Ready s z weights flags × (length (listingFor s) ≤ 118617)
 
 -- bytes written at the start of a buffer, and their count given
 abbrev pub Wrote : List ℕ → Lent ℕ → ℕ → Type 0

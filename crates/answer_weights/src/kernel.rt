@@ -3,12 +3,11 @@ ghost use mathlib.Core.Path.{_≡_};
 ghost use Prim.Native.Nat.{_/_, _≤_};
 ghost use lib.ListN.{length};
 ghost use Rattle.ask.specs.Ask.{firstNo};
-ghost use Rattle.triplet_study.specs.Given.{studyOf};
 ghost use Rattle.triplet_study.specs.Lent.{studyNow, studyIn};
 ghost use Rattle.answer_weights.specs.Asked.{questionsOf};
 ghost use Rattle.answer_weights.specs.Answers.{listingFor, Listable, Wrote};
-use triplet_piece::Sizes;
 use triplet_study::Shape;
+use triplet_study::Sizes;
 
 // Computes all weights and flags of a study into the lent buffers, and writes their listing.
 fn put_weights(
@@ -16,7 +15,6 @@ fn put_weights(
     weights: &mut [f64],
     flags: &mut [i8],
     z: Sizes,
-    shape: Shape,
     addresses: &[i64],
     gp_map: &[i64],
     steps: &[i64],
@@ -25,11 +23,13 @@ fn put_weights(
     points: &[f64],
     triplets: &[i64],
 ) -> usize
-    requires { ⌜ Listable (studyNow shape addresses «gp_map» steps frequencies1 frequencies2 points triplets) z (length (now weights)) (length (now flags)) ⌝ }
-    ensures { λ r. ⌜ Wrote (listingFor (studyOf (studyIn shape addresses «gp_map» steps frequencies1 frequencies2 points triplets))) out r ⌝ }
+    requires { ⌜ Listable (studyNow (z .shape) addresses «gp_map» steps frequencies1 frequencies2 points triplets) z (length (now weights)) (length (now flags)) ⌝ }
+    ensures { λ r. ⌜ Wrote (listingFor (studyIn (z .shape) addresses «gp_map» steps frequencies1 frequencies2 points triplets)) out r ⌝ }
 {
-    triplet_iw::kernel::fill_given(
-        shape,
+    triplet_iw::kernel::fill_triplets(
+        weights,
+        flags,
+        z,
         addresses,
         gp_map,
         steps,
@@ -37,8 +37,6 @@ fn put_weights(
         frequencies2,
         points,
         triplets,
-        weights,
-        flags,
     );
     listing::kernel::put_listing(
         out,
@@ -80,9 +78,14 @@ pub fn put_study(
 ) -> usize
     requires { ⌜ firstNo (questionsOf (studyNow shape addresses «gp_map» steps frequencies1 frequencies2 points triplets)) ≡ 0 ⌝ }
     requires { ⌜ (length (now points) ≤ 712) × (length (now triplets) / 3 ≤ 1170) ⌝ }
-    ensures { λ r. ⌜ Wrote (listingFor (studyOf (studyIn shape addresses «gp_map» steps frequencies1 frequencies2 points triplets))) out r ⌝ }
+    ensures { λ r. ⌜ Wrote (listingFor (studyIn shape addresses «gp_map» steps frequencies1 frequencies2 points triplets)) out r ⌝ }
 {
-    let z = triplet_study::kernel::sizes_of(shape, points.len(), triplets.len() / 3);
+    let z = triplet_study::kernel::sizes_of(
+        shape,
+        steps.len() / 12,
+        points.len(),
+        triplets.len() / 3,
+    );
     let mut weights = weight_buffer();
     let mut flags = flag_buffer();
     let m = z.cells;
@@ -92,7 +95,6 @@ pub fn put_study(
         &mut weights[..n],
         &mut flags[..m],
         z,
-        shape,
         addresses,
         gp_map,
         steps,

@@ -9,21 +9,21 @@ use Rattle.answer.proofs.AnswerLaws.{answer-listed, answer-refused, ref
 use Rattle.answer.specs.Texts.{shapeOf, tableFor}
 use Rattle.answer_weights.specs.Answers.{answerTo}
 use Rattle.triplet_study.specs.declared.Shape.{Shape}
-use Rattle.triplet_study.specs.Given.{Given, given}
+use Rattle.triplet_study.specs.Study.{Study, study}
 use Rattle.answer.proofs.asking.put_answer.Statement.{statement}
 use Rattle.answer.proofs.asking.put_answer.Tie as tie
 
 -- ---- the study
 
-abbrev study : tie.Start → Shape → List ℤ → Given
-study s shape steps = given shape (s .args .addresses .now) (s .args .gp-map .now) steps (s .args .frequencies1 .now) (s .args .frequencies2 .now) (s .args .points .now) (s .args .triplets .now)
+abbrev lent : tie.Start → Shape → List ℤ → Study
+lent s shape steps = study shape (s .args .addresses .now) (s .args .gp-map .now) steps (s .args .frequencies1 .now) (s .args .frequencies2 .now) (s .args .points .now) (s .args .triplets .now)
 
 -- by the values that the calls made
-abbrev made : tie.After-table-of → Given
-made c = study (c .before .before .before .before .before) (c .before .shape-of .result) (c .table-of .result)
+abbrev made : tie.After-table-of → Study
+made c = lent (c .before .before .before .before .before) (c .before .shape-of .result) (c .table-of .result)
 
 -- which are those of its head
-same : (c : tie.After-table-of) → answerTo (made c) ≡ answerTo (study (c .before .before .before .before .before) (shapeOf (c .before .before .before .before .before .args .head)) (tableFor (c .before .before .before .before .before .args .head)))
+same : (c : tie.After-table-of) → answerTo (made c) ≡ answerTo (lent (c .before .before .before .before .before) (shapeOf (c .before .before .before .before .before .args .head)) (tableFor (c .before .before .before .before .before .args .head)))
 same c = rw (c .before .shape-of .ensures, c .table-of .ensures)
 
 -- ---- the facts that the checker asks for
