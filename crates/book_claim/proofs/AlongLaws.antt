@@ -13,8 +13,8 @@ use Rattle.list_laws.proofs.BoolLaws.{clash}
 use Rattle.list_laws.proofs.PatchLaws.{getD-patch}
 use Rattle.list_laws.specs.Lists.{oneIf}
 use Rattle.ask.specs.Ask.{afterCall}
-use Rattle.triplet_study.specs.Given.{Given}
-use Rattle.sheet_step.specs.Steps.{Sheet, Call, run, carry, average, countsOf}
+use Rattle.triplet_study.specs.Study.{Study, sizesOf}
+use Rattle.sheet_step.specs.Steps.{Sheet, Call, run, carry, average}
 use Rattle.book_claim.specs.Book.{wordAt, Word, fresh, computed, averagedBy, Book, isOpen, writes, bookNo, turn, booked}
 use Rattle.book_claim.specs.Counts.{runsOf, runsAccepted, runsPiece, hasRun, averages, averagings, AveragedBy, isAveraged}
 use Rattle.book_claim.proofs.TurnLaws.{On, on-word, turn-long, kept, averaged-turn, open-turn}
@@ -34,7 +34,7 @@ secondOf (averagedBy ids1 ids2) = ids2
 same-lists : (t : ℤ) (i1 i2 j1 j2 : List ℤ) → averagedBy i1 i2 ≡ averagedBy j1 j2 → average t i1 i2 ≡ average t j1 j2
 same-lists t i1 i2 j1 j2 e = ap (λ (w : Word). average t (firstOf w) (secondOf w)) e
 
-module _ (g : Given) (start : Sheet) where
+module _ (g : Study) (start : Sheet) where
   pub booked-long : (b : Book) (calls : List Call) → length (booked g start b calls .words) ≡ length (b .words)
   booked-long b [] = refl
   booked-long b (c ∷ calls) = booked-long (turn g start b c) calls ∙ turn-long g start b c
@@ -68,7 +68,7 @@ module _ (g : Given) (start : Sheet) where
 
   -- the averagings of its triplet: one where its word has become averaged, otherwise none
   pub averaged-along : (q : ℕ) (b : Book) (calls : List Call) → On g start b q
-      → oneIf (isAveraged (wordAt b q)) + averagings g start b (q / countsOf g .pairs) calls ≡ oneIf (isAveraged (wordAt (booked g start b calls) q))
+      → oneIf (isAveraged (wordAt b q)) + averagings g start b (q / sizesOf g .pairs) calls ≡ oneIf (isAveraged (wordAt (booked g start b calls) q))
   averaged-along q b [] h = omega arith
   averaged-along q b (c ∷ calls) h =
       let one : _ = averaged-turn g start b q h c in
@@ -79,41 +79,41 @@ module _ (g : Given) (start : Sheet) where
 
   -- a word that becomes averaged under one call
   turned : (q : ℕ) (b : Book) (c : Call) (ids1 ids2 : List ℤ) → On g start b q → isAveraged (wordAt b q) ≡ false → wordAt (turn g start b c) q ≡ averagedBy ids1 ids2
-      → (t : ℤ) × ((c ≡ average t ids1 ids2) × ((q / countsOf g .pairs ≡ mag t) × (bookNo g start b c ≡ 0)))
+      → (t : ℤ) × ((c ≡ average t ids1 ids2) × ((q / sizesOf g .pairs ≡ mag t) × (bookNo g start b c ≡ 0)))
   unfolding turn writes
   turned q b c ids1 ids2 h not-yet e =
       let f : _ = rw (not-yet, e) at (averaged-turn g start b q h c) in
       go c (bookNo g start b c) refl (omega (arith, f)) e
     where
-      lists : (t : ℤ) (j1 j2 : List ℤ) → eqb (q / countsOf g .pairs) (mag t) ≡ true → wordAt (writes g b (average t j1 j2)) q ≡ averagedBy ids1 ids2
+      lists : (t : ℤ) (j1 j2 : List ℤ) → eqb (q / sizesOf g .pairs) (mag t) ≡ true → wordAt (writes g b (average t j1 j2)) q ≡ averagedBy ids1 ids2
           → average t j1 j2 ≡ average t ids1 ids2
       lists t j1 j2 f w =
           same-lists t j1 j2 ids1 ids2
-          (sym (getD-patch (λ q. eqb (q / countsOf g .pairs) (mag t)) (λ q. averagedBy j1 j2) (b .words) q fresh (on-word g start b q h)
+          (sym (getD-patch (λ q. eqb (q / sizesOf g .pairs) (mag t)) (λ q. averagedBy j1 j2) (b .words) q fresh (on-word g start b q h)
           ∙ ap (λ (u : Bool). cond u (averagedBy j1 j2) (wordAt b q)) f) ∙ w)
 
-      at-average : (t : ℤ) (j1 j2 : List ℤ) → bookNo g start b (average t j1 j2) ≡ 0 → (u : Bool) → eqb (q / countsOf g .pairs) (mag t) ≡ u → oneIf u ≡ 1
+      at-average : (t : ℤ) (j1 j2 : List ℤ) → bookNo g start b (average t j1 j2) ≡ 0 → (u : Bool) → eqb (q / sizesOf g .pairs) (mag t) ≡ u → oneIf u ≡ 1
           → wordAt (writes g b (average t j1 j2)) q ≡ averagedBy ids1 ids2
-          → (t′ : ℤ) × ((average t j1 j2 ≡ average t′ ids1 ids2) × ((q / countsOf g .pairs ≡ mag t′) × (bookNo g start b (average t j1 j2) ≡ 0)))
-      at-average t j1 j2 z true f s w = (t, (lists t j1 j2 f w, (eqb-true (q / countsOf g .pairs) (mag t) f, z)))
+          → (t′ : ℤ) × ((average t j1 j2 ≡ average t′ ids1 ids2) × ((q / sizesOf g .pairs ≡ mag t′) × (bookNo g start b (average t j1 j2) ≡ 0)))
+      at-average t j1 j2 z true f s w = (t, (lists t j1 j2 f w, (eqb-true (q / sizesOf g .pairs) (mag t) f, z)))
       at-average t j1 j2 z false f s w = absurd (omega arith)
 
-      go : (c : Call) (n : ℕ) → bookNo g start b c ≡ n → afterCall n (oneIf (averages (q / countsOf g .pairs) c)) 0 ≡ 1 → wordAt (afterCall n (writes g b c) b) q ≡ averagedBy ids1 ids2
-          → (t : ℤ) × ((c ≡ average t ids1 ids2) × ((q / countsOf g .pairs ≡ mag t) × (bookNo g start b c ≡ 0)))
+      go : (c : Call) (n : ℕ) → bookNo g start b c ≡ n → afterCall n (oneIf (averages (q / sizesOf g .pairs) c)) 0 ≡ 1 → wordAt (afterCall n (writes g b c) b) q ≡ averagedBy ids1 ids2
+          → (t : ℤ) × ((c ≡ average t ids1 ids2) × ((q / sizesOf g .pairs ≡ mag t) × (bookNo g start b c ≡ 0)))
       go (run t b1 b2) zero z s w = absurd (omega arith)
       go carry zero z s w = absurd (omega arith)
-      go (average t j1 j2) zero z s w = at-average t j1 j2 z (eqb (q / countsOf g .pairs) (mag t)) refl s w
+      go (average t j1 j2) zero z s w = at-average t j1 j2 z (eqb (q / sizesOf g .pairs) (mag t)) refl s w
       go c (suc n) z s w = absurd (omega arith)
 
   pub averaged-by : (q : ℕ) (ids1 ids2 : List ℤ) (b : Book) (calls : List Call) → On g start b q → isAveraged (wordAt b q) ≡ false
-      → wordAt (booked g start b calls) q ≡ averagedBy ids1 ids2 → AveragedBy g start b (q / countsOf g .pairs) ids1 ids2 calls
+      → wordAt (booked g start b calls) q ≡ averagedBy ids1 ids2 → AveragedBy g start b (q / sizesOf g .pairs) ids1 ids2 calls
   averaged-by q ids1 ids2 b [] h not-yet e = clash (sym not-yet ∙ ap isAveraged e)
   averaged-by q ids1 ids2 b (c ∷ calls) h not-yet e =
       go (isAveraged (wordAt (turn g start b c) q)) refl (λ f. averaged-by q ids1 ids2 (turn g start b c) calls (in-turn b c q h) f e)
     where
       go : (u : Bool) → isAveraged (wordAt (turn g start b c) q) ≡ u
-          → (isAveraged (wordAt (turn g start b c) q) ≡ false → AveragedBy g start (turn g start b c) (q / countsOf g .pairs) ids1 ids2 calls)
-          → AveragedBy g start b (q / countsOf g .pairs) ids1 ids2 (c ∷ calls)
+          → (isAveraged (wordAt (turn g start b c) q) ≡ false → AveragedBy g start (turn g start b c) (q / sizesOf g .pairs) ids1 ids2 calls)
+          → AveragedBy g start b (q / sizesOf g .pairs) ids1 ids2 (c ∷ calls)
       go true f later =
           let w : wordAt (turn g start b c) q ≡ averagedBy ids1 ids2 = sym (stays q (turn g start b c) calls (in-turn b c q h) f) ∙ e in
           let this : _ = turned q b c ids1 ids2 h not-yet w in

@@ -8,9 +8,9 @@ use lib.IntN.{ℤ}
 use lib.ListN.{length, getD, replicate}
 use Rattle.marks.specs.Bytes.{markAt, placesIn}
 use Rattle.book_claim.proofs.MarkWords.{unmarked-word}
-use Rattle.triplet_piece.specs.Study.{weightAt, flagAt}
-use Rattle.triplet_study.specs.Given.{Given, studyOf}
-use Rattle.sheet_step.specs.Steps.{Sheet, Call, carry, countsOf, piecesOf, averagedAt, averagedFlagAt, verdict}
+use Rattle.triplet_piece.specs.Weights.{weightAt, flagAt}
+use Rattle.triplet_study.specs.Study.{Study, sizesOf}
+use Rattle.sheet_step.specs.Steps.{Sheet, Call, carry, piecesOf, averagedAt, averagedFlagAt, verdict}
 use Rattle.book_claim.specs.Book.{pieceOfWeight, pieceOfFlag, wordAt, Word, Book, markOf, computedRow, computedFlagRow, weightBy, flagBy, wordOfWeight, wordOfFlag, render, opened, booked, bookAnswers}
 use Rattle.book_claim.specs.Lists.{played, answers}
 use Rattle.book_claim.specs.Counts.{runsAccepted, hasRun, averagings, AveragedBy, AreRefused}
@@ -19,10 +19,10 @@ use Rattle.book_claim.proofs.RunLaws.{weights-long, flags-long, marks-l
 use Rattle.book_claim.proofs.Demand3.{demand-3}
 use Rattle.book_claim.proofs.AlongLaws.{tally-along}
 use Rattle.book_claim.proofs.CutLaws.{played-cut, answers-cut, all-refused, none-open}
-use Rattle.book_claim.proofs.Words.{words-long, never-ran, ran, averaged, ran-weight, ran-flag, ran-marked, averaged-weight-on, averaged-flag-on, averaged-marked}
+use Rattle.book_claim.proofs.Words.{words-long, never-ran, ran, averaged, ran-placed, averaged-placed}
 
 -- a start on which no piece is marked, any content, any tally; and any list of calls
-module _ (g : Given) (start : Sheet) (unmarked : start .marks ≡ replicate (length (start .marks)) 0) (calls : List Call) where
+module _ (g : Study) (start : Sheet) (unmarked : start .marks ≡ replicate (length (start .marks)) 0) (calls : List Call) where
   pub is-book : played g start calls ≡ render g start (booked g start (opened g start) calls)
   is-book = demand-3 g start unmarked calls .0
 
@@ -60,7 +60,7 @@ module _ (g : Given) (start : Sheet) (unmarked : start .marks ≡ replicate (len
   unfolding render
   mark-is q l =
       ap (λ (s : Sheet). markAt (s .marks) q) is-book
-      ∙ unmarked-word (piecesOf (countsOf g)) (booked g start (opened g start) calls .words) (start .marks) (words-long g start calls) unmarked q l
+      ∙ unmarked-word (piecesOf (sizesOf g)) (booked g start (opened g start) calls .words) (start .marks) (words-long g start calls) unmarked q l
 
   -- ---- a piece that no accepted call has run: its entries hold their old content, its mark is 0
 
@@ -80,46 +80,46 @@ module _ (g : Given) (start : Sheet) (unmarked : start .marks ≡ replicate (len
   -- ---- one that an accepted call has run, of a triplet that none has averaged: its entries are the study's, its mark is 1
 
   pub computed-weight : (i : ℕ) (d : Float) → i < length (start .weights)
-      → hasRun g start (opened g start) (pieceOfWeight g i) calls ≡ true → averagings g start (opened g start) (pieceOfWeight g i / countsOf g .pairs) calls ≡ 0
-      → getD (played g start calls .weights) i d ≡ weightAt (studyOf g) i
+      → hasRun g start (opened g start) (pieceOfWeight g i) calls ≡ true → averagings g start (opened g start) (pieceOfWeight g i / sizesOf g .pairs) calls ≡ 0
+      → getD (played g start calls .weights) i d ≡ weightAt g i
   unfolding weightBy
   computed-weight i d h e n =
       weight-is i d h
-      ∙ ap (λ (w : Word). weightBy g w i (getD (start .weights) i d)) (ran g start calls (pieceOfWeight g i) (ran-weight g start calls (pieceOfWeight g i) e i h) e n)
+      ∙ ap (λ (w : Word). weightBy g w i (getD (start .weights) i d)) (ran g start calls (pieceOfWeight g i) (ran-placed g start calls (pieceOfWeight g i) e .weights i h) e n)
 
   pub computed-flag : (j : ℕ) (d : ℤ) → j < length (start .flags)
-      → hasRun g start (opened g start) (pieceOfFlag g j) calls ≡ true → averagings g start (opened g start) (pieceOfFlag g j / countsOf g .pairs) calls ≡ 0
-      → getD (played g start calls .flags) j d ≡ flagAt (studyOf g) j
+      → hasRun g start (opened g start) (pieceOfFlag g j) calls ≡ true → averagings g start (opened g start) (pieceOfFlag g j / sizesOf g .pairs) calls ≡ 0
+      → getD (played g start calls .flags) j d ≡ flagAt g j
   unfolding flagBy
   computed-flag j d h e n =
       flag-is j d h
-      ∙ ap (λ (w : Word). flagBy g w j (getD (start .flags) j d)) (ran g start calls (pieceOfFlag g j) (ran-flag g start calls (pieceOfFlag g j) e j h) e n)
+      ∙ ap (λ (w : Word). flagBy g w j (getD (start .flags) j d)) (ran g start calls (pieceOfFlag g j) (ran-placed g start calls (pieceOfFlag g j) e .flags j h) e n)
 
-  pub computed-mark : (q : ℕ) → q < piecesOf (countsOf g) → hasRun g start (opened g start) q calls ≡ true
-      → averagings g start (opened g start) (q / countsOf g .pairs) calls ≡ 0 → markAt (played g start calls .marks) q ≡ 1
-  computed-mark q h e n = mark-is q (ran-marked g start calls q e q h) ∙ ap markOf (ran g start calls q h e n)
+  pub computed-mark : (q : ℕ) → q < piecesOf (sizesOf g) → hasRun g start (opened g start) q calls ≡ true
+      → averagings g start (opened g start) (q / sizesOf g .pairs) calls ≡ 0 → markAt (played g start calls .marks) q ≡ 1
+  computed-mark q h e n = mark-is q (ran-placed g start calls q e .marks q h) ∙ ap markOf (ran g start calls q h e n)
 
   -- ---- one of a triplet of which an averaging was accepted: its entries are the average of the study's by that call's lists, its mark is 2
 
   pub averaged-weight : (i : ℕ) (d : Float) (ids1 ids2 : List ℤ) → i < length (start .weights)
-      → AveragedBy g start (opened g start) (pieceOfWeight g i / countsOf g .pairs) ids1 ids2 calls
-      → getD (played g start calls .weights) i d ≡ averagedAt (countsOf g) ids1 ids2 (computedRow g i) i
+      → AveragedBy g start (opened g start) (pieceOfWeight g i / sizesOf g .pairs) ids1 ids2 calls
+      → getD (played g start calls .weights) i d ≡ averagedAt (sizesOf g) ids1 ids2 (computedRow g i) i
   unfolding weightBy
   averaged-weight i d ids1 ids2 h a =
-      let on : _ = averaged-weight-on g start calls (pieceOfWeight g i / countsOf g .pairs) ids1 ids2 a i h in
+      let on : _ = averaged-placed g start calls (pieceOfWeight g i / sizesOf g .pairs) ids1 ids2 a .weights i h in
       weight-is i d h ∙ ap (λ (w : Word). weightBy g w i (getD (start .weights) i d)) (averaged g start calls (pieceOfWeight g i) ids1 ids2 on a)
 
   pub averaged-flag : (j : ℕ) (d : ℤ) (ids1 ids2 : List ℤ) → j < length (start .flags)
-      → AveragedBy g start (opened g start) (pieceOfFlag g j / countsOf g .pairs) ids1 ids2 calls
-      → getD (played g start calls .flags) j d ≡ averagedFlagAt (countsOf g) ids1 ids2 (computedFlagRow g j) j
+      → AveragedBy g start (opened g start) (pieceOfFlag g j / sizesOf g .pairs) ids1 ids2 calls
+      → getD (played g start calls .flags) j d ≡ averagedFlagAt (sizesOf g) ids1 ids2 (computedFlagRow g j) j
   unfolding flagBy
   averaged-flag j d ids1 ids2 h a =
-      let on : _ = averaged-flag-on g start calls (pieceOfFlag g j / countsOf g .pairs) ids1 ids2 a j h in
+      let on : _ = averaged-placed g start calls (pieceOfFlag g j / sizesOf g .pairs) ids1 ids2 a .flags j h in
       flag-is j d h ∙ ap (λ (w : Word). flagBy g w j (getD (start .flags) j d)) (averaged g start calls (pieceOfFlag g j) ids1 ids2 on a)
 
-  pub averaged-mark : (q : ℕ) (ids1 ids2 : List ℤ) → q < piecesOf (countsOf g) → AveragedBy g start (opened g start) (q / countsOf g .pairs) ids1 ids2 calls
+  pub averaged-mark : (q : ℕ) (ids1 ids2 : List ℤ) → q < piecesOf (sizesOf g) → AveragedBy g start (opened g start) (q / sizesOf g .pairs) ids1 ids2 calls
       → markAt (played g start calls .marks) q ≡ 2
-  averaged-mark q ids1 ids2 h a = mark-is q (averaged-marked g start calls (q / countsOf g .pairs) ids1 ids2 a q h) ∙ ap markOf (averaged g start calls q ids1 ids2 h a)
+  averaged-mark q ids1 ids2 h a = mark-is q (averaged-placed g start calls (q / sizesOf g .pairs) ids1 ids2 a .marks q h) ∙ ap markOf (averaged g start calls q ids1 ids2 h a)
 
   -- ---- the tally has grown by exactly the accepted runs
 
@@ -137,13 +137,13 @@ module _ (g : Given) (start : Sheet) (unmarked : start .marks ≡ replicate (len
 
 -- ---- from any sheet
 
-module _ (g : Given) (s : Sheet) (calls : List Call) where
+module _ (g : Study) (s : Sheet) (calls : List Call) where
   -- "a sheet on which every call is refused stays as it was"
   pub refused-stays : AreRefused (answers g s calls) → played g s calls ≡ s
   refused-stays r = all-refused g s calls r
 
   -- "A carry-on that ends with pieces open, by demand 3's marks: after an accepted one no 0 is left."
-  pub none-open-left : verdict g (played g s calls) carry ≡ 0 → (q : ℕ) → q < piecesOf (countsOf g)
+  pub none-open-left : verdict g (played g s calls) carry ≡ 0 → (q : ℕ) → q < piecesOf (sizesOf g)
       → markAt (played g s (calls ++ (carry ∷ [])) .marks) q ≡ 0 → ⊥
   none-open-left e q h z =
       none-open g (played g s calls) e q h (subst (λ (x : Sheet). markAt (x .marks) q ≡ 0) (played-cut g s calls (carry ∷ [])) z)

@@ -6,7 +6,7 @@ use Prim.Native.Nat.{ℕ, zero, suc, _<_}
 use native.Mathlib.Omega.{arith}
 use lib.Dec.{eqb}
 use borrow.Author.Tests.{eqb-false}
-use Rattle.triplet_study.specs.Given.{Given}
+use Rattle.triplet_study.specs.Study.{Study, sizesOf}
 use Rattle.sheet_marks.specs.declared.SheetAnswer.{SheetAnswer}
 use Rattle.sheet_marks.specs.Tallies.{sheetAnswer}
 use Rattle.marks.specs.Bytes.{markAt}
@@ -14,13 +14,13 @@ use Rattle.marks.specs.Marks.{closed}
 use Rattle.marks.proofs.BytesLaws.{place-in}
 use Rattle.marks.proofs.MarkLaws.{carried-mark}
 use Rattle.book_claim.proofs.AcceptedLaws.{accepted}
-use Rattle.sheet_step.specs.Steps.{piecesOf, countsOf, Sheet, Call, carry, verdict, effect, step, stepAnswer}
+use Rattle.sheet_step.specs.Steps.{piecesOf, Sheet, Call, carry, verdict, effect, step, stepAnswer}
 use Rattle.sheet_step.proofs.StepLaws.{refused-sheet, done-sheet}
 use Rattle.book_claim.specs.Book.{Book, turn, bookNo, booked, bookAnswers}
 use Rattle.book_claim.specs.Lists.{played, answers}
 use Rattle.book_claim.specs.Counts.{AreRefused}
 
-module _ (g : Given) where
+module _ (g : Study) where
   -- ---- "A cut leaves sheet and tally as the call before it left them"
 
   pub played-cut : (s : Sheet) (first rest : List Call) → played g s (first ++ rest) ≡ played g (played g s first) rest
@@ -61,9 +61,9 @@ module _ (g : Given) where
       go true e z = omega arith
       go false e z = eqb-false m 0 e z
 
-  pub none-open : (s : Sheet) → verdict g s carry ≡ 0 → (q : ℕ) → q < piecesOf (countsOf g) → markAt (step g s carry .marks) q ≡ 0 → ⊥
+  pub none-open : (s : Sheet) → verdict g s carry ≡ 0 → (q : ℕ) → q < piecesOf (sizesOf g) → markAt (step g s carry .marks) q ≡ 0 → ⊥
   unfolding effect
   none-open s e q h z =
       let read : markAt (effect g s carry .marks) q ≡ closed (markAt (s .marks) q)
-      = carried-mark (piecesOf (countsOf g)) q (s .marks) h (place-in (piecesOf (countsOf g)) (s .marks) q (accepted g s carry e .marked) h) in
+      = carried-mark (piecesOf (sizesOf g)) q (s .marks) h (place-in (piecesOf (sizesOf g)) (s .marks) q (accepted g s carry e .marked) h) in
       closed-not-open (markAt (s .marks) q) (sym read ∙ subst (λ (x : Sheet). markAt (x .marks) q ≡ 0) (sym (done-sheet g s carry e)) z)

@@ -9,12 +9,12 @@ use lib.ListN.{length, getD, replicate}
 use borrow.Author.Tests.{ne-eqb}
 use Rattle.list_laws.specs.Lists.{oneIf}
 use Rattle.ask.specs.Ask.{afterCall}
-use Rattle.triplet_study.specs.Given.{Given}
+use Rattle.triplet_study.specs.Study.{Study, sizesOf}
 use Rattle.sheet_marks.specs.declared.SheetAnswer.{SheetAnswer}
 use Rattle.ask.specs.Answers.{answerOf}
 use Rattle.marks.specs.Marks.{isOpenMark}
 use Rattle.marks.proofs.MarkLaws.{open-at}
-use Rattle.sheet_step.specs.Steps.{Sheet, Call, run, carry, average, countsOf, piecesOf, step, stepAnswer}
+use Rattle.sheet_step.specs.Steps.{Sheet, Call, run, carry, average, piecesOf, step, stepAnswer}
 use Rattle.book_claim.specs.Book.{wordAt, Book, render, bookNo, turn, opened, booked}
 use Rattle.book_claim.specs.Lists.{played, answers}
 use Rattle.book_claim.specs.Counts.{runsOf, runsAccepted, runsPiece, hasRun, averages, averagings}
@@ -36,7 +36,7 @@ done-zero (suc n) = sym (ne-eqb (suc n) 0 (λ e. omega arith))
 or-same : {a b c d : Bool} → a ≡ b → c ≡ d → (a || c) ≡ (b || d)
 or-same e f = rw (e, f)
 
-module _ (g : Given) (start : Sheet) where
+module _ (g : Study) (start : Sheet) where
   -- ---- one call on the sheet that a book stands for
 
   -- what counts where the answer is Done counts where the book accepts
@@ -48,7 +48,7 @@ module _ (g : Given) (start : Sheet) where
       go zero e = e refl
       go (suc n) e = refl
 
-  same-runs : (b : Book) (c : Call) → length (b .words) ≡ piecesOf (countsOf g) → bookNo g start b c ≡ 0 → runsOn g (render g start b) c ≡ runsOf b c
+  same-runs : (b : Book) (c : Call) → length (b .words) ≡ piecesOf (sizesOf g) → bookNo g start b c ≡ 0 → runsOn g (render g start b) c ≡ runsOf b c
   same-runs b (run t b1 b2) long z = refl
   same-runs b carry long z = open-runs g start b long (yes g start b carry z)
   same-runs b (average t ids1 ids2) long z = refl
@@ -57,14 +57,14 @@ module _ (g : Given) (start : Sheet) where
   unfolding render isOpenMark
   same-piece b q (run t b1 b2) h z = refl
   same-piece b q carry h z =
-      open-at (piecesOf (countsOf g)) q (render g start b .marks) (h .1)
-      ∙ ap (λ (m : ℕ). eqb m 0) (mark-word (piecesOf (countsOf g)) (b .words) (start .marks) q (h .1) (mark-on g start b carry (yes g start b carry z) q (h .1)))
+      open-at (piecesOf (sizesOf g)) q (render g start b .marks) (h .1)
+      ∙ ap (λ (m : ℕ). eqb m 0) (mark-word (piecesOf (sizesOf g)) (b .words) (start .marks) q (h .1) (mark-on g start b carry (yes g start b carry z) q (h .1)))
       ∙ open-mark (wordAt b q)
   same-piece b q (average t ids1 ids2) h z = refl
 
   -- ---- a list of calls, from any book
 
-  runs-along : (calls : List Call) (b : Book) → length (b .words) ≡ piecesOf (countsOf g) → (s : Sheet) → s ≡ render g start b → runsDone g s calls ≡ runsAccepted g start b calls
+  runs-along : (calls : List Call) (b : Book) → length (b .words) ≡ piecesOf (sizesOf g) → (s : Sheet) → s ≡ render g start b → runsDone g s calls ≡ runsAccepted g start b calls
   runs-along [] b long s e = refl
   runs-along (c ∷ calls) b long s e =
       ap₂ (λ (m n : ℕ). m + n) (rw e (counted b c (runsOn g (render g start b) c) (runsOf b c) 0 (same-runs b c long)))
@@ -78,20 +78,20 @@ module _ (g : Given) (start : Sheet) where
       or-same first
       (ran-along q calls (turn g start b c) (step g s c) (rw e (same-step g start b (h .0) c)) (turn-long g start b c ∙ h .0, h .1))
 
-  averagings-along : (t : ℕ) (calls : List Call) (b : Book) → length (b .words) ≡ piecesOf (countsOf g) → (s : Sheet) → s ≡ render g start b → averagingsDone g s t calls ≡ averagings g start b t calls
+  averagings-along : (t : ℕ) (calls : List Call) (b : Book) → length (b .words) ≡ piecesOf (sizesOf g) → (s : Sheet) → s ≡ render g start b → averagingsDone g s t calls ≡ averagings g start b t calls
   averagings-along t [] b long s e = refl
   averagings-along t (c ∷ calls) b long s e =
       ap₂ (λ (m n : ℕ). m + n) (rw e (counted b c (oneIf (averages t c)) (oneIf (averages t c)) 0 (λ _. refl)))
       (averagings-along t calls (turn g start b c) (turn-long g start b c ∙ long) (step g s c) (rw e (same-step g start b long c)))
 
 -- the answer to a call of a list is that of its entry on the sheet that the calls before it left
-pub answer-at : (g : Given) (s : Sheet) (before : List Call) (c : Call) (after : List Call) (d : SheetAnswer)
+pub answer-at : (g : Study) (s : Sheet) (before : List Call) (c : Call) (after : List Call) (d : SheetAnswer)
     → getD (answers g s (before ++ (c ∷ after))) (length before) d ≡ stepAnswer g (played g s before) c
 answer-at g s [] c after d = refl
 answer-at g s (x ∷ before) c after d = answer-at g (step g s x) before c after d
 
 -- a start on which no piece is marked, any content, any tally; and any list of calls
-module _ (g : Given) (start : Sheet) (unmarked : start .marks ≡ replicate (length (start .marks)) 0) (calls : List Call) where
+module _ (g : Study) (start : Sheet) (unmarked : start .marks ≡ replicate (length (start .marks)) 0) (calls : List Call) where
   -- a call after the list is answered Done exactly where the book accepts it
   pub accepted-done : (c : Call) → isDone (stepAnswer g (played g start calls) c .answer) ≡ eqb (bookNo g start (booked g start (opened g start) calls) c) 0
   unfolding bookNo
@@ -106,7 +106,7 @@ module _ (g : Given) (start : Sheet) (unmarked : start .marks ≡ replicate (len
   tally-done = rw (← runs-done) (tally-is g start unmarked calls)
 
   -- a piece has run where a call answered Done has run it
-  pub ran-done : (q : ℕ) → q < piecesOf (countsOf g) → hasRun g start (opened g start) q calls ≡ ranDone g start q calls
+  pub ran-done : (q : ℕ) → q < piecesOf (sizesOf g) → hasRun g start (opened g start) q calls ≡ ranDone g start q calls
   ran-done q h = sym (ran-along g start q calls (opened g start) start (opened-is g start unmarked) (opened-long g start, h))
 
   -- the accepted averagings of a triplet are those answered Done

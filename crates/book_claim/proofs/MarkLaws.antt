@@ -5,9 +5,9 @@ use mathlib.Core.List.{List}
 use Prim.Native.Nat.{ℕ, _<_}
 use lib.ListN.{length, getD, replicate}
 use borrow.Author.Tests.{not-true, not-false}
-use Rattle.triplet_study.specs.Given.{Given}
+use Rattle.triplet_study.specs.Study.{Study, sizesOf}
 use Rattle.marks.specs.Bytes.{markAt, placesIn}
-use Rattle.sheet_step.specs.Steps.{Sheet, Call, countsOf, piecesOf}
+use Rattle.sheet_step.specs.Steps.{Sheet, Call, piecesOf}
 use Rattle.book_claim.specs.Book.{wordAt, Word, fresh, computed, averagedBy, isOpen, markOf, weightBy, flagBy, opened, booked}
 use Rattle.book_claim.specs.Lists.{played}
 use Rattle.book_claim.specs.Counts.{hasRun}
@@ -16,7 +16,7 @@ use Rattle.book_claim.proofs.Words.{word-ran, word-averaged, averaged-o
 use Rattle.book_claim.proofs.Corollaries.{weight-is, flag-is, mark-is}
 
 -- a start on which no piece is marked, any content, any tally; any list of calls; and a piece
-module _ (g : Given) (start : Sheet) (unmarked : start .marks ≡ replicate (length (start .marks)) 0) (calls : List Call) (q : ℕ) (on : q < piecesOf (countsOf g)) where
+module _ (g : Study) (start : Sheet) (unmarked : start .marks ≡ replicate (length (start .marks)) 0) (calls : List Call) (q : ℕ) (on : q < piecesOf (sizesOf g)) where
   -- its entries are what its word says
   by-word : (w : Word) → wordAt (booked g start (opened g start) calls) q ≡ w → Entries g start calls q (weightBy g w) (flagBy g w)
   by-word w e =

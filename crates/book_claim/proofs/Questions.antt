@@ -10,13 +10,14 @@ use Rattle.list_laws.specs.Signed.{isBelow}
 use Rattle.list_laws.proofs.BoolLaws.{clash}
 use Rattle.ask.specs.Ask.{firstNo, AllYes}
 use Rattle.ask.proofs.AskLaws.{all-yes, none-no, FirstNo, first-no, is-first, group-yes}
-use Rattle.triplet_study.specs.Given.{Given, givenQuestions}
-use Rattle.triplet_study.proofs.GivenLaws.{given-numbered}
+use Rattle.triplet_study.specs.Study.{Study, sizesOf}
+use Rattle.triplet_study.specs.Questions.{studyQuestions}
+use Rattle.triplet_study.proofs.StudyLaws.{study-numbered}
 use Rattle.marks.specs.Marks.{isAveragedAt, areMarks, isNotAveraged}
-use Rattle.sheet_step.specs.Steps.{piecesOf, Sheet, Call, run, average, countsOf, areSheetLengths, isPiece, sheetQuestions, ownQuestions, callQuestions, verdict}
+use Rattle.sheet_step.specs.Steps.{piecesOf, Sheet, Call, run, average, areSheetLengths, isPiece, sheetQuestions, ownQuestions, callQuestions, verdict}
 use Rattle.book_claim.proofs.AcceptedLaws.{accepted, call-numbered}
 
-module _ (g : Given) (s : Sheet) (c : Call) where
+module _ (g : Study) (s : Sheet) (c : Call) where
   -- ---- accepted exactly when every question of the call says yes
 
   pub accepted-yes : verdict g s c ≡ 0 → AllYes (callQuestions g s c)
@@ -39,8 +40,8 @@ module _ (g : Given) (s : Sheet) (c : Call) where
 
 -- ---- a triplet whose first mark is 2: no run of a piece of it and no averaging of it is accepted
 
-module _ (g : Given) (s : Sheet) (t : ℤ) (averaged : isAveragedAt (s .marks) (mag t * countsOf g .pairs) ≡ true) where
-  fifteen : isNotAveraged (countsOf g .pairs) (s .marks) (mag t) ≡ false
+module _ (g : Study) (s : Sheet) (t : ℤ) (averaged : isAveragedAt (s .marks) (mag t * sizesOf g .pairs) ≡ true) where
+  fifteen : isNotAveraged (sizesOf g .pairs) (s .marks) (mag t) ≡ false
   unfolding isNotAveraged
   fifteen = ap not averaged
 
@@ -52,18 +53,18 @@ module _ (g : Given) (s : Sheet) (t : ℤ) (averaged : isAveragedAt (s .marks) (
 
 -- ---- and where the questions before say yes, both are refused with 15
 
-module _ (g : Given) (s : Sheet) (t : ℤ) (study : firstNo (givenQuestions g) ≡ 0)
-    (lengths : areSheetLengths (countsOf g) (length (s .weights)) (length (s .flags)) (length (s .marks)) ≡ true)
-    (marks : areMarks (countsOf g .pairs) (piecesOf (countsOf g)) (s .marks) ≡ true)
-    (averaged : isAveragedAt (s .marks) (mag t * countsOf g .pairs) ≡ true) where
-  pub averaged-average : (ids1 ids2 : List ℤ) → isBelow t (countsOf g .triplets) ≡ true → verdict g s (average t ids1 ids2) ≡ 15
+module _ (g : Study) (s : Sheet) (t : ℤ) (study : firstNo (studyQuestions g) ≡ 0)
+    (lengths : areSheetLengths (sizesOf g) (length (s .weights)) (length (s .flags)) (length (s .marks)) ≡ true)
+    (marks : areMarks (sizesOf g .pairs) (piecesOf (sizesOf g)) (s .marks) ≡ true)
+    (averaged : isAveragedAt (s .marks) (mag t * sizesOf g .pairs) ≡ true) where
+  pub averaged-average : (ids1 ids2 : List ℤ) → isBelow t (sizesOf g .triplets) ≡ true → verdict g s (average t ids1 ids2) ≡ 15
   unfolding verdict firstNo
   averaged-average ids1 ids2 on =
-      group-yes (givenQuestions g) (sheetQuestions (countsOf g) (length (s .weights)) (length (s .flags)) (s .marks) ++ ownQuestions g s (average t ids1 ids2)) (given-numbered g) study
+      group-yes (studyQuestions g) (sheetQuestions (sizesOf g) (length (s .weights)) (length (s .flags)) (s .marks) ++ ownQuestions g s (average t ids1 ids2)) (study-numbered g) study
       ∙ rw (lengths, marks, on, fifteen g s t averaged)
 
-  pub averaged-run : (b1 b2 : ℤ) → isPiece (countsOf g) t b1 b2 ≡ true → verdict g s (run t b1 b2) ≡ 15
+  pub averaged-run : (b1 b2 : ℤ) → isPiece (sizesOf g) t b1 b2 ≡ true → verdict g s (run t b1 b2) ≡ 15
   unfolding verdict firstNo
   averaged-run b1 b2 on =
-      group-yes (givenQuestions g) (sheetQuestions (countsOf g) (length (s .weights)) (length (s .flags)) (s .marks) ++ ownQuestions g s (run t b1 b2)) (given-numbered g) study
+      group-yes (studyQuestions g) (sheetQuestions (sizesOf g) (length (s .weights)) (length (s .flags)) (s .marks) ++ ownQuestions g s (run t b1 b2)) (study-numbered g) study
       ∙ rw (lengths, marks, on, fifteen g s t averaged)

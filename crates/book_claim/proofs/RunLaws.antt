@@ -8,23 +8,23 @@ use lib.ListN.{length, getD}
 use Rattle.list_laws.specs.Lists.{countBelow}
 use Rattle.list_laws.proofs.MapLaws.{getD-map-lt}
 use Rattle.triplet_piece.specs.Layout.{pieceAt}
-use Rattle.triplet_piece.specs.Study.{computedWeights, computedFlags}
-use Rattle.triplet_study.specs.Given.{Given}
+use Rattle.triplet_piece.specs.Weights.{computedWeights, computedFlags}
+use Rattle.triplet_study.specs.Study.{Study, sizesOf}
 use Rattle.marks.specs.Bytes.{placesIn, Holds}
 use Rattle.marks.specs.Marks.{openPieces}
 use Rattle.marks.proofs.BytesLaws.{all-in, place-in, holds-same}
-use Rattle.sheet_step.specs.Steps.{Sheet, sheet, Call, run, carry, countsOf, piecesOf, pieceOf, effect}
+use Rattle.sheet_step.specs.Steps.{Sheet, sheet, Call, run, carry, piecesOf, pieceOf, effect}
 use Rattle.book_claim.specs.Book.{fresh, Book, isOpen, openWords, carried, weightBy, flagBy, wordOfWeight, wordOfFlag, render, writes}
 use Rattle.book_claim.proofs.EntryLaws.{length-each, patch-each}
 use Rattle.book_claim.proofs.WordLaws.{run-entry, carry-entry}
 use Rattle.book_claim.proofs.MarkWords.{length-words, run-marks, carry-marks, open-count}
 use Rattle.book_claim.proofs.PlaceLaws.{factor-pos, piece-lt}
-use Rattle.book_claim.proofs.AcceptedLaws.{Accepted, named}
+use Rattle.book_claim.proofs.AcceptedLaws.{Accepted, counts, named}
 
 pub sheet-same : {s s′ : Sheet} → s .weights ≡ s′ .weights → s .flags ≡ s′ .flags → s .marks ≡ s′ .marks → s .tally ≡ s′ .tally → s ≡ s′
 sheet-same a b c d = λ i. sheet (a i) (b i) (c i) (d i)
 
-module _ (g : Given) (start : Sheet) (b : Book) where
+module _ (g : Study) (start : Sheet) (b : Book) where
   -- ---- lengths
 
   pub weights-long : length (render g start b .weights) ≡ length (start .weights)
@@ -37,36 +37,36 @@ module _ (g : Given) (start : Sheet) (b : Book) where
 
   pub marks-long : length (render g start b .marks) ≡ length (start .marks)
   unfolding render
-  marks-long = length-words (piecesOf (countsOf g)) (b .words) (start .marks)
+  marks-long = length-words (piecesOf (sizesOf g)) (b .words) (start .marks)
 
   -- ---- on an accepted call: the piece of a weight's place, and of a flag's, is one of the pieces
 
   module _ (c : Call) (a : Accepted g (render g start b) c) where
-    pub flag-on : (j : ℕ) → j < length (start .flags) → pieceAt (countsOf g .points) (countsOf g .pairs) j < piecesOf (countsOf g)
+    pub flag-on : (j : ℕ) → j < length (start .flags) → pieceAt (sizesOf g .points) (sizesOf g .pairs) j < piecesOf (sizesOf g)
     flag-on j h =
-        let e : length (start .flags) ≡ countsOf g .triplets * countsOf g .points * countsOf g .pairs = sym flags-long ∙ a .fits .flagged ∙ a .fits .cells in
-        piece-lt (countsOf g .points) (countsOf g .pairs) (countsOf g .triplets) (a .some) (a .fits .some) j (rw e at h)
+        let e : length (start .flags) ≡ sizesOf g .triplets * sizesOf g .points * sizesOf g .pairs = sym flags-long ∙ a .ready .fits .flagged ∙ counts a .cells-are in
+        piece-lt (sizesOf g .points) (sizesOf g .pairs) (sizesOf g .triplets) (counts a .pairs-some) (counts a .points-some) j (rw e at h)
 
-    pub weight-on : (i : ℕ) → i < length (start .weights) → pieceAt (countsOf g .points) (countsOf g .pairs) (i % countsOf g .cells) < piecesOf (countsOf g)
+    pub weight-on : (i : ℕ) → i < length (start .weights) → pieceAt (sizesOf g .points) (sizesOf g .pairs) (i % sizesOf g .cells) < piecesOf (sizesOf g)
     weight-on i h =
-        let e : length (start .weights) ≡ countsOf g .channels * countsOf g .cells = sym weights-long ∙ a .fits .weighed in
-        let k : i % countsOf g .cells < countsOf g .cells = mod-lt i (factor-pos i (countsOf g .channels) (countsOf g .cells) (rw e at h)) in
-        let m : i % countsOf g .cells < countsOf g .triplets * countsOf g .points * countsOf g .pairs = subst (λ (n : ℕ). i % countsOf g .cells < n) (a .fits .cells) k in
-        piece-lt (countsOf g .points) (countsOf g .pairs) (countsOf g .triplets) (a .some) (a .fits .some) (i % countsOf g .cells) m
+        let e : length (start .weights) ≡ sizesOf g .channels * sizesOf g .cells = sym weights-long ∙ a .ready .fits .weighed in
+        let k : i % sizesOf g .cells < sizesOf g .cells = mod-lt i (factor-pos i (sizesOf g .channels) (sizesOf g .cells) (rw e at h)) in
+        let m : i % sizesOf g .cells < sizesOf g .triplets * sizesOf g .points * sizesOf g .pairs = subst (λ (n : ℕ). i % sizesOf g .cells < n) (counts a .cells-are) k in
+        piece-lt (sizesOf g .points) (sizesOf g .pairs) (sizesOf g .triplets) (counts a .pairs-some) (counts a .points-some) (i % sizesOf g .cells) m
 
     -- every piece has a mark
-    pub all-marked : Holds (piecesOf (countsOf g)) (start .marks)
-    all-marked = holds-same (piecesOf (countsOf g)) (render g start b .marks) (start .marks) (sym marks-long) (a .marked)
+    pub all-marked : Holds (piecesOf (sizesOf g)) (start .marks)
+    all-marked = holds-same (piecesOf (sizesOf g)) (render g start b .marks) (start .marks) (sym marks-long) (a .marked)
 
-    pub mark-on : (q : ℕ) → q < piecesOf (countsOf g) → q < placesIn (start .marks)
-    mark-on q h = place-in (piecesOf (countsOf g)) (start .marks) q all-marked h
+    pub mark-on : (q : ℕ) → q < piecesOf (sizesOf g) → q < placesIn (start .marks)
+    mark-on q h = place-in (piecesOf (sizesOf g)) (start .marks) q all-marked h
 
-  module _ (long : length (b .words) ≡ piecesOf (countsOf g)) where
+  module _ (long : length (b .words) ≡ piecesOf (sizesOf g)) where
     -- the open pieces of the marks are those of the words
-    pub open-runs : Accepted g (render g start b) carry → openPieces (piecesOf (countsOf g)) (render g start b .marks) ≡ openWords (b .words)
+    pub open-runs : Accepted g (render g start b) carry → openPieces (piecesOf (sizesOf g)) (render g start b .marks) ≡ openWords (b .words)
     unfolding render openWords
     open-runs a =
-        open-count (piecesOf (countsOf g)) (b .words) (start .marks) (all-in (piecesOf (countsOf g)) (start .marks) (all-marked carry a))
+        open-count (piecesOf (sizesOf g)) (b .words) (start .marks) (all-in (piecesOf (sizesOf g)) (start .marks) (all-marked carry a))
         ∙ ap (λ (n : ℕ). countBelow n (λ q. isOpen (getD (b .words) q fresh))) (sym long)
 
     -- ---- a run
@@ -74,15 +74,15 @@ module _ (g : Given) (start : Sheet) (b : Book) where
     pub run-same : (t b1 b2 : ℤ) → Accepted g (render g start b) (run t b1 b2) → effect g (render g start b) (run t b1 b2) ≡ render g start (writes g b (run t b1 b2))
     unfolding effect render writes computedWeights computedFlags weightBy flagBy
     run-same t b1 b2 a =
-        let q : ℕ = pieceOf (countsOf g) t b1 b2 in
-        let on : q < piecesOf (countsOf g) = named g (render g start b) t b1 b2 a in
+        let q : ℕ = pieceOf (sizesOf g) t b1 b2 in
+        let on : q < piecesOf (sizesOf g) = named g (render g start b) t b1 b2 a in
         let h : q < length (b .words) = rw long on in
         sheet-same
         (patch-each _ _ _ _ (start .weights)
-        (λ i _ x. run-entry (b .words) q (pieceAt (countsOf g .points) (countsOf g .pairs) (i % countsOf g .cells)) (λ w old. weightBy g w i old) _ x h refl))
+        (λ i _ x. run-entry (b .words) q (pieceAt (sizesOf g .points) (sizesOf g .pairs) (i % sizesOf g .cells)) (λ w old. weightBy g w i old) _ x h refl))
         (patch-each _ _ _ _ (start .flags)
-        (λ j _ x. run-entry (b .words) q (pieceAt (countsOf g .points) (countsOf g .pairs) j) (λ w old. flagBy g w j old) _ x h refl))
-        (run-marks (piecesOf (countsOf g)) (b .words) (start .marks) q on long) refl
+        (λ j _ x. run-entry (b .words) q (pieceAt (sizesOf g .points) (sizesOf g .pairs) j) (λ w old. flagBy g w j old) _ x h refl))
+        (run-marks (piecesOf (sizesOf g)) (b .words) (start .marks) q on long) refl
 
     -- ---- a carry-on
 
@@ -91,10 +91,10 @@ module _ (g : Given) (start : Sheet) (b : Book) where
     carry-same a =
         sheet-same
         (patch-each _ _ _ _ (start .weights)
-        (λ i h x. let on : pieceAt (countsOf g .points) (countsOf g .pairs) (i % countsOf g .cells) < piecesOf (countsOf g) = weight-on carry a i h in
-        carry-entry (b .words) (start .marks) (piecesOf (countsOf g)) (pieceAt (countsOf g .points) (countsOf g .pairs) (i % countsOf g .cells)) (λ w old. weightBy g w i old) _ x on (rw long on) (mark-on carry a _ on) refl))
+        (λ i h x. let on : pieceAt (sizesOf g .points) (sizesOf g .pairs) (i % sizesOf g .cells) < piecesOf (sizesOf g) = weight-on carry a i h in
+        carry-entry (b .words) (start .marks) (piecesOf (sizesOf g)) (pieceAt (sizesOf g .points) (sizesOf g .pairs) (i % sizesOf g .cells)) (λ w old. weightBy g w i old) _ x on (rw long on) (mark-on carry a _ on) refl))
         (patch-each _ _ _ _ (start .flags)
-        (λ j h x. let on : pieceAt (countsOf g .points) (countsOf g .pairs) j < piecesOf (countsOf g) = flag-on carry a j h in
-        carry-entry (b .words) (start .marks) (piecesOf (countsOf g)) (pieceAt (countsOf g .points) (countsOf g .pairs) j) (λ w old. flagBy g w j old) _ x on (rw long on) (mark-on carry a _ on) refl))
-        (carry-marks (piecesOf (countsOf g)) (b .words) (start .marks) (map carried (b .words)) (λ q l. getD-map-lt carried (b .words) q fresh fresh (rw long l)))
+        (λ j h x. let on : pieceAt (sizesOf g .points) (sizesOf g .pairs) j < piecesOf (sizesOf g) = flag-on carry a j h in
+        carry-entry (b .words) (start .marks) (piecesOf (sizesOf g)) (pieceAt (sizesOf g .points) (sizesOf g .pairs) j) (λ w old. flagBy g w j old) _ x on (rw long on) (mark-on carry a _ on) refl))
+        (carry-marks (piecesOf (sizesOf g)) (b .words) (start .marks) (map carried (b .words)) (λ q l. getD-map-lt carried (b .words) q fresh fresh (rw long l)))
         (ap (λ (n : ℕ). b .tally + n) (open-runs a))

@@ -8,11 +8,11 @@ use lib.IntN.{ℤ}
 use lib.Signed.{mag}
 use Rattle.list_laws.specs.Lists.{oneIf}
 use Rattle.ask.specs.Ask.{afterCall}
-use Rattle.triplet_study.specs.Given.{Given}
+use Rattle.triplet_study.specs.Study.{Study, sizesOf}
 use Rattle.ask.specs.declared.Answer.{Answer}
 use Rattle.ask.specs.declared.Answer.the-variants.{Done, Refused}
 use Rattle.sheet_marks.specs.declared.SheetAnswer.{SheetAnswer}
-use Rattle.sheet_step.specs.Steps.{Sheet, Call, run, carry, average, countsOf, pieceOf}
+use Rattle.sheet_step.specs.Steps.{Sheet, Call, run, carry, average, pieceOf}
 use Rattle.book_claim.specs.Book.{wordAt, Word, fresh, computed, averagedBy, Book, isOpen, openWords, bookNo, turn, booked}
 
 -- ---- "The tally counts accepted runs, repeats included"
@@ -24,20 +24,20 @@ runsOf b carry = openWords (b .words)
 runsOf b (average t ids1 ids2) = 0
 
 -- the accepted runs of a list of calls
-abbrev pub runsAccepted : Given → Sheet → Book → List Call → ℕ
+abbrev pub runsAccepted : Study → Sheet → Book → List Call → ℕ
 runsAccepted g start b [] = 0
 runsAccepted g start b (c ∷ calls) = afterCall (bookNo g start b c) (runsOf b c) 0 + runsAccepted g start (turn g start b c) calls
 
 -- ---- one piece: whether it has been run
 
 -- whether a call runs piece q: it names it, or carries on while the piece is open
-abbrev pub runsPiece : Given → Book → ℕ → Call → Bool
-runsPiece g b q (run t b1 b2) = eqb q (pieceOf (countsOf g) t b1 b2)
+abbrev pub runsPiece : Study → Book → ℕ → Call → Bool
+runsPiece g b q (run t b1 b2) = eqb q (pieceOf (sizesOf g) t b1 b2)
 runsPiece g b q carry = isOpen (wordAt b q)
 runsPiece g b q (average t ids1 ids2) = false
 
 -- whether an accepted call of the list has run it
-abbrev pub hasRun : Given → Sheet → Book → ℕ → List Call → Bool
+abbrev pub hasRun : Study → Sheet → Book → ℕ → List Call → Bool
 hasRun g start b q [] = false
 hasRun g start b q (c ∷ calls) = afterCall (bookNo g start b c) (runsPiece g b q c) false || hasRun g start (turn g start b c) q calls
 
@@ -50,12 +50,12 @@ averages t carry = false
 averages t (average t′ ids1 ids2) = eqb t (mag t′)
 
 -- the accepted averagings of triplet t in a list of calls
-abbrev pub averagings : Given → Sheet → Book → ℕ → List Call → ℕ
+abbrev pub averagings : Study → Sheet → Book → ℕ → List Call → ℕ
 averagings g start b t [] = 0
 averagings g start b t (c ∷ calls) = afterCall (bookNo g start b c) (oneIf (averages t c)) 0 + averagings g start (turn g start b c) t calls
 
 -- the list has an accepted averaging of triplet t with these lists
-pub record AveragedBy (g : Given) (start : Sheet) (b : Book) (t : ℕ) (ids1 ids2 : List ℤ) (calls : List Call) : Type 0 where
+pub record AveragedBy (g : Study) (start : Sheet) (b : Book) (t : ℕ) (ids1 ids2 : List ℤ) (calls : List Call) : Type 0 where
   pub before : List Call
   pub after : List Call
   pub named : ℤ
