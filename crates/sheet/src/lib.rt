@@ -49,7 +49,7 @@ pub fn run_piece(
     ensures { λ r. ⌜ Did (studyIn shape addresses «gp_map» «relative_grid_address» frequencies1 frequencies2 «frequency_points» triplets)
         (sheetIn weights flags marks (tally .runs)) (run triplet b1 b2) r (sheetOut weights flags marks (r .tally .runs)) ⌝ }
 {
-    let no = sheet_step::kernel::asks::common_no(
+    let no = sheet_step::kernel::asks::common_first_no(
         shape,
         addresses,
         gp_map,
@@ -70,7 +70,7 @@ pub fn run_piece(
     let bz_grid_type = shape.bz_grid_type;
     let d_diag = shape.d_diag;
     let tp = triplet_types::kernel::tp_type_of(tp_type);
-    let grid = bzgrid::kernel::grid_of(bz_grid_type, d_diag);
+    let grid = bzgrid_lookup::kernel::grid_of(bz_grid_type, d_diag);
     let second = triplet_corners::kernel::second_steps(tp, relative_grid_address);
     let m = relative_grid_address.len();
     let rows = m / 12;
@@ -142,7 +142,7 @@ pub fn carry_on(
     ensures { λ r. ⌜ Did (studyIn shape addresses «gp_map» «relative_grid_address» frequencies1 frequencies2 «frequency_points» triplets)
         (sheetIn weights flags marks (tally .runs)) carry r (sheetOut weights flags marks (r .tally .runs)) ⌝ }
 {
-    let no = sheet_step::kernel::asks::common_no(
+    let no = sheet_step::kernel::asks::common_first_no(
         shape,
         addresses,
         gp_map,
@@ -163,7 +163,7 @@ pub fn carry_on(
     let bz_grid_type = shape.bz_grid_type;
     let d_diag = shape.d_diag;
     let tp = triplet_types::kernel::tp_type_of(tp_type);
-    let grid = bzgrid::kernel::grid_of(bz_grid_type, d_diag);
+    let grid = bzgrid_lookup::kernel::grid_of(bz_grid_type, d_diag);
     let second = triplet_corners::kernel::second_steps(tp, relative_grid_address);
     let m = relative_grid_address.len();
     let rows = m / 12;
@@ -235,7 +235,7 @@ pub fn average_triplet(
     ensures { λ r. ⌜ Did (studyIn shape addresses «gp_map» «relative_grid_address» frequencies1 frequencies2 «frequency_points» triplets)
         (sheetIn weights flags marks (tally .runs)) (average triplet (now («degenerate_ids1» .entry)) (now («degenerate_ids2» .entry))) r (sheetOut weights flags marks (r .tally .runs)) ⌝ }
 {
-    let no = sheet_step::kernel::asks::common_no(
+    let no = sheet_step::kernel::asks::common_first_no(
         shape,
         addresses,
         gp_map,

@@ -7,8 +7,8 @@ use lib.IntN.{ℤ}
 use lib.ListN.{length}
 use Rattle.list_laws.proofs.PatchLaws.{length-patch}
 use Rattle.ask.specs.Ask.{firstNo}
-use Rattle.bzgrid.specs.declared.BzGrid.{BzGrid}
-use Rattle.bzgrid.specs.Neighbours.{gridOf}
+use Rattle.bzgrid_lookup.specs.declared.BzGrid.{BzGrid}
+use Rattle.bzgrid_lookup.specs.Neighbours.{gridOf}
 use Rattle.triplet_types.specs.declared.TpType.{TpType}
 use Rattle.triplet_types.specs.Types.{tpTypeOf}
 use Rattle.triplet_piece.specs.declared.Sizes.{Sizes}

@@ -15,7 +15,7 @@ use Rattle.ask.specs.Ask.{Question, firstNo}
 use Rattle.question_grids.specs.Grids.{areTriples}
 use Rattle.question_grids.specs.Tables.{rowsIn}
 use Rattle.ask.proofs.AskLaws.{group-no, group-yes, after-done}
-use Rattle.bzgrid.specs.declared.BzGrid.{BzGrid}
+use Rattle.bzgrid_lookup.specs.declared.BzGrid.{BzGrid}
 use Rattle.triplet_types.specs.declared.TpType.{TpType}
 use Rattle.triplet_piece.specs.declared.Sizes.{Sizes}
 use Rattle.triplet_piece.specs.Study.{Study, study, Ready, computedWeights, computedFlags}
@@ -76,9 +76,9 @@ module _ (g : Given) (s : Sheet) {z : Sizes} (y : commonNo g s ≡ 0) (ez : z �
     own-average : firstNo (averageQuestions z (s .weights) (s .marks) t ids1 ids2) ≡ verdict g s (average t ids1 ids2)
     own-average = ap (λ (x : Sizes). firstNo (averageQuestions x (s .weights) (s .marks) t ids1 ids2)) (ez) ∙ sym (verdict-own g s (average t ids1 ids2) y)
 
-    pub average-no : {n : ℕ} → n ≡ firstNo (averageQuestions z (s .weights) (s .marks) t ids1 ids2) → (n ≡ 0 → ⊥)
+    pub average-first-no : {n : ℕ} → n ≡ firstNo (averageQuestions z (s .weights) (s .marks) t ids1 ids2) → (n ≡ 0 → ⊥)
         → Called g s (average t ids1 ids2) n s
-    average-no {n} e h = called-no g s (average t ids1 ids2) n (sym (e ∙ own-average)) h
+    average-first-no {n} e h = called-no g s (average t ids1 ids2) n (sym (e ∙ own-average)) h
 
     module _ (e : firstNo (averageQuestions z (s .weights) (s .marks) t ids1 ids2) ≡ 0) (nt : ℕ) (et : nt ≡ mag t) where
       -- what the averages of weights and of flags require

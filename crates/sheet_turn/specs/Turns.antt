@@ -8,8 +8,8 @@ use lib.IntN.{ℤ}
 use lib.ListN.{length}
 use Rattle.ask.specs.Ask.{firstNo}
 use Rattle.question_grids.specs.Tables.{rowsIn}
-use Rattle.bzgrid.specs.declared.BzGrid.{BzGrid}
-use Rattle.bzgrid.specs.Neighbours.{gridOf}
+use Rattle.bzgrid_lookup.specs.declared.BzGrid.{BzGrid}
+use Rattle.bzgrid_lookup.specs.Neighbours.{gridOf}
 use Rattle.triplet_types.specs.declared.TpType.{TpType}
 use Rattle.triplet_types.specs.Types.{tpTypeOf}
 use Rattle.triplet_corners.specs.Corners.{secondSteps}

@@ -9,7 +9,7 @@ ghost use Rattle.sheet_fill.specs.Kept.{CornersKept};
 ghost use Rattle.sheet_turn.specs.Turns.{sheetNow, commonNo, Prepared};
 use crate::Turn;
 use ask::kernel::number_of;
-use bzgrid::BzGrid;
+use bzgrid_lookup::BzGrid;
 use marks::kernel as mark;
 use sheet_marks::Tally;
 use sheet_step::kernel::asks;
@@ -57,7 +57,7 @@ pub fn run_asked(
     ensures { λ r. ⌜ Called (studyIn shape addresses «gp_map» steps frequencies1 frequencies2 points triplets) (sheetIn weights flags marks runs) (run triplet b1 b2) (r .no) (sheetOut weights flags marks (r .runs)) ⌝ }
     ensures { λ r. ⌜ CornersKept (studyOf (studyIn shape addresses «gp_map» steps frequencies1 frequencies2 points triplets)) (z .triplets) (r .held) (now (numbers1 .exit)) (now (numbers2 .exit)) × Areas (now (f1 .exit)) (now (f2 .exit)) (now (a0 .exit)) (now (a1 .exit)) (now (a2 .exit)) (now (p0 .exit)) (now (p1 .exit)) (now (p2 .exit)) ⌝ }
 {
-    let own = asks::piece_no(z, marks, triplet, b1, b2);
+    let own = asks::piece_first_no(z, marks, triplet, b1, b2);
     if own != 0 {
         return Turn {
             no: own,
@@ -77,9 +77,9 @@ pub fn run_asked(
             held,
         };
     }
-    let t = common::kernel::magnitude(triplet);
-    let n1 = common::kernel::magnitude(b1);
-    let n2 = common::kernel::magnitude(b2);
+    let t = numbers::kernel::magnitude(triplet);
+    let n1 = numbers::kernel::magnitude(b1);
+    let n2 = numbers::kernel::magnitude(b2);
     sheet_fill::kernel::run::fill_named(
         f1,
         f2,
@@ -231,11 +231,11 @@ pub fn average_asked(
     requires { ⌜ (commonNo (studyNow shape addresses «gp_map» steps frequencies1 frequencies2 points triplets) (sheetNow weights flags marks runs) ≡ 0) × (z ≡ countsOf (studyNow shape addresses «gp_map» steps frequencies1 frequencies2 points triplets)) ⌝ }
     ensures { λ r. ⌜ Called (studyIn shape addresses «gp_map» steps frequencies1 frequencies2 points triplets) (sheetIn weights flags marks runs) (average triplet (now (ids1 .entry)) (now (ids2 .entry))) r (sheetOut weights flags marks runs) ⌝ }
 {
-    let own = asks::average_no(z, weights, marks, triplet, ids1, ids2);
+    let own = asks::average_first_no(z, weights, marks, triplet, ids1, ids2);
     if own != 0 {
         return own;
     }
-    let t = common::kernel::magnitude(triplet);
+    let t = numbers::kernel::magnitude(triplet);
     sheet_fill::kernel::average::average_weights(z, weights, t, ids1, ids2);
     sheet_fill::kernel::average::average_flags(z, flags, t, ids1, ids2);
     let pairs = z.pairs;

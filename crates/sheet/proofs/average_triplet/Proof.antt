@@ -22,8 +22,8 @@ start s = sheet (s .args .weights .now) (s .args .flags .now) (s .args .marks .n
 
 -- ---- the facts that the checker asks for
 
-common-no-requires : tie.Need-common-no-requires
-common-no-requires c κs = search needs
+common-first-no-requires : tie.Need-common-first-no-requires
+common-first-no-requires c κs = search needs
 
 refused-requires : tie.Need-refused-requires
 refused-requires c κs = search needs
@@ -34,18 +34,18 @@ same-length c = search needs
 returns : tie.Need-returns
 returns c =
     let s : _ = c .before .before .before .before .before .before .before .before .before in
-    common-refused (asked s) (start s) (average (s .args .triplet) (s .args .degenerate-ids1 .now) (s .args .degenerate-ids2 .now)) (c .before .before .common-no .result) _ (c .before .before .common-no .ensures) (c .before .if1 .taken) (c .refused .ensures)
+    common-refused (asked s) (start s) (average (s .args .triplet) (s .args .degenerate-ids1 .now) (s .args .degenerate-ids2 .now)) (c .before .before .common-first-no .result) _ (c .before .before .common-first-no .ensures) (c .before .if1 .taken) (c .refused .ensures)
 
 sizes-of-requires : tie.Need-sizes-of-requires
 sizes-of-requires c κs =
     let s : _ = c .before .before .before .before .before .before .before .before in
-    let y = sym (c .before .common-no .ensures) ∙ c .if1 .left in
+    let y = sym (c .before .common-first-no .ensures) ∙ c .if1 .left in
     few-counts (asked s) (given-yes (asked s) (start s) carry y)
 
 average-asked-requires : tie.Need-average-asked-requires
 average-asked-requires c κs =
     let s : _ = c .before .before .before .before .before .before .before .before .before .before .before .before in
-    let y = sym (c .before .before .before .before .before .common-no .ensures) ∙ c .before .before .before .before .if1 .left in
+    let y = sym (c .before .before .before .before .before .common-first-no .ensures) ∙ c .before .before .before .before .if1 .left in
     (y, c .before .before .before .sizes-of .ensures ∙ sizes-same (asked s))
 
 answer-of-requires : tie.Need-answer-of-requires
@@ -69,7 +69,7 @@ pub average-triplet-spec : {M : Type 1} → statement M
 average-triplet-spec =
     tie.close
     (tie.spec
-    common-no-requires
+    common-first-no-requires
     refused-requires
     same-length
     returns

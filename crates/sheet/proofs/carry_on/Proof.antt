@@ -26,8 +26,8 @@ start s = sheet (s .args .weights .now) (s .args .flags .now) (s .args .marks .n
 
 -- ---- the facts that the checker asks for
 
-common-no-requires : tie.Need-common-no-requires
-common-no-requires c κs = search needs
+common-first-no-requires : tie.Need-common-first-no-requires
+common-first-no-requires c κs = search needs
 
 refused-requires : tie.Need-refused-requires
 refused-requires c κs = search needs
@@ -38,12 +38,12 @@ same-length c = search needs
 returns : tie.Need-returns
 returns c =
     let s : _ = c .before .before .before .before .before .before .before .before .before in
-    common-refused (asked s) (start s) carry (c .before .before .common-no .result) _ (c .before .before .common-no .ensures) (c .before .if1 .taken) (c .refused .ensures)
+    common-refused (asked s) (start s) carry (c .before .before .common-first-no .result) _ (c .before .before .common-first-no .ensures) (c .before .if1 .taken) (c .refused .ensures)
 
 sizes-of-requires : tie.Need-sizes-of-requires
 sizes-of-requires c κs =
     let s : _ = c .before .before .before .before .before .before .before .before in
-    let y = sym (c .before .common-no .ensures) ∙ c .if1 .left in
+    let y = sym (c .before .common-first-no .ensures) ∙ c .if1 .left in
     few-counts (asked s) (given-yes (asked s) (start s) carry y)
 
 tp-type-of-requires : tie.Need-tp-type-of-requires
@@ -55,14 +55,14 @@ grid-of-requires c κs = search needs
 second-steps-requires : tie.Need-second-steps-requires
 second-steps-requires c κs =
     let s : _ = c .before .before .before .before .before .before .before .before .before .before .before .before .before .before in
-    let y = sym (c .before .before .before .before .before .before .before .common-no .ensures) ∙ c .before .before .before .before .before .before .if1 .left in
+    let y = sym (c .before .before .before .before .before .before .before .common-first-no .ensures) ∙ c .before .before .before .before .before .before .if1 .left in
     let q = steps-yes (asked s) (start s) y in
     (omega (arith, q .1 .0, q .1 .1), q .0)
 
 array-share-prefix-second : tie.Need-array-share-prefix-second
 array-share-prefix-second c =
     let s : _ = c .before .before .before .before .before .before .before .before .before .before .before .before .before .before .before .before .before .before .before .before .before .before .before .before .before .before .before .before in
-    let y = sym (c .before .before .before .before .before .before .before .before .before .before .before .before .before .before .before .before .before .before .before .before .before .common-no .ensures) ∙ c .before .before .before .before .before .before .before .before .before .before .before .before .before .before .before .before .before .before .before .before .if1 .left in
+    let y = sym (c .before .before .before .before .before .before .before .before .before .before .before .before .before .before .before .before .before .before .before .before .before .common-first-no .ensures) ∙ c .before .before .before .before .before .before .before .before .before .before .before .before .before .before .before .before .before .before .before .before .if1 .left in
     let q = steps-yes (asked s) (start s) y in
     let b : length (s .args .relative-grid-address .now) ≤ 1152 = omega (arith, q .1 .0, q .1 .1) in
     copy-fits (c .before .before .before .before .before .before .before .before .before .before .before .before .before .before .before .tp-type-of .result) (s .args .relative-grid-address .now) (c .before .before .before .before .before .before .before .before .before .before .before .before .before .second-steps .result) (c .before .before .before .before .before .before .before .before .before .before .before .before .before .second-steps .ensures) b
@@ -75,7 +75,7 @@ slice-aggregate-carry-asked c =
 carry-asked-requires : tie.Need-carry-asked-requires
 carry-asked-requires c κs =
     let s : _ = c .before .before .before .before .before .before .before .before .before .before .before .before .before .before .before .before .before .before .before .before .before .before .before .before .before .before .before .before .before in
-    let y = sym (c .before .before .before .before .before .before .before .before .before .before .before .before .before .before .before .before .before .before .before .before .before .before .common-no .ensures) ∙ c .before .before .before .before .before .before .before .before .before .before .before .before .before .before .before .before .before .before .before .before .before .if1 .left in
+    let y = sym (c .before .before .before .before .before .before .before .before .before .before .before .before .before .before .before .before .before .before .before .before .before .before .common-first-no .ensures) ∙ c .before .before .before .before .before .before .before .before .before .before .before .before .before .before .before .before .before .before .before .before .before .if1 .left in
     let p : Prepared (asked s) (c .before .before .before .before .before .before .before .before .before .before .before .before .before .before .before .before .before .before .before .before .sizes-of .result) (c .before .before .before .before .before .before .before .before .before .before .before .before .before .before .before .before .tp-type-of .result) (c .before .before .before .before .before .before .before .before .before .before .before .before .before .before .before .grid-of .result) _ _ = record {
       counts = c .before .before .before .before .before .before .before .before .before .before .before .before .before .before .before .before .before .before .before .before .sizes-of .ensures ∙ sizes-same (asked s);
       type = rw (back (s .args .shape .«tp_type») (c .before .before .before .before .before .before .before .before .before .before .before .before .before .before .before .before .before .before .before .struct-told .given .1 .1 .0 .1)) at (c .before .before .before .before .before .before .before .before .before .before .before .before .before .before .before .before .tp-type-of .ensures);
@@ -106,7 +106,7 @@ pub carry-on-spec : {M : Type 1} → statement M
 carry-on-spec =
     tie.close
     (tie.spec
-    common-no-requires
+    common-first-no-requires
     refused-requires
     same-length
     returns

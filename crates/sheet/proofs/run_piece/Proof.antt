@@ -28,8 +28,8 @@ start s = sheet (s .args .weights .now) (s .args .flags .now) (s .args .marks .n
 
 -- ---- the facts that the checker asks for
 
-common-no-requires : tie.Need-common-no-requires
-common-no-requires c κs = search needs
+common-first-no-requires : tie.Need-common-first-no-requires
+common-first-no-requires c κs = search needs
 
 refused-requires : tie.Need-refused-requires
 refused-requires c κs = search needs
@@ -40,12 +40,12 @@ same-length c = search needs
 returns : tie.Need-returns
 returns c =
     let s : _ = c .before .before .before .before .before .before .before .before .before in
-    common-refused (asked s) (start s) (run (s .args .triplet) (s .args .b1) (s .args .b2)) (c .before .before .common-no .result) _ (c .before .before .common-no .ensures) (c .before .if1 .taken) (c .refused .ensures)
+    common-refused (asked s) (start s) (run (s .args .triplet) (s .args .b1) (s .args .b2)) (c .before .before .common-first-no .result) _ (c .before .before .common-first-no .ensures) (c .before .if1 .taken) (c .refused .ensures)
 
 sizes-of-requires : tie.Need-sizes-of-requires
 sizes-of-requires c κs =
     let s : _ = c .before .before .before .before .before .before .before .before in
-    let y = sym (c .before .common-no .ensures) ∙ c .if1 .left in
+    let y = sym (c .before .common-first-no .ensures) ∙ c .if1 .left in
     few-counts (asked s) (given-yes (asked s) (start s) carry y)
 
 tp-type-of-requires : tie.Need-tp-type-of-requires
@@ -57,14 +57,14 @@ grid-of-requires c κs = search needs
 second-steps-requires : tie.Need-second-steps-requires
 second-steps-requires c κs =
     let s : _ = c .before .before .before .before .before .before .before .before .before .before .before .before .before .before in
-    let y = sym (c .before .before .before .before .before .before .before .common-no .ensures) ∙ c .before .before .before .before .before .before .if1 .left in
+    let y = sym (c .before .before .before .before .before .before .before .common-first-no .ensures) ∙ c .before .before .before .before .before .before .if1 .left in
     let q = steps-yes (asked s) (start s) y in
     (omega (arith, q .1 .0, q .1 .1), q .0)
 
 array-share-prefix-second : tie.Need-array-share-prefix-second
 array-share-prefix-second c =
     let s : _ = c .before .before .before .before .before .before .before .before .before .before .before .before .before .before .before .before .before .before .before .before .before .before .before .before .before .before .before .before in
-    let y = sym (c .before .before .before .before .before .before .before .before .before .before .before .before .before .before .before .before .before .before .before .before .before .common-no .ensures) ∙ c .before .before .before .before .before .before .before .before .before .before .before .before .before .before .before .before .before .before .before .before .if1 .left in
+    let y = sym (c .before .before .before .before .before .before .before .before .before .before .before .before .before .before .before .before .before .before .before .before .before .common-first-no .ensures) ∙ c .before .before .before .before .before .before .before .before .before .before .before .before .before .before .before .before .before .before .before .before .if1 .left in
     let q = steps-yes (asked s) (start s) y in
     let b : length (s .args .relative-grid-address .now) ≤ 1152 = omega (arith, q .1 .0, q .1 .1) in
     copy-fits (c .before .before .before .before .before .before .before .before .before .before .before .before .before .before .before .tp-type-of .result) (s .args .relative-grid-address .now) (c .before .before .before .before .before .before .before .before .before .before .before .before .before .second-steps .result) (c .before .before .before .before .before .before .before .before .before .before .before .before .before .second-steps .ensures) b
@@ -77,7 +77,7 @@ slice-aggregate-run-asked c =
 run-asked-requires : tie.Need-run-asked-requires
 run-asked-requires c κs =
     let s : _ = c .before .before .before .before .before .before .before .before .before .before .before .before .before .before .before .before .before .before .before .before .before .before .before .before .before .before .before .before .before in
-    let y = sym (c .before .before .before .before .before .before .before .before .before .before .before .before .before .before .before .before .before .before .before .before .before .before .common-no .ensures) ∙ c .before .before .before .before .before .before .before .before .before .before .before .before .before .before .before .before .before .before .before .before .before .if1 .left in
+    let y = sym (c .before .before .before .before .before .before .before .before .before .before .before .before .before .before .before .before .before .before .before .before .before .before .common-first-no .ensures) ∙ c .before .before .before .before .before .before .before .before .before .before .before .before .before .before .before .before .before .before .before .before .before .if1 .left in
     let p : Prepared (asked s) (c .before .before .before .before .before .before .before .before .before .before .before .before .before .before .before .before .before .before .before .before .sizes-of .result) (c .before .before .before .before .before .before .before .before .before .before .before .before .before .before .before .before .tp-type-of .result) (c .before .before .before .before .before .before .before .before .before .before .before .before .before .before .before .grid-of .result) _ _ = record {
       counts = c .before .before .before .before .before .before .before .before .before .before .before .before .before .before .before .before .before .before .before .before .sizes-of .ensures ∙ sizes-same (asked s);
       type = rw (back (s .args .shape .«tp_type») (c .before .before .before .before .before .before .before .before .before .before .before .before .before .before .before .before .before .before .before .struct-told .given .1 .1 .0 .1)) at (c .before .before .before .before .before .before .before .before .before .before .before .before .before .before .before .before .tp-type-of .ensures);
@@ -108,7 +108,7 @@ pub run-piece-spec : {M : Type 1} → statement M
 run-piece-spec =
     tie.close
     (tie.spec
-    common-no-requires
+    common-first-no-requires
     refused-requires
     same-length
     returns

@@ -23,8 +23,8 @@ start s = sheet (s .args .weights .now) (s .args .flags .now) (s .args .marks .n
 
 -- ---- the facts that the checker asks for
 
-piece-no-requires : tie.Need-piece-no-requires
-piece-no-requires c κs =
+piece-first-no-requires : tie.Need-piece-first-no-requires
+piece-first-no-requires c κs =
     let s : _ = c .before .before .before .before .before .before in
     let y = s .pre .0 .0 in
     let p = s .pre .0 .1 in
@@ -38,7 +38,7 @@ returns c =
     let s : _ = c .before .before .before .before .before .before .before .before in
     let y = s .pre .0 .0 in
     let p = s .pre .0 .1 in
-    let o = rw (toZ-ofZ w64 (s .args .triplet) (s .fits .triplet), toZ-ofZ w64 (s .args .b1) (s .fits .b1), toZ-ofZ w64 (s .args .b2) (s .fits .b2)) at (c .before .piece-no .ensures) in
+    let o = rw (toZ-ofZ w64 (s .args .triplet) (s .fits .triplet), toZ-ofZ w64 (s .args .b1) (s .fits .b1), toZ-ofZ w64 (s .args .b2) (s .fits .b2)) at (c .before .piece-first-no .ensures) in
     (run-no (asked s) (start s) y p (s .args .triplet) (s .args .b1) (s .args .b2) o (c .if1 .taken), s .pre .1)
 
 add-requires : tie.Need-add-requires
@@ -55,7 +55,7 @@ returns-2 c =
     let s : _ = c .before .before .before .before .before .before .before .before .before .before .before in
     let y = s .pre .0 .0 in
     let p = s .pre .0 .1 in
-    let o = rw (toZ-ofZ w64 (s .args .triplet) (s .fits .triplet), toZ-ofZ w64 (s .args .b1) (s .fits .b1), toZ-ofZ w64 (s .args .b2) (s .fits .b2)) at (c .before .before .before .before .piece-no .ensures) in
+    let o = rw (toZ-ofZ w64 (s .args .triplet) (s .fits .triplet), toZ-ofZ w64 (s .args .b1) (s .fits .b1), toZ-ofZ w64 (s .args .b2) (s .fits .b2)) at (c .before .before .before .before .piece-first-no .ensures) in
     let e = sym o ∙ c .before .before .before .if1 .left in
     (run-full (asked s) (start s) y p (s .args .triplet) (s .args .b1) (s .args .b2) e (added-no (s .args .runs) 1 (c .before .before .add .ensures) (c .before .number-of .ensures)) (c .if2 .taken), s .pre .1)
 
@@ -73,7 +73,7 @@ fill-named-requires c κs =
     let s : _ = c .before .before .before .before .before .before .before .before .before .before .before .before .before .before .before .before .before .before .before .before .before .before .before .before .before .before in
     let y = s .pre .0 .0 in
     let p = s .pre .0 .1 in
-    let o = rw (toZ-ofZ w64 (s .args .triplet) (s .fits .triplet), toZ-ofZ w64 (s .args .b1) (s .fits .b1), toZ-ofZ w64 (s .args .b2) (s .fits .b2)) at (c .before .before .before .before .before .before .before .before .before .before .before .before .before .before .before .before .before .before .before .piece-no .ensures) in
+    let o = rw (toZ-ofZ w64 (s .args .triplet) (s .fits .triplet), toZ-ofZ w64 (s .args .b1) (s .fits .b1), toZ-ofZ w64 (s .args .b2) (s .fits .b2)) at (c .before .before .before .before .before .before .before .before .before .before .before .before .before .before .before .before .before .before .before .piece-first-no .ensures) in
     let e = sym o ∙ c .before .before .before .before .before .before .before .before .before .before .before .before .before .before .before .before .before .before .if1 .left in
     let nt = c .before .before .before .before .before .before .before .before .before .before .before .before .before .before .magnitude .ensures ∙ ap mag (toZ-ofZ w64 (s .args .triplet) (s .fits .triplet)) in
     let n1 = c .before .before .before .before .before .before .before .before .before .before .before .before .before .magnitude2 .ensures ∙ ap mag (toZ-ofZ w64 (s .args .b1) (s .fits .b1)) in
@@ -85,7 +85,7 @@ mul-set-mark c =
     let s : _ = c .before .before .before .before .before .before .before .before .before .before .before .before .before .before .before .before .before .before .before .before .before .before .before .before .before .before .before .before .before .before .before in
     let y = s .pre .0 .0 in
     let p = s .pre .0 .1 in
-    let o = rw (toZ-ofZ w64 (s .args .triplet) (s .fits .triplet), toZ-ofZ w64 (s .args .b1) (s .fits .b1), toZ-ofZ w64 (s .args .b2) (s .fits .b2)) at (c .before .before .before .before .before .before .before .before .before .before .before .before .before .before .before .before .before .before .before .before .before .before .before .before .piece-no .ensures) in
+    let o = rw (toZ-ofZ w64 (s .args .triplet) (s .fits .triplet), toZ-ofZ w64 (s .args .b1) (s .fits .b1), toZ-ofZ w64 (s .args .b2) (s .fits .b2)) at (c .before .before .before .before .before .before .before .before .before .before .before .before .before .before .before .before .before .before .before .before .before .before .before .before .piece-first-no .ensures) in
     let e = sym o ∙ c .before .before .before .before .before .before .before .before .before .before .before .before .before .before .before .before .before .before .before .before .before .before .before .if1 .left in
     let nt = c .before .before .before .before .before .before .before .before .before .before .before .before .before .before .before .before .before .before .before .magnitude .ensures ∙ ap mag (toZ-ofZ w64 (s .args .triplet) (s .fits .triplet)) in
     let n1 = c .before .before .before .before .before .before .before .before .before .before .before .before .before .before .before .before .before .before .magnitude2 .ensures ∙ ap mag (toZ-ofZ w64 (s .args .b1) (s .fits .b1)) in
@@ -97,7 +97,7 @@ mul-set-mark-2 c =
     let s : _ = c .before .before .before .before .before .before .before .before .before .before .before .before .before .before .before .before .before .before .before .before .before .before .before .before .before .before .before .before .before .before .before in
     let y = s .pre .0 .0 in
     let p = s .pre .0 .1 in
-    let o = rw (toZ-ofZ w64 (s .args .triplet) (s .fits .triplet), toZ-ofZ w64 (s .args .b1) (s .fits .b1), toZ-ofZ w64 (s .args .b2) (s .fits .b2)) at (c .before .before .before .before .before .before .before .before .before .before .before .before .before .before .before .before .before .before .before .before .before .before .before .before .piece-no .ensures) in
+    let o = rw (toZ-ofZ w64 (s .args .triplet) (s .fits .triplet), toZ-ofZ w64 (s .args .b1) (s .fits .b1), toZ-ofZ w64 (s .args .b2) (s .fits .b2)) at (c .before .before .before .before .before .before .before .before .before .before .before .before .before .before .before .before .before .before .before .before .before .before .before .before .piece-first-no .ensures) in
     let e = sym o ∙ c .before .before .before .before .before .before .before .before .before .before .before .before .before .before .before .before .before .before .before .before .before .before .before .if1 .left in
     let nt = c .before .before .before .before .before .before .before .before .before .before .before .before .before .before .before .before .before .before .before .magnitude .ensures ∙ ap mag (toZ-ofZ w64 (s .args .triplet) (s .fits .triplet)) in
     let n1 = c .before .before .before .before .before .before .before .before .before .before .before .before .before .before .before .before .before .before .magnitude2 .ensures ∙ ap mag (toZ-ofZ w64 (s .args .b1) (s .fits .b1)) in
@@ -109,7 +109,7 @@ add-set-mark c =
     let s : _ = c .before .before .before .before .before .before .before .before .before .before .before .before .before .before .before .before .before .before .before .before .before .before .before .before .before .before .before .before .before .before .before in
     let y = s .pre .0 .0 in
     let p = s .pre .0 .1 in
-    let o = rw (toZ-ofZ w64 (s .args .triplet) (s .fits .triplet), toZ-ofZ w64 (s .args .b1) (s .fits .b1), toZ-ofZ w64 (s .args .b2) (s .fits .b2)) at (c .before .before .before .before .before .before .before .before .before .before .before .before .before .before .before .before .before .before .before .before .before .before .before .before .piece-no .ensures) in
+    let o = rw (toZ-ofZ w64 (s .args .triplet) (s .fits .triplet), toZ-ofZ w64 (s .args .b1) (s .fits .b1), toZ-ofZ w64 (s .args .b2) (s .fits .b2)) at (c .before .before .before .before .before .before .before .before .before .before .before .before .before .before .before .before .before .before .before .before .before .before .before .before .piece-first-no .ensures) in
     let e = sym o ∙ c .before .before .before .before .before .before .before .before .before .before .before .before .before .before .before .before .before .before .before .before .before .before .before .if1 .left in
     let nt = c .before .before .before .before .before .before .before .before .before .before .before .before .before .before .before .before .before .before .before .magnitude .ensures ∙ ap mag (toZ-ofZ w64 (s .args .triplet) (s .fits .triplet)) in
     let n1 = c .before .before .before .before .before .before .before .before .before .before .before .before .before .before .before .before .before .before .magnitude2 .ensures ∙ ap mag (toZ-ofZ w64 (s .args .b1) (s .fits .b1)) in
@@ -121,7 +121,7 @@ add-set-mark-2 c =
     let s : _ = c .before .before .before .before .before .before .before .before .before .before .before .before .before .before .before .before .before .before .before .before .before .before .before .before .before .before .before .before .before .before .before in
     let y = s .pre .0 .0 in
     let p = s .pre .0 .1 in
-    let o = rw (toZ-ofZ w64 (s .args .triplet) (s .fits .triplet), toZ-ofZ w64 (s .args .b1) (s .fits .b1), toZ-ofZ w64 (s .args .b2) (s .fits .b2)) at (c .before .before .before .before .before .before .before .before .before .before .before .before .before .before .before .before .before .before .before .before .before .before .before .before .piece-no .ensures) in
+    let o = rw (toZ-ofZ w64 (s .args .triplet) (s .fits .triplet), toZ-ofZ w64 (s .args .b1) (s .fits .b1), toZ-ofZ w64 (s .args .b2) (s .fits .b2)) at (c .before .before .before .before .before .before .before .before .before .before .before .before .before .before .before .before .before .before .before .before .before .before .before .before .piece-first-no .ensures) in
     let e = sym o ∙ c .before .before .before .before .before .before .before .before .before .before .before .before .before .before .before .before .before .before .before .before .before .before .before .if1 .left in
     let nt = c .before .before .before .before .before .before .before .before .before .before .before .before .before .before .before .before .before .before .before .magnitude .ensures ∙ ap mag (toZ-ofZ w64 (s .args .triplet) (s .fits .triplet)) in
     let n1 = c .before .before .before .before .before .before .before .before .before .before .before .before .before .before .before .before .before .before .magnitude2 .ensures ∙ ap mag (toZ-ofZ w64 (s .args .b1) (s .fits .b1)) in
@@ -133,7 +133,7 @@ set-mark-requires c κs =
     let s : _ = c .before .before .before .before .before .before .before .before .before .before .before .before .before .before .before .before .before .before .before .before .before .before .before .before .before .before .before .before .before .before .before in
     let y = s .pre .0 .0 in
     let p = s .pre .0 .1 in
-    let o = rw (toZ-ofZ w64 (s .args .triplet) (s .fits .triplet), toZ-ofZ w64 (s .args .b1) (s .fits .b1), toZ-ofZ w64 (s .args .b2) (s .fits .b2)) at (c .before .before .before .before .before .before .before .before .before .before .before .before .before .before .before .before .before .before .before .before .before .before .before .before .piece-no .ensures) in
+    let o = rw (toZ-ofZ w64 (s .args .triplet) (s .fits .triplet), toZ-ofZ w64 (s .args .b1) (s .fits .b1), toZ-ofZ w64 (s .args .b2) (s .fits .b2)) at (c .before .before .before .before .before .before .before .before .before .before .before .before .before .before .before .before .before .before .before .before .before .before .before .before .piece-first-no .ensures) in
     let e = sym o ∙ c .before .before .before .before .before .before .before .before .before .before .before .before .before .before .before .before .before .before .before .before .before .before .before .if1 .left in
     let nt = c .before .before .before .before .before .before .before .before .before .before .before .before .before .before .before .before .before .before .before .magnitude .ensures ∙ ap mag (toZ-ofZ w64 (s .args .triplet) (s .fits .triplet)) in
     let n1 = c .before .before .before .before .before .before .before .before .before .before .before .before .before .before .before .before .before .before .magnitude2 .ensures ∙ ap mag (toZ-ofZ w64 (s .args .b1) (s .fits .b1)) in
@@ -154,7 +154,7 @@ returns-3 c =
     let s : _ = c .before .before .before .before .before .before .before .before .before .before .before .before .before .before .before .before .before .before .before .before .before .before .before .before .before .before .before .before .before .before .before .before .before .before .before in
     let y = s .pre .0 .0 in
     let p = s .pre .0 .1 in
-    let o = rw (toZ-ofZ w64 (s .args .triplet) (s .fits .triplet), toZ-ofZ w64 (s .args .b1) (s .fits .b1), toZ-ofZ w64 (s .args .b2) (s .fits .b2)) at (c .before .before .before .before .before .before .before .before .before .before .before .before .before .before .before .before .before .before .before .before .before .before .before .before .before .before .before .before .piece-no .ensures) in
+    let o = rw (toZ-ofZ w64 (s .args .triplet) (s .fits .triplet), toZ-ofZ w64 (s .args .b1) (s .fits .b1), toZ-ofZ w64 (s .args .b2) (s .fits .b2)) at (c .before .before .before .before .before .before .before .before .before .before .before .before .before .before .before .before .before .before .before .before .before .before .before .before .before .before .before .before .piece-first-no .ensures) in
     let e = sym o ∙ c .before .before .before .before .before .before .before .before .before .before .before .before .before .before .before .before .before .before .before .before .before .before .before .before .before .before .before .if1 .left in
     let nt = c .before .before .before .before .before .before .before .before .before .before .before .before .before .before .before .before .before .before .before .before .before .before .before .magnitude .ensures ∙ ap mag (toZ-ofZ w64 (s .args .triplet) (s .fits .triplet)) in
     let n1 = c .before .before .before .before .before .before .before .before .before .before .before .before .before .before .before .before .before .before .before .before .before .before .magnitude2 .ensures ∙ ap mag (toZ-ofZ w64 (s .args .b1) (s .fits .b1)) in
@@ -169,7 +169,7 @@ pub run-asked-spec : {M : Type 1} → statement M
 run-asked-spec =
     tie.close
     (tie.spec
-    piece-no-requires
+    piece-first-no-requires
     same-length
     returns
     add-requires
