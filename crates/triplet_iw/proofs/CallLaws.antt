@@ -1,11 +1,9 @@
 -- The number of the first no of a call by the tests that it makes, and what the yes to all of them tells. Assumes nothing.
-use mathlib.Core.Path.{_≡_, refl, sym, _∙_}
+use mathlib.Core.Path.{_≡_, sym, _∙_}
 use mathlib.Core.Bool.{Bool, true, false}
 use mathlib.Core.List.{[], _∷_}
-use Prim.Native.Nat.{ℕ, zero, suc}
+use Prim.Native.Nat.{ℕ}
 use native.Mathlib.Omega.{arith}
-use Rattle.ask.specs.declared.Answer.the-variants.{Done, Refused}
-use Rattle.ask.specs.Answers.{answerOf}
 use Rattle.ask.specs.Ask.{asks, firstNo}
 use Rattle.ask.proofs.AskLaws.{group-no, group-yes}
 use Rattle.triplet_study.specs.declared.Sizes.{Sizes}
@@ -50,13 +48,3 @@ module _ (s : Study) (weights flags no : ℕ) (e : no ≡ firstNo (studyQuestion
 
       pub study-ready : Ready (study (z .shape) (s .addresses) (s .gp-map) (s .steps) (s .frequencies1) (s .frequencies2) (s .points) (s .triplets)) z weights flags
       study-ready = ready-shaped (ready s z weights flags (sym e ∙ q) c y)
-
--- ---- the answer
-
-pub done-is : (n : ℕ) → n ≡ 0 → Done ≡ answerOf n
-done-is zero e = refl
-done-is (suc n) e = absurd (omega arith)
-
-pub refused-is : (n m : ℕ) → m ≡ n → (n ≡ 0 → ⊥) → Refused n ≡ answerOf m
-refused-is zero m e h = absurd (h refl)
-refused-is (suc n) m e h = rw e

@@ -29,7 +29,7 @@ use Rattle.triplet_study.specs.declared.Shape.{Shape}
 use Rattle.triplet_study.specs.declared.Sizes.{Sizes}
 use Rattle.triplet_study.specs.Study.{Study, study, tpIn, bands1In, bands2In, tripletCount, sizesBy, sizesOf}
 use Rattle.triplet_study.specs.Questions.{tripletsIn, areTriplets, holdFrequencies, areStudyFrequencies, tableQuestions, valueQuestions, studyQuestions, areLengths}
-use Rattle.triplet_study.specs.Tested.{Tested, Counted, Fitting, Ready}
+use Rattle.triplet_study.specs.Tested.{Tested, Counted, Ready}
 
 -- ---- the yes to a question
 

@@ -1,4 +1,6 @@
-use Rattle.triplet_iw.proofs.CallLaws.{all-yes-12, counts-few, done-is, length-some, refused-before, refused-is, refused-length, study-ready}
+-- `triplet_iw::kernel::fill_study` meets its contract. Assumes nothing.
+use Rattle.triplet_iw.proofs.CallLaws.{all-yes-12, counts-few, length-some, refused-before, refused-length, study-ready}
+use Rattle.ask.proofs.AnswerLaws.{done-is, refused-is}
 use Rattle.triplet_iw.specs.Whole.{allFlags, allWeights}
 use Rattle.triplet_study.proofs.StudyLaws.{few-counts, study-shaped, tested}
 use Rattle.triplet_study.specs.Study.{Study, study}
@@ -7,7 +9,6 @@ use Rattle.list_laws.proofs.BoolLaws.{no-of, yes-of}
 use mathlib.Core.Path.{_∙_, ap, sym}
 use lib.ListN.{length}
 use Prim.Native.Nat.{ℕ}
--- `triplet_iw::kernel::fill_study` meets its contract. Assumes nothing.
 use borrow.Author.Needs.{needs}
 use Rattle.triplet_iw.proofs.kernel.fill_study.Statement.{statement}
 use Rattle.triplet_iw.proofs.kernel.fill_study.Tie as tie

@@ -1,3 +1,4 @@
+-- `triplet_iw::kernel::fill_triplets` meets its contract. Assumes nothing.
 use Rattle.triplet_iw.proofs.WholeLaws.{all-computed}
 use Rattle.triplet_iw.proofs.TripletLaws.{steps-few, triplets-more, triplets-none}
 use Rattle.triplet_piece.proofs.WeightLaws.{computed-lengths}
@@ -10,7 +11,6 @@ use mathlib.Core.Path.{_∙_, _≡_, ap, refl, sym}
 use lib.ListN.{length}
 use lib.Dec.{ltb}
 use Prim.Native.Nat.{_-_, _/_, _≤_, zero-le}
--- `triplet_iw::kernel::fill_triplets` meets its contract. Assumes nothing.
 use borrow.Author.Needs.{needs}
 use Rattle.triplet_iw.proofs.kernel.fill_triplets.Statement.{statement}
 use Rattle.triplet_iw.proofs.kernel.fill_triplets.Tie as tie

@@ -1,3 +1,4 @@
+-- `triplet_study::kernel::asks::value_first_no` meets its contract. Assumes nothing.
 use Rattle.triplet_study.specs.Questions.{areStudyFrequencies, tripletsIn}
 use Rattle.triplet_study.proofs.StudyLaws.{counts-say}
 use Rattle.question_values.specs.Counts.{areCounts}
