@@ -1,12 +1,11 @@
 -- `sheet::average_triplet` meets its contract. Assumes nothing.
-use Rattle.sheet.proofs.AnswerLaws.{did}
 use mir.ValLaws.{toZ-ofZ}
 use mir.Syntax.{w64}
 use Rattle.sheet.proofs.AnswerLaws.{did}
-use Rattle.sheet_step.proofs.StepLaws.{common-refused, given-yes}
+use Rattle.sheet_step.proofs.StepLaws.{common-refused, study-yes}
 use Rattle.sheet_step.specs.Steps.{Sheet, sheet, carry, average}
-use Rattle.triplet_study.proofs.GivenLaws.{few-counts, sizes-same}
-use Rattle.triplet_study.specs.Given.{Given, given}
+use Rattle.triplet_study.proofs.StudyLaws.{few-counts, tested}
+use Rattle.triplet_study.specs.Study.{Study, study}
 use mathlib.Core.Path.{_∙_, sym}
 use borrow.Author.Needs.{needs}
 use Rattle.sheet.proofs.average_triplet.Statement.{statement}
@@ -14,8 +13,8 @@ use Rattle.sheet.proofs.average_triplet.Tie as tie
 
 -- ---- what the call takes
 
-abbrev asked : tie.Start → Given
-asked s = given (s .args .shape) (s .args .addresses .now) (s .args .gp-map .now) (s .args .relative-grid-address .now) (s .args .frequencies1 .now) (s .args .frequencies2 .now) (s .args .frequency-points .now) (s .args .triplets .now)
+abbrev asked : tie.Start → Study
+asked s = study (s .args .shape) (s .args .addresses .now) (s .args .gp-map .now) (s .args .relative-grid-address .now) (s .args .frequencies1 .now) (s .args .frequencies2 .now) (s .args .frequency-points .now) (s .args .triplets .now)
 
 abbrev start : tie.Start → Sheet
 start s = sheet (s .args .weights .now) (s .args .flags .now) (s .args .marks .now) (s .args .tally .runs)
@@ -40,7 +39,7 @@ sizes-of-requires : tie.Need-sizes-of-requires
 sizes-of-requires c κs =
     let s : _ = c .before .before .before .before .before .before .before .before in
     let y = sym (c .before .common-no .ensures) ∙ c .if1 .left in
-    few-counts (asked s) (given-yes (asked s) (start s) carry y)
+    few-counts (tested (asked s) (study-yes (asked s) (start s) carry y))
 
 average-asked-requires : tie.Need-average-asked-requires
 average-asked-requires c κs =
