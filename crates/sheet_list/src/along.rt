@@ -9,7 +9,7 @@ ghost use Rattle.sheet_list.specs.Calls.{callsOf};
 ghost use Rattle.sheet_list.specs.Play.{outcome, outcomeOf};
 use crate::asks;
 use crate::turns;
-use bzgrid::BzGrid;
+use bzgrid_lookup::BzGrid;
 use triplet_piece::Sizes;
 use triplet_study::Shape;
 use triplet_types::TpType;
@@ -128,7 +128,7 @@ fn play_asked(
     let bz_grid_type = shape.bz_grid_type;
     let d_diag = shape.d_diag;
     let tp = triplet_types::kernel::tp_type_of(tp_type);
-    let grid = bzgrid::kernel::grid_of(bz_grid_type, d_diag);
+    let grid = bzgrid_lookup::kernel::grid_of(bz_grid_type, d_diag);
     let second = triplet_corners::kernel::second_steps(tp, steps);
     let m = steps.len();
     let rows = m / 12;
@@ -180,7 +180,7 @@ pub fn play_all(
     ensures { λ r. ⌜ outcome (sheetOut weights flags marks r) (now (answers .exit)) (now (tallies .exit))
         ≡ outcomeOf (studyIn shape addresses «gp_map» steps frequencies1 frequencies2 points triplets) (sheetIn weights flags marks before) (callsOf (now (list .entry)) (now (ids .entry))) ⌝ }
 {
-    let no = sheet_step::kernel::asks::common_no(
+    let no = sheet_step::kernel::asks::common_first_no(
         shape,
         addresses,
         gp_map,

@@ -11,7 +11,7 @@ ghost use Rattle.sheet_fill.specs.Kept.{CornersKept};
 ghost use Rattle.sheet_turn.specs.Turns.{sheetNow, commonNo, Prepared};
 ghost use Rattle.sheet_list.specs.Calls.{callAt};
 use crate::calls;
-use bzgrid::BzGrid;
+use bzgrid_lookup::BzGrid;
 use sheet_turn::Turn;
 use sheet_turn::kernel;
 use triplet_piece::Sizes;
@@ -62,7 +62,7 @@ pub fn one_turn(
     let a = calls::number(list, i, 1);
     let b = calls::number(list, i, 2);
     let c = calls::number(list, i, 3);
-    if common::kernel::is_nat(kind, 0) {
+    if numbers::kernel::is_nat(kind, 0) {
         return kernel::run_asked(
             f1,
             f2,
@@ -97,7 +97,7 @@ pub fn one_turn(
             c,
         );
     }
-    if common::kernel::is_nat(kind, 1) {
+    if numbers::kernel::is_nat(kind, 1) {
         return kernel::carry_asked(
             f1,
             f2,
