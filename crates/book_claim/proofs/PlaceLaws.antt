@@ -25,22 +25,25 @@ piece-div p b hb j = digits-div (j / b / p) (mod-lt j hb)
 
 -- ---- rows: b places from r * b on
 
--- the piece of a row's place
-pub row-piece : (p b r k : ℕ) → k < b → pieceAt p b (r * b + k) ≡ r / p * b + k
+-- the piece of a place in the row of cell j
+pub row-piece : (p b j k : ℕ) → k < b → pieceAt p b (j / b * b + k) ≡ tripletAt p b j * b + k
 unfolding pieceAt tripletAt pairAt
-row-piece p b r k h = rw (digits-div r h, digits-mod r h)
+row-piece p b j k h = rw (digits-div (j / b) h, digits-mod (j / b) h)
 
--- and of a row's place of the weights, n rows to a channel
+-- and of a place in the row of a weight's, n rows to a channel
 module _ (p b n : ℕ) (hb : 0 < b) (hn : 0 < n) where
   wrapped : (r k : ℕ) → k < b → (r * b + k) % (n * b) ≡ r % n * b + k
   wrapped r k h = mod-mul (r * b + k) hn hb ∙ rw (digits-div r h, digits-mod r h)
 
-  pub wrapped-triplet : (i : ℕ) → tripletAt p b (i % (n * b)) ≡ i / b % n / p
+  wrapped-triplet : (i : ℕ) → tripletAt p b (i % (n * b)) ≡ i / b % n / p
   unfolding tripletAt
   wrapped-triplet i =
       let e : i % (n * b) ≡ i / b % n * b + i % b = mod-mul i hn hb in
       rw (e, digits-div (i / b % n) (mod-lt i hb))
 
-  pub wrapped-piece : (r k : ℕ) → k < b → pieceAt p b ((r * b + k) % (n * b)) ≡ r % n / p * b + k
+  wrapped-piece : (r k : ℕ) → k < b → pieceAt p b ((r * b + k) % (n * b)) ≡ r % n / p * b + k
   unfolding pieceAt tripletAt pairAt
   wrapped-piece r k h = rw (wrapped r k h, digits-div (r % n) h, digits-mod (r % n) h)
+
+  pub wrapped-row : (i k : ℕ) → k < b → pieceAt p b ((i / b * b + k) % (n * b)) ≡ tripletAt p b (i % (n * b)) * b + k
+  wrapped-row i k h = wrapped-piece (i / b) k h ∙ rw (wrapped-triplet i)

@@ -1,5 +1,5 @@
--- A status in place of an answer: the number of a refusal, or 0, is the number of the first no. Assumes nothing.
-use mathlib.Core.Path.{_≡_, refl, sym, ap, _∙_}
+-- A status in place of an answer that holds a value: the number of a refusal, or 0, is the number of the first no. Assumes nothing.
+use mathlib.Core.Path.{_≡_, refl, ap}
 use mathlib.Core.Bool.{Bool}
 use Prim.Native.Nat.{ℕ, zero, suc}
 use native.Mathlib.Omega.{arith}
@@ -7,25 +7,10 @@ use lib.Ieee.{Float}
 use Rattle.ask.specs.Ask.{afterCall}
 use Rattle.triplet_addresses.specs.Normal.{isNAnswer}
 use Rattle.triplet_addresses.specs.declared.IsNAnswer.the-variants as is-n
-use Rattle.triplet_iw.specs.Calls.{weightsAnswer}
-use Rattle.triplet_iw.specs.declared.WeightsAnswer.{WeightsAnswer}
-use Rattle.triplet_iw.specs.declared.WeightsAnswer.the-variants as weights
 use Rattle.tetrahedron_method.specs.Answer.{answered}
 use Rattle.tetrahedron_method.specs.declared.WeightAnswer.the-variants as weight
 use Rattle.sheet_marks.specs.OpenCount.{openAnswer}
 use Rattle.sheet_marks.specs.declared.OpenAnswer.the-variants as count
-
--- ---- answers that hold nothing but the number of a refusal
-
-abbrev weightsNumber : WeightsAnswer → ℕ
-weightsNumber weights.Filled = 0
-weightsNumber (weights.Refused k) = k
-
-pub weights-status : (v : ℕ) (a b : WeightsAnswer) → a ≡ weightsAnswer v → a ≡ b → weightsNumber b ≡ v
-weights-status zero a b h e = ap weightsNumber (sym e ∙ h)
-weights-status (suc v) a b h e = ap weightsNumber (sym e ∙ h)
-
--- ---- answers that hold a value
 
 pub count-done : (v n x old : ℕ) → count.Open x ≡ openAnswer v n → (0 ≡ v) × (x ≡ afterCall v n old)
 count-done zero n x old h = (refl, cc)

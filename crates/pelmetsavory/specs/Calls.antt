@@ -12,7 +12,7 @@ use Rattle.question_grids.specs.Grids.{isMesh}
 use Rattle.question_values.specs.TpTypes.{isTpType}
 use Rattle.tetrahedron_method.specs.declared.WeightFunction.{WeightFunction}
 use Rattle.tetrahedron_method.specs.declared.WeightFunction.the-variants.{I, J}
-use Rattle.triplet_study.specs.Given.{Given}
+use Rattle.triplet_study.specs.Study.{Study}
 use Rattle.triplet_study.specs.Lent.{Lent}
 use Rattle.triplet_iw.specs.Calls.{weightsNo, AreFilled}
 
@@ -33,5 +33,5 @@ abbrev pub typeQuestions : ℤ → List Question
 typeQuestions tp = asks 8 (isTpType tp) ∷ []
 
 -- what a call for weights and flags did: the status, and what it left
-abbrev pub CalledFill : Given → Lent Float → Lent ℤ → ℕ → Type 0
-CalledFill g weights flags status = (status ≡ weightsNo g (now (weights .entry)) (now (flags .entry))) × AreFilled g weights flags
+abbrev pub CalledFill : Study → Lent Float → Lent ℤ → ℕ → Type 0
+CalledFill s weights flags status = (status ≡ weightsNo s (now (weights .entry)) (now (flags .entry))) × AreFilled s weights flags

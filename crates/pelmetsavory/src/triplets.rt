@@ -11,9 +11,8 @@ ghost use Rattle.pelmetsavory.specs.Calls.{CalledFill, oneOf, typeQuesti
 use crate::Triple;
 use crate::choice;
 use ask::kernel::number_of;
-use sheet::Shape;
 use triplet_addresses::IsNAnswer;
-use triplet_iw::WeightsAnswer;
+use triplet_study::Shape;
 use triplet_types::TpType;
 use triplet_types::TpTypeAnswer;
 
@@ -34,7 +33,7 @@ pub extern "C" fn pelmetsavory_integration_weight(
     ensures { λ r. ⌜ CalledFill (studyIn shape addresses «gp_map» «relative_grid_address» frequencies1 frequencies2 «frequency_points» triplets)
         weights flags r ⌝ }
 {
-    match triplet::integration_weight(
+    let answer = triplet::integration_weight(
         shape,
         addresses,
         gp_map,
@@ -45,10 +44,8 @@ pub extern "C" fn pelmetsavory_integration_weight(
         triplets,
         weights,
         flags,
-    ) {
-        WeightsAnswer::Filled => 0,
-        WeightsAnswer::Refused(number) => number,
-    }
+    );
+    number_of(answer)
 }
 
 // The weights and flags of one triplet. Questions 3 to 12.
@@ -69,7 +66,7 @@ pub extern "C" fn pelmetsavory_integration_weight_per_triplet(
         weights flags r ⌝ }
 {
     let triplet = triplet.numbers;
-    match triplet_iw::integration_weight_per_triplet(
+    let answer = triplet_iw::integration_weight_per_triplet(
         shape,
         addresses,
         gp_map,
@@ -80,10 +77,8 @@ pub extern "C" fn pelmetsavory_integration_weight_per_triplet(
         triplet,
         weights,
         flags,
-    ) {
-        WeightsAnswer::Filled => 0,
-        WeightsAnswer::Refused(number) => number,
-    }
+    );
+    number_of(answer)
 }
 
 // Averages the weights and the flags of one triplet in place. Questions 8, 9, 12, 17, 19.

@@ -65,50 +65,39 @@ pub fn run_piece(
     if no != 0 {
         return refused(no, tally);
     }
-    let z = triplet_study::kernel::sizes_of(shape, frequency_points.len(), triplets.len() / 3);
-    let tp_type = shape.tp_type;
-    let bz_grid_type = shape.bz_grid_type;
-    let d_diag = shape.d_diag;
-    let tp = triplet_types::kernel::tp_type_of(tp_type);
-    let grid = bzgrid_lookup::kernel::grid_of(bz_grid_type, d_diag);
+    let z = triplet_study::kernel::sizes_of(
+        shape,
+        relative_grid_address.len() / 12,
+        frequency_points.len(),
+        triplets.len() / 3,
+    );
+    let runs = tally.runs;
+    let own = sheet_step::kernel::asks::run_first_no(z, marks, runs, triplet, b1, b2);
+    if own != 0 {
+        // the sheet stays as it is
+        return refused(own, tally);
+    }
+    let tp = z.tp;
     let second = triplet_corners::kernel::second_steps(tp, relative_grid_address);
     let m = relative_grid_address.len();
-    let rows = m / 12;
     let none = z.triplets;
-    let runs = tally.runs;
-    let mut f1 = [0.0; 384];
-    let mut f2 = [0.0; 384];
-    let mut a0 = [0.0; 384];
-    let mut a1 = [0.0; 384];
-    let mut a2 = [0.0; 384];
-    let mut p0 = [0usize; 96];
-    let mut p1 = [0usize; 96];
-    let mut p2 = [0usize; 96];
-    let mut numbers1 = [0usize; 384];
-    let mut numbers2 = [0usize; 384];
-    let turn = sheet_turn::kernel::run_asked(
-        &mut f1,
-        &mut f2,
-        &mut a0,
-        &mut a1,
-        &mut a2,
-        &mut p0,
-        &mut p1,
-        &mut p2,
-        &mut numbers1,
-        &mut numbers2,
+    let mut frequencies = [[0.0; 384]; 2];
+    let mut channels = [[0.0; 384]; 3];
+    let mut places = [[0usize; 96]; 3];
+    let mut numbers = [[0usize; 384]; 2];
+    let turn = sheet_turn::kernel::run_accepted(
+        &mut frequencies,
+        &mut channels,
+        &mut places,
+        &mut numbers,
         weights,
         flags,
         marks,
-        shape,
         z,
-        tp,
-        grid,
         addresses,
         gp_map,
         relative_grid_address,
         &second[..m],
-        rows,
         frequencies1,
         frequencies2,
         frequency_points,
@@ -119,9 +108,7 @@ pub fn run_piece(
         b1,
         b2,
     );
-    let own = turn.no;
-    let after = turn.runs;
-    answer_of(own, after)
+    answer_of(turn.no, turn.runs)
 }
 
 // Runs all pieces marked 0, in ascending order. Questions 3 to 13, 20 for all runs of the call.
@@ -158,50 +145,34 @@ pub fn carry_on(
     if no != 0 {
         return refused(no, tally);
     }
-    let z = triplet_study::kernel::sizes_of(shape, frequency_points.len(), triplets.len() / 3);
-    let tp_type = shape.tp_type;
-    let bz_grid_type = shape.bz_grid_type;
-    let d_diag = shape.d_diag;
-    let tp = triplet_types::kernel::tp_type_of(tp_type);
-    let grid = bzgrid_lookup::kernel::grid_of(bz_grid_type, d_diag);
+    let z = triplet_study::kernel::sizes_of(
+        shape,
+        relative_grid_address.len() / 12,
+        frequency_points.len(),
+        triplets.len() / 3,
+    );
+    let runs = tally.runs;
+    let tp = z.tp;
     let second = triplet_corners::kernel::second_steps(tp, relative_grid_address);
     let m = relative_grid_address.len();
-    let rows = m / 12;
     let none = z.triplets;
-    let runs = tally.runs;
-    let mut f1 = [0.0; 384];
-    let mut f2 = [0.0; 384];
-    let mut a0 = [0.0; 384];
-    let mut a1 = [0.0; 384];
-    let mut a2 = [0.0; 384];
-    let mut p0 = [0usize; 96];
-    let mut p1 = [0usize; 96];
-    let mut p2 = [0usize; 96];
-    let mut numbers1 = [0usize; 384];
-    let mut numbers2 = [0usize; 384];
+    let mut frequencies = [[0.0; 384]; 2];
+    let mut channels = [[0.0; 384]; 3];
+    let mut places = [[0usize; 96]; 3];
+    let mut numbers = [[0usize; 384]; 2];
     let turn = sheet_turn::kernel::carry_asked(
-        &mut f1,
-        &mut f2,
-        &mut a0,
-        &mut a1,
-        &mut a2,
-        &mut p0,
-        &mut p1,
-        &mut p2,
-        &mut numbers1,
-        &mut numbers2,
+        &mut frequencies,
+        &mut channels,
+        &mut places,
+        &mut numbers,
         weights,
         flags,
         marks,
-        shape,
         z,
-        tp,
-        grid,
         addresses,
         gp_map,
         relative_grid_address,
         &second[..m],
-        rows,
         frequencies1,
         frequencies2,
         frequency_points,
@@ -209,9 +180,7 @@ pub fn carry_on(
         runs,
         none,
     );
-    let own = turn.no;
-    let after = turn.runs;
-    answer_of(own, after)
+    answer_of(turn.no, turn.runs)
 }
 
 // Averages a triplet over the degenerate sets of two id lists: each channel, then the flags; its marks become 2. Questions 3 to 19.
@@ -251,13 +220,17 @@ pub fn average_triplet(
     if no != 0 {
         return refused(no, tally);
     }
-    let z = triplet_study::kernel::sizes_of(shape, frequency_points.len(), triplets.len() / 3);
+    let z = triplet_study::kernel::sizes_of(
+        shape,
+        relative_grid_address.len() / 12,
+        frequency_points.len(),
+        triplets.len() / 3,
+    );
     let runs = tally.runs;
     let own = sheet_turn::kernel::average_asked(
         weights,
         flags,
         marks,
-        shape,
         z,
         addresses,
         gp_map,

@@ -112,6 +112,12 @@ module _ (z : Sizes) (h : Counted z) (ids1 ids2 : List ℤ) (same : z .bands1 �
   flags-back t l y lt fits ey =
       slice-back (pos 0) (averagedFlags (z .bands1) ids1 ids2) keeps-flags t (t * (z .points * z .pairs)) refl l y fits ey
 
-  pub length-averaged : (t : ℕ) (l : List ℤ) → length (tripletFlagsAveraged z t ids1 ids2 l) ≡ length l
-  unfolding tripletFlagsAveraged
-  length-averaged t l = length-patch _ _ l
+-- ---- an averaging keeps the lengths
+
+pub length-average : (z : Sizes) (t : ℕ) (ids1 ids2 : List ℤ) (l : List Float) → length (tripletAveraged z t ids1 ids2 l) ≡ length l
+unfolding tripletAveraged
+length-average z t ids1 ids2 l = length-patch _ _ l
+
+pub length-average-flags : (z : Sizes) (t : ℕ) (ids1 ids2 : List ℤ) (l : List ℤ) → length (tripletFlagsAveraged z t ids1 ids2 l) ≡ length l
+unfolding tripletFlagsAveraged
+length-average-flags z t ids1 ids2 l = length-patch _ _ l

@@ -5,7 +5,8 @@ use Prim.Native.Nat.{ℕ, _+_, _*_, _/_, _%_, _≤_, _<_}
 use native.Mathlib.Nat.{div-add-mod', div-lt-iff-lt-mul, mod-lt}
 use native.Mathlib.Omega.{arith}
 use lib.IntN.{ℤ}
-use lib.ListN.{length}
+use lib.Ieee.{Float}
+use lib.ListN.{length, replicate}
 use Rattle.list_laws.proofs.FillLaws.{length-area}
 use Rattle.question_grids.specs.Grids.{triplesIn}
 use Rattle.bzgrid_lookup.specs.declared.BzGrid.{BzGrid}
@@ -17,13 +18,19 @@ use Rattle.triplet_study.specs.Tested.{Ready}
 use Rattle.triplet_study.proofs.StudyLaws.{ready-counted}
 use Rattle.triplet_corners.specs.Corners.{secondSteps, cornerNumbers}
 use Rattle.triplet_piece.specs.Weights.{firstCorners, secondCorners}
+use Rattle.triplet_piece.proofs.AreaLaws.{fresh, fresh-areas}
 use Rattle.triplet_iw.proofs.TripletLaws.{tp-is, grid-is, first-corners, second-corners, pair-bands}
-use Rattle.sheet_fill.specs.Kept.{AreCorners}
+use Rattle.sheet_fill.specs.Kept.{AreCorners, Kept}
 
 pub corners-long : (grid : BzGrid) (addresses gp-map steps : List ℤ) (g : ℕ) → length steps ≤ 1152 → length (cornerNumbers grid addresses gp-map steps g) ≡ 384
 unfolding cornerNumbers
 corners-long grid addresses gp-map steps g h =
     length-area 384 (λ j. neighbourOf grid addresses gp-map (wantedAddress addresses steps g j)) 0 (triplesIn steps) (omega (arith, h))
+
+-- nothing is kept yet
+pub kept-none : (s : Study) (triplets : ℕ) (x : Float) (n : ℕ)
+    → Kept s triplets triplets (replicate 2 (replicate 384 x)) (replicate 3 (replicate 384 x)) (replicate 3 (replicate 96 n)) (replicate 2 (replicate 384 n))
+kept-none s triplets x n = record { areas = fresh-areas x n; numbers-sized = fresh 2 384 n; corners = λ h. absurd (omega (arith, h)) }
 
 -- piece q by its triplet and its bands
 pub piece-is : (q pairs bands2 : ℕ) → q / pairs * pairs + (q % pairs / bands2 * bands2 + q % pairs % bands2) ≡ q

@@ -1,8 +1,7 @@
 -- One call on a sheet whose questions 3 to 13 say yes, by the values that the code makes: refused by its own questions, or done. Assumes
 -- nothing.
 use mathlib.Core.Path.{_≡_, refl, sym, ap, _∙_}
-use mathlib.Core.Bool.{true}
-use mathlib.Core.List.{List}
+use mathlib.Core.List.{List, _++_}
 use Prim.Native.Nat.{ℕ, _+_, _*_, _≤_, _<_}
 use native.Mathlib.Omega.{arith}
 use lib.Dec.{eqb}
@@ -11,41 +10,23 @@ use lib.IntN.{ℤ}
 use lib.ListN.{length}
 use lib.Signed.{mag}
 use Rattle.list_laws.proofs.ProductLaws.{digit-lt}
-use Rattle.ask.specs.Ask.{Question, firstNo}
-use Rattle.question_grids.specs.Grids.{areTriples}
-use Rattle.question_grids.specs.Tables.{rowsIn}
-use Rattle.ask.proofs.AskLaws.{group-no, group-yes, after-done}
-use Rattle.bzgrid_lookup.specs.declared.BzGrid.{BzGrid}
-use Rattle.triplet_types.specs.declared.TpType.{TpType}
-use Rattle.triplet_piece.specs.declared.Sizes.{Sizes}
-use Rattle.triplet_piece.specs.Study.{Study, study, Ready, computedWeights, computedFlags}
-use Rattle.triplet_study.specs.Given.{Given, studyOf}
-use Rattle.triplet_study.proofs.GivenLaws.{given-ready}
-use Rattle.sheet_marks.specs.declared.SheetAnswer.{SheetAnswer}
-use Rattle.ask.specs.Answers.{answerNumber}
-use Rattle.sheet_marks.specs.Tallies.{addedTo, tallyQuestions}
-use Rattle.sheet_marks.proofs.TallyLaws.{number-is}
+use Rattle.ask.specs.Ask.{firstNo}
+use Rattle.triplet_study.specs.declared.Sizes.{Sizes}
+use Rattle.triplet_study.specs.Study.{Study, sizesOf}
+use Rattle.triplet_study.specs.Tested.{Counted, Ready}
+use Rattle.triplet_piece.specs.Weights.{computedWeights, computedFlags, AreComputed}
+use Rattle.sheet_marks.specs.Tallies.{tallyQuestions}
 use Rattle.marks.specs.Bytes.{patchMarks, placesIn, Few, Holds}
 use Rattle.marks.specs.Marks.{isOpenAt, openPieces, carriedMarks, averagedMarks}
 use Rattle.marks.proofs.BytesLaws.{place-in}
-use Rattle.sheet_step.specs.Steps.{Sheet, sheet, Call, run, carry, average, countsOf, Counted, pieceQuestions, averageQuestions, pieceOf, tripletAveraged, tripletFlagsAveraged, piecesOf, verdict, effect, Called}
+use Rattle.sheet_step.specs.Steps.{Sheet, sheet, Call, run, carry, average, pieceQuestions, averageQuestions, pieceOf, tripletAveraged, tripletFlagsAveraged, piecesOf, verdict, effect, Called}
 use Rattle.sheet_step.proofs.CountLaws.{marks-place, pieces-few}
-use Rattle.sheet_step.proofs.StepLaws.{verdict-own, counts-yes, lengths-yes, given-yes, piece-numbered, piece-named, average-named, refused-sheet, done-sheet}
-use Rattle.sheet_turn.specs.Turns.{commonNo, Prepared}
-use Rattle.sheet_turn.proofs.EntryLaws.{study-made, ready-made}
-
--- ---- the tally's answer by its number
-
-module _ (tally runs : ℕ) {a : SheetAnswer} (e : a ≡ addedTo tally runs) where
-  pub added-no : {n : ℕ} → n ≡ answerNumber (a .answer) → n ≡ firstNo (tallyQuestions tally runs)
-  added-no h = h ∙ ap (λ (x : SheetAnswer). answerNumber (x .answer)) e ∙ number-is (firstNo (tallyQuestions tally runs))
-
-  pub added-runs : firstNo (tallyQuestions tally runs) ≡ 0 → a .tally .runs ≡ tally + runs
-  added-runs z = ap (λ (x : SheetAnswer). x .tally .runs) e ∙ sym (after-done (firstNo (tallyQuestions tally runs)) (tally + runs) tally z)
+use Rattle.sheet_step.proofs.StepLaws.{verdict-own, counts-yes, lengths-yes, ready-yes, run-yes, average-named, refused-sheet, done-sheet}
+use Rattle.sheet_turn.specs.Turns.{commonNo}
 
 -- ---- one call, refused or done
 
-module _ (g : Given) (s : Sheet) (c : Call) where
+module _ (g : Study) (s : Sheet) (c : Call) where
   called-no : (n : ℕ) → verdict g s c ≡ n → (n ≡ 0 → ⊥) → Called g s c n s
   called-no n e h = record { says = sym e; leaves = refused-sheet g s c n e h }
 
@@ -53,28 +34,23 @@ module _ (g : Given) (s : Sheet) (c : Call) where
       → w ≡ effect g s c .weights → f ≡ effect g s c .flags → m ≡ effect g s c .marks → Called g s c 0 (sheet w f m runs)
   called-yes runs w f m e er ew ef em = record { says = sym e; leaves = (λ i. sheet (ew i) (ef i) (em i) (er i)) ∙ done-sheet g s c e }
 
--- the steps of a tested study
-pub steps-yes : (g : Given) (s : Sheet) → commonNo g s ≡ 0 → (areTriples (g .steps) ≡ true) × ((length (g .steps) ≡ rowsIn (g .steps) * 12) × (rowsIn (g .steps) ≤ 96))
-unfolding studyOf
-steps-yes g s y =
-    let l : _ = lengths-yes g s carry y in
-    let r : Ready (studyOf g) (countsOf g) (length (s .weights)) (length (s .flags)) = given-ready g (countsOf g) (length (s .weights)) (length (s .flags)) (given-yes g s carry y) refl (l .0) (l .1 .0) in
-    (r .table, (r .rows-whole, r .rows-high))
-
 -- ---- what the counts say
 
-module _ (g : Given) (s : Sheet) {z : Sizes} (y : commonNo g s ≡ 0) (ez : z ≡ countsOf g) where
+module _ (g : Study) (s : Sheet) {z : Sizes} (y : commonNo g s ≡ 0) (ez : z ≡ sizesOf g) where
   pub counted-yes : Counted z
-  counted-yes = rw (ez) (counts-yes g s carry y)
+  counted-yes = rw ez (counts-yes g s carry y)
 
   pub long-yes : (length (s .weights) ≡ z .channels * z .cells) × ((length (s .flags) ≡ z .cells) × Holds (piecesOf z) (s .marks))
-  long-yes = rw (ez) (lengths-yes g s carry y)
+  long-yes = rw ez (lengths-yes g s carry y)
+
+  pub ready-made : Ready g z (length (s .weights)) (length (s .flags))
+  ready-made = rw ez (ready-yes g s carry y)
 
   -- ---- an averaging
 
   module _ (t : ℤ) (ids1 ids2 : List ℤ) where
     own-average : firstNo (averageQuestions z (s .weights) (s .marks) t ids1 ids2) ≡ verdict g s (average t ids1 ids2)
-    own-average = ap (λ (x : Sizes). firstNo (averageQuestions x (s .weights) (s .marks) t ids1 ids2)) (ez) ∙ sym (verdict-own g s (average t ids1 ids2) y)
+    own-average = ap (λ (x : Sizes). firstNo (averageQuestions x (s .weights) (s .marks) t ids1 ids2)) ez ∙ sym (verdict-own g s (average t ids1 ids2) y)
 
     pub average-first-no : {n : ℕ} → n ≡ firstNo (averageQuestions z (s .weights) (s .marks) t ids1 ids2) → (n ≡ 0 → ⊥)
         → Called g s (average t ids1 ids2) n s
@@ -82,10 +58,10 @@ module _ (g : Given) (s : Sheet) {z : Sizes} (y : commonNo g s ≡ 0) (ez : z �
 
     module _ (e : firstNo (averageQuestions z (s .weights) (s .marks) t ids1 ids2) ≡ 0) (nt : ℕ) (et : nt ≡ mag t) where
       -- what the averages of weights and of flags require
-      pub average-on : (Counted z × ((nt < z .triplets) × ((z .bands1 ≡ z .bands2) × (z .bands1 ≤ 64)))) × ((length ids1 ≡ z .bands1) × (length ids2 ≡ z .bands1))
+      pub average-on : (Counted z × ((nt < z .triplets) × (z .bands1 ≡ z .bands2))) × ((length ids1 ≡ z .bands1) × (length ids2 ≡ z .bands1))
       average-on =
           let n : _ = average-named z (s .weights) (s .marks) t ids1 ids2 e in
-          ((counted-yes, (rw et (n .0), (n .1 .0, counted-yes .bands1-few))), n .1 .1)
+          ((counted-yes, (rw et (n .0), n .1 .0)), n .1 .1)
 
       pub average-place : Few (s .marks) × (nt * z .pairs + z .pairs ≤ placesIn (s .marks))
       average-place = marks-place z counted-yes (s .marks) (long-yes .1 .1) nt (average-on .0 .1 .0)
@@ -100,86 +76,55 @@ module _ (g : Given) (s : Sheet) {z : Sizes} (y : commonNo g s ≡ 0) (ez : z �
           (ef ∙ (λ i. tripletFlagsAveraged (ez i) (et i) ids1 ids2 (s .flags)))
           (em ∙ (λ i. averagedMarks (ez i .pairs) (et i) (s .marks)))
 
--- ---- on a prepared study
-
-module _ (g : Given) (s : Sheet) {z : Sizes} {tp : TpType} {grid : BzGrid} {second : List ℤ} {rows : ℕ} (y : commonNo g s ≡ 0) (p : Prepared g z tp grid second rows) where
-  -- the study by the values that are made once
-  abbrev pub made : Study
-  made = study tp grid (g .addresses) (g .gp-map) (g .steps) (z .bands1) (z .bands2) (g .frequencies1) (g .frequencies2) (g .points) (g .triplets)
-
-  pub made-is : made ≡ studyOf g
-  made-is = study-made g z tp grid (p .counts) (p .type) (p .mesh)
-
-  pub made-ready : Ready made z (length (s .weights)) (length (s .flags))
-  made-ready =
-      let l : _ = lengths-yes g s carry y in
-      ready-made g z tp grid (p .counts) (p .type) (p .mesh) (given-yes g s carry y) (length (s .weights)) (length (s .flags)) (l .0) (l .1 .0)
-
   -- ---- a named piece
 
   module _ (t b1 b2 : ℤ) where
-    abbrev asking : List Question
-    asking = pieceQuestions z (s .marks) t b1 b2
+    own-run : firstNo (pieceQuestions z (s .marks) t b1 b2 ++ tallyQuestions (s .tally) 1) ≡ verdict g s (run t b1 b2)
+    own-run = ap (λ (x : Sizes). firstNo (pieceQuestions x (s .marks) t b1 b2 ++ tallyQuestions (s .tally) 1)) ez ∙ sym (verdict-own g s (run t b1 b2) y)
 
-    own-is : firstNo asking ≡ firstNo (pieceQuestions (countsOf g) (s .marks) t b1 b2)
-    own-is = ap (λ (x : Sizes). firstNo (pieceQuestions x (s .marks) t b1 b2)) (p .counts)
+    pub run-no : {n : ℕ} → n ≡ firstNo (pieceQuestions z (s .marks) t b1 b2 ++ tallyQuestions (s .tally) 1) → (n ≡ 0 → ⊥) → Called g s (run t b1 b2) n s
+    run-no {n} e h = called-no g s (run t b1 b2) n (sym (e ∙ own-run)) h
 
-    pub run-no : {n : ℕ} → n ≡ firstNo asking → (n ≡ 0 → ⊥) → Called g s (run t b1 b2) n s
-    run-no {n} e h =
-        called-no g s (run t b1 b2) n
-        (verdict-own g s (run t b1 b2) y ∙ group-no (pieceQuestions (countsOf g) (s .marks) t b1 b2) (tallyQuestions (s .tally) 1) (λ k. h (e ∙ own-is ∙ k)) ∙ sym (e ∙ own-is)) h
+    -- the piece by numbers
+    module _ (e : firstNo (pieceQuestions z (s .marks) t b1 b2 ++ tallyQuestions (s .tally) 1) ≡ 0) (nt n1 n2 : ℕ) (et : nt ≡ mag t) (e1 : n1 ≡ mag b1) (e2 : n2 ≡ mag b2) where
+      pub run-on : (nt < z .triplets) × ((n1 < z .bands1) × (n2 < z .bands2))
+      run-on = rw (et, e1, e2) (run-yes z (s .marks) t b1 b2 (s .tally) e .0)
 
-    module _ (e : firstNo asking ≡ 0) where
-      room-left : verdict g s (run t b1 b2) ≡ firstNo (tallyQuestions (s .tally) 1)
-      room-left =
-          verdict-own g s (run t b1 b2) y
-          ∙ group-yes (pieceQuestions (countsOf g) (s .marks) t b1 b2) (tallyQuestions (s .tally) 1) (piece-numbered (countsOf g) (s .marks) t b1 b2) (sym own-is ∙ e)
+      run-in : nt * z .pairs + (n1 * z .bands2 + n2) < piecesOf z
+      run-in =
+          let k : n1 * z .bands2 + n2 < z .bands1 * z .bands2 = digit-lt n1 (z .bands1) n2 (z .bands2) (run-on .1 .0) (run-on .1 .1) in
+          digit-lt nt (z .triplets) (n1 * z .bands2 + n2) (z .pairs) (run-on .0) (rw (counted-yes .pairs-are) k)
 
-      pub run-full : {n : ℕ} → n ≡ firstNo (tallyQuestions (s .tally) 1) → (n ≡ 0 → ⊥) → Called g s (run t b1 b2) n s
-      run-full {n} f h = called-no g s (run t b1 b2) n (room-left ∙ sym f) h
+      pub run-place : nt * z .pairs + (n1 * z .bands2 + n2) < placesIn (s .marks)
+      run-place = place-in (piecesOf z) (s .marks) _ (long-yes .1 .1) run-in
 
-      -- the piece by numbers
-      module _ (nt n1 n2 : ℕ) (et : nt ≡ mag t) (e1 : n1 ≡ mag b1) (e2 : n2 ≡ mag b2) where
-        pub run-on : (nt < z .triplets) × ((n1 < z .bands1) × (n2 < z .bands2))
-        run-on = rw (et, e1, e2) (piece-named z (s .marks) t b1 b2 e)
+      pub run-small : nt * z .pairs + (n1 * z .bands2 + n2) < 268435456
+      run-small = omega (arith, run-in, pieces-few z counted-yes)
 
-        run-in : nt * z .pairs + (n1 * z .bands2 + n2) < piecesOf z
-        run-in =
-            let k : n1 * z .bands2 + n2 < z .bands1 * z .bands2 = digit-lt n1 (z .bands1) n2 (z .bands2) (run-on .1 .0) (run-on .1 .1) in
-            (digit-lt nt (z .triplets) (n1 * z .bands2 + n2) (z .pairs) (run-on .0) (rw (counted-yes g s y (p .counts) .pairs-are) k))
+      place-is : nt * z .pairs + (n1 * z .bands2 + n2) ≡ pieceOf (sizesOf g) t b1 b2
+      place-is = rw (et, e1, e2, ez)
 
-        pub run-place : nt * z .pairs + (n1 * z .bands2 + n2) < placesIn (s .marks)
-        run-place = place-in (piecesOf z) (s .marks) _ (long-yes g s y (p .counts) .1 .1) run-in
-
-        pub run-small : nt * z .pairs + (n1 * z .bands2 + n2) < 268435456
-        run-small = omega (arith, run-in, pieces-few z (counted-yes g s y (p .counts)))
-
-        place-is : nt * z .pairs + (n1 * z .bands2 + n2) ≡ pieceOf (countsOf g) t b1 b2
-        place-is = rw (et, e1, e2, p .counts)
-
-        pub run-done : {runs : ℕ} {w : List Float} {f : List ℤ} {m : List ℕ} → firstNo (tallyQuestions (s .tally) 1) ≡ 0 → runs ≡ s .tally + 1
-            → w ≡ computedWeights made (λ n. eqb n (nt * z .pairs + (n1 * z .bands2 + n2))) (s .weights)
-            → f ≡ computedFlags made (λ n. eqb n (nt * z .pairs + (n1 * z .bands2 + n2))) (s .flags)
-            → m ≡ patchMarks (λ k. eqb k (nt * z .pairs + (n1 * z .bands2 + n2))) (λ k. 1) (s .marks)
-            → Called g s (run t b1 b2) 0 (sheet w f m runs)
-        unfolding effect
-        run-done {runs} {w} {f} {m} a er ew ef em =
-            called-yes g s (run t b1 b2) runs w f m (room-left ∙ a) er
-            (ew ∙ (λ i. computedWeights (made-is i) (λ k. eqb k (place-is i)) (s .weights)))
-            (ef ∙ (λ i. computedFlags (made-is i) (λ k. eqb k (place-is i)) (s .flags)))
-            (em ∙ (λ i. patchMarks (λ k. eqb k (place-is i)) (λ k. 1) (s .marks)))
+      pub run-done : {w : List Float} {f : List ℤ} {m : List ℕ} → AreComputed g (λ n. eqb n (nt * z .pairs + (n1 * z .bands2 + n2))) (s .weights) (s .flags) w f
+          → m ≡ patchMarks (λ k. eqb k (nt * z .pairs + (n1 * z .bands2 + n2))) (λ k. 1) (s .marks)
+          → Called g s (run t b1 b2) 0 (sheet w f m (s .tally + 1))
+      unfolding effect
+      run-done {w} {f} {m} a em =
+          called-yes g s (run t b1 b2) (s .tally + 1) w f m (sym own-run ∙ e) refl
+          (a .weights-are ∙ (λ i. computedWeights g (λ k. eqb k (place-is i)) (s .weights)))
+          (a .flags-are ∙ (λ i. computedFlags g (λ k. eqb k (place-is i)) (s .flags)))
+          (em ∙ (λ i. patchMarks (λ k. eqb k (place-is i)) (λ k. 1) (s .marks)))
 
   -- ---- a carry-on
 
   -- the pieces by the counts that are made once
-  pieces-are : piecesOf z ≡ piecesOf (countsOf g)
-  pieces-are = ap (λ (x : Sizes). piecesOf x) (p .counts)
+  pieces-are : piecesOf z ≡ piecesOf (sizesOf g)
+  pieces-are = ap (λ (x : Sizes). piecesOf x) ez
 
   -- its runs
   abbrev pub opens : ℕ
   opens = openPieces (piecesOf z) (s .marks)
 
-  opens-are : opens ≡ openPieces (piecesOf (countsOf g)) (s .marks)
+  opens-are : opens ≡ openPieces (piecesOf (sizesOf g)) (s .marks)
   opens-are = ap (λ (n : ℕ). openPieces n (s .marks)) pieces-are
 
   room-for : verdict g s carry ≡ firstNo (tallyQuestions (s .tally) opens)
@@ -189,11 +134,11 @@ module _ (g : Given) (s : Sheet) {z : Sizes} {tp : TpType} {grid : BzGrid} {seco
   carry-full {n} f h = called-no g s carry n (room-for ∙ sym f) h
 
   pub carry-done : {runs : ℕ} {w : List Float} {f : List ℤ} {m : List ℕ} → firstNo (tallyQuestions (s .tally) opens) ≡ 0 → runs ≡ s .tally + opens
-      → w ≡ computedWeights made (isOpenAt (piecesOf z) (s .marks)) (s .weights) → f ≡ computedFlags made (isOpenAt (piecesOf z) (s .marks)) (s .flags)
-      → m ≡ carriedMarks (piecesOf z) (s .marks) → Called g s carry 0 (sheet w f m runs)
+      → AreComputed g (isOpenAt (piecesOf z) (s .marks)) (s .weights) (s .flags) w f → m ≡ carriedMarks (piecesOf z) (s .marks)
+      → Called g s carry 0 (sheet w f m runs)
   unfolding effect
-  carry-done {runs} {w} {f} {m} a er ew ef em =
+  carry-done {runs} {w} {f} {m} a er b em =
       called-yes g s carry runs w f m (room-for ∙ a) (er ∙ ap (λ (n : ℕ). s .tally + n) opens-are)
-      (ew ∙ (λ i. computedWeights (made-is i) (isOpenAt (pieces-are i) (s .marks)) (s .weights)))
-      (ef ∙ (λ i. computedFlags (made-is i) (isOpenAt (pieces-are i) (s .marks)) (s .flags)))
+      (b .weights-are ∙ (λ i. computedWeights g (isOpenAt (pieces-are i) (s .marks)) (s .weights)))
+      (b .flags-are ∙ (λ i. computedFlags g (isOpenAt (pieces-are i) (s .marks)) (s .flags)))
       (em ∙ (λ i. carriedMarks (pieces-are i) (s .marks)))

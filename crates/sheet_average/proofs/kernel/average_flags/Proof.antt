@@ -4,7 +4,7 @@ use lib.ListN.{length}
 use mathlib.Core.Path.{_∙_, _≡_, ap, sym}
 use native.Mathlib.Omega.{arith}
 use Rattle.list_laws.proofs.FillLaws.{part-length}
-use Rattle.sheet_average.proofs.AverageLaws.{flags-back, length-averaged}
+use Rattle.sheet_average.proofs.AverageLaws.{flags-back, length-average-flags}
 use Rattle.sheet_step.proofs.CountLaws.{size-few, triplet-place}
 use Rattle.sheet_average.proofs.kernel.average_flags.Statement.{statement}
 use Rattle.sheet_average.proofs.kernel.average_flags.Tie as tie
@@ -49,7 +49,7 @@ same-length c =
     let s : _ = c .before .before .before .before in
     let p : _ = triplet-place (s .args .z) (s .pre .0 .0) (s .args .t) (s .pre .0 .1 .0) in
     let f : (s .args .t * (s .args .z .points * s .args .z .pairs)) + (s .args .z .points * s .args .z .pairs) ≤ length (s .args .flags .now) = omega (arith, p, s .pre .1 .0) in
-    ap length (flags-back (s .args .z) (s .pre .0 .0) (s .args .degenerate-ids1 .now) (s .args .degenerate-ids2 .now) (s .pre .0 .1 .1) (s .args .t) (s .args .flags .now) _ (s .pre .0 .1 .0) f (c .before .average-points .ensures)) ∙ length-averaged (s .args .z) (s .pre .0 .0) (s .args .degenerate-ids1 .now) (s .args .degenerate-ids2 .now) (s .pre .0 .1 .1) (s .args .t) (s .args .flags .now)
+    ap length (flags-back (s .args .z) (s .pre .0 .0) (s .args .degenerate-ids1 .now) (s .args .degenerate-ids2 .now) (s .pre .0 .1 .1) (s .args .t) (s .args .flags .now) _ (s .pre .0 .1 .0) f (c .before .average-points .ensures)) ∙ length-average-flags (s .args .z) (s .args .t) (s .args .degenerate-ids1 .now) (s .args .degenerate-ids2 .now) (s .args .flags .now)
 
 returns : tie.Need-returns
 returns c =

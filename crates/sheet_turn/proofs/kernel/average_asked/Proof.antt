@@ -1,7 +1,7 @@
 -- `sheet_turn::kernel::average_asked` meets its contract. Assumes nothing.
 use Rattle.sheet_turn.proofs.TurnLaws.{average-done, average-first-no, average-on, average-place, counted-yes, long-yes}
 use Rattle.sheet_step.specs.Steps.{Sheet, sheet}
-use Rattle.triplet_study.specs.Given.{Given, given}
+use Rattle.triplet_study.specs.Study.{Study, study}
 use lib.Signed.{mag}
 use mir.ValLaws.{toZ-ofZ}
 use mir.Syntax.{w64}
@@ -12,8 +12,8 @@ use Rattle.sheet_turn.proofs.kernel.average_asked.Tie as tie
 
 -- ---- what the call takes
 
-abbrev asked : tie.Start → Given
-asked s = given (s .args .shape) (s .args .addresses .now) (s .args .gp-map .now) (s .args .steps .now) (s .args .frequencies1 .now) (s .args .frequencies2 .now) (s .args .points .now) (s .args .triplets .now)
+abbrev asked : tie.Start → Study
+asked s = study (s .args .z .shape) (s .args .addresses .now) (s .args .gp-map .now) (s .args .steps .now) (s .args .frequencies1 .now) (s .args .frequencies2 .now) (s .args .points .now) (s .args .triplets .now)
 
 abbrev start : tie.Start → Sheet
 start s = sheet (s .args .weights .now) (s .args .flags .now) (s .args .marks .now) (s .args .runs)

@@ -1,25 +1,30 @@
 -- `sheet_turn::kernel::carry_asked` meets its contract. Assumes nothing.
-use Rattle.sheet_turn.proofs.TurnLaws.{added-no, added-runs, carry-done, carry-full, long-yes, made-is, made-ready, opens}
-use Rattle.marks.proofs.BytesLaws.{held-few}
-use Rattle.sheet_step.specs.Steps.{Sheet, sheet, piecesOf}
-use Rattle.sheet_marks.specs.Tallies.{addedTo}
-use Rattle.triplet_study.specs.Given.{Given, given}
-use Rattle.triplet_piece.specs.Study.{Study, firstCorners, secondCorners}
-use mathlib.Core.Path.{_∙_, ap, sym}
-use native.Mathlib.Omega.{arith}
 use borrow.Author.Needs.{needs}
+use mathlib.Core.Path.{_∙_, _≡_, ap, sym}
+use native.Mathlib.Omega.{arith}
+use Rattle.marks.proofs.BytesLaws.{held-few}
+use Rattle.sheet_marks.specs.declared.SheetAnswer.{SheetAnswer}
+use Rattle.sheet_marks.specs.Tallies.{addedTo}
+use Rattle.sheet_step.proofs.StepLaws.{added-no, added-runs}
+use Rattle.sheet_step.specs.Steps.{Sheet, sheet, piecesOf}
+use Rattle.sheet_turn.proofs.TurnLaws.{carry-done, carry-full, long-yes, opens, ready-made}
+use Rattle.triplet_study.specs.Study.{Study, study}
 use Rattle.sheet_turn.proofs.kernel.carry_asked.Statement.{statement}
 use Rattle.sheet_turn.proofs.kernel.carry_asked.Tie as tie
 
--- ---- what the call takes
-
-abbrev asked : tie.Start → Given
-asked s = given (s .args .shape) (s .args .addresses .now) (s .args .gp-map .now) (s .args .steps .now) (s .args .frequencies1 .now) (s .args .frequencies2 .now) (s .args .points .now) (s .args .triplets .now)
+-- what the call takes
+abbrev asked : tie.Start → Study
+asked s =
+    study (s .args .z .shape) (s .args .addresses .now) (s .args .gp-map .now) (s .args .steps .now) (s .args .frequencies1 .now) (s .args .frequencies2 .now) (s .args .points .now) (s .args .triplets .now)
 
 abbrev start : tie.Start → Sheet
 start s = sheet (s .args .weights .now) (s .args .flags .now) (s .args .marks .now) (s .args .runs)
 
--- ---- the facts that the checker asks for
+-- the tally with all runs of the call
+added : (c : tie.After-add) → let s = c .before .before .before .before .before .before .before .before .before in c .add .result ≡ addedTo (s .args .runs) (opens (asked s) (start s) (s .pre .0 .0) (s .pre .0 .1 .counts))
+added c =
+    let s = c .before .before .before .before .before .before .before .before .before in
+    c .add .ensures ∙ ap (addedTo (s .args .runs)) (c .before .open-pieces .ensures)
 
 mul-pieces : tie.Need-mul-pieces
 mul-pieces c =
@@ -44,16 +49,15 @@ returns : tie.Need-returns
 returns c =
     let s : _ = c .before .before .before .before .before .before .before .before .before .before .before in
     let y = s .pre .0 .0 in
-    let p = s .pre .0 .1 in
-    let a = c .before .before .add .ensures ∙ ap (addedTo (s .args .runs)) (c .before .before .before .open-pieces .ensures) in
-    (carry-full (asked s) (start s) y p (added-no (s .args .runs) (opens (asked s) (start s) y p) a (c .before .number-of .ensures)) (c .if1 .taken), s .pre .1)
+    let p = s .pre .0 .1 .counts in
+    (carry-full (asked s) (start s) y p (added-no (s .args .runs) (opens (asked s) (start s) y p) (added (c .before .before)) (c .before .number-of .ensures)) (c .if1 .taken), s .pre .1)
 
 fill-open-requires : tie.Need-fill-open-requires
 fill-open-requires c κs =
-    let s : _ = c .before .before .before .before .before .before .before .before .before .before .before .before .before .before .before .before .before .before .before .before .before .before .before .before in
+    let s : _ = c .before .before .before .before .before .before .before .before .before .before .before .before .before .before .before .before .before .before in
     let y = s .pre .0 .0 in
     let p = s .pre .0 .1 in
-    (made-ready (asked s) (start s) y p, ((p .copy, (p .all-rows, long-yes (asked s) (start s) y (p .counts) .1 .1)), ((λ h. let k = s .pre .1 .0 h in (k .0 ∙ ap (λ (q : Study). firstCorners q (s .args .held)) (sym (made-is (asked s) (start s) y p)), k .1 ∙ ap (λ (q : Study). secondCorners q (s .args .held)) (sym (made-is (asked s) (start s) y p)))), s .pre .1 .1)))
+    (ready-made (asked s) (start s) y (p .counts), ((p .copy, long-yes (asked s) (start s) y (p .counts) .1 .1), s .pre .1))
 
 same-length-2 : tie.Need-same-length-2
 same-length-2 c = search needs
@@ -66,13 +70,13 @@ same-length-4 c = search needs
 
 returns-2 : tie.Need-returns-2
 returns-2 c =
-    let s : _ = c .before .before .before .before .before .before .before .before .before .before .before .before .before .before .before .before .before .before .before .before .before .before .before .before .before .before .before .before .before .before .before in
+    let s : _ = c .before .before .before .before .before .before .before .before .before .before .before .before .before .before .before .before .before .before .before .before .before .before .before .before .before in
     let y = s .pre .0 .0 in
-    let p = s .pre .0 .1 in
-    let a = c .before .before .before .before .before .before .before .before .before .before .before .before .before .before .before .before .before .before .before .before .before .before .add .ensures ∙ ap (addedTo (s .args .runs)) (c .before .before .before .before .before .before .before .before .before .before .before .before .before .before .before .before .before .before .before .before .before .before .before .open-pieces .ensures) in
-    let u = sym (added-no (s .args .runs) (opens (asked s) (start s) y p) a (c .before .before .before .before .before .before .before .before .before .before .before .before .before .before .before .before .before .before .before .before .before .number-of .ensures)) ∙ c .before .before .before .before .before .before .before .before .before .before .before .before .before .before .before .before .before .before .before .before .if1 .left in
+    let p = s .pre .0 .1 .counts in
+    let a = added (c .before .before .before .before .before .before .before .before .before .before .before .before .before .before .before .before) in
+    let u = sym (added-no (s .args .runs) (opens (asked s) (start s) y p) a (c .before .before .before .before .before .before .before .before .before .before .before .before .before .before .before .number-of .ensures)) ∙ c .before .before .before .before .before .before .before .before .before .before .before .before .before .before .if1 .left in
     let f = c .before .before .before .before .before .before .fill-open .ensures in
-    (carry-done (asked s) (start s) y p u (added-runs (s .args .runs) (opens (asked s) (start s) y p) a u) (f .1 .0) (f .1 .1 .0) (f .1 .1 .1), ((λ h. let k = f .0 .0 h in (k .0 ∙ ap (λ (q : Study). firstCorners q (c .before .before .before .before .before .before .fill-open .result)) (made-is (asked s) (start s) y p), k .1 ∙ ap (λ (q : Study). secondCorners q (c .before .before .before .before .before .before .fill-open .result)) (made-is (asked s) (start s) y p))), f .0 .1))
+    (carry-done (asked s) (start s) y p u (added-runs (s .args .runs) (opens (asked s) (start s) y p) a u) (f .1 .0) (f .1 .1), f .0)
 
 pub carry-asked-spec : {M : Type 1} → statement M
 carry-asked-spec =
