@@ -9,7 +9,7 @@ use lib.Signed.{mag}
 use Rattle.list_laws.specs.Lists.{allBelow}
 use Rattle.list_laws.specs.Signed.{within, isBetween}
 use Rattle.ask.specs.Ask.{firstNo}
-use Rattle.common.specs.Mesh.{countOf, meshOf}
+use Rattle.numbers.specs.Mesh.{countOf, meshOf}
 use Rattle.question_grids.specs.Grids.{areTriples, triplesIn, isGridKind, isMesh, areAddresses, isMap}
 use Rattle.question_values.specs.Counts.{areCounts}
 use Rattle.question_values.specs.TpTypes.{isTpType}

@@ -71,7 +71,7 @@ fn table_of(head: Head) -> [i64; 288]
     ensures { λ r. ⌜ r ≡ tableFor head ⌝ }
 {
     let diag = head.diag;
-    let diagonal = common::kernel::magnitude(diag);
+    let diagonal = numbers::kernel::magnitude(diag);
     let mut table = [0i64; 288];
     tetrahedron_tables::kernel::copy_table(diagonal, &mut table);
     table

@@ -15,7 +15,7 @@ use Rattle.question_values.specs.Averages.{areDegenerateIds, areWeights}
 use Rattle.question_values.specs.Counts.{areCounts}
 use Rattle.question_values.specs.TpTypes.{isTpType, channelsOf}
 use Rattle.averaging_blocks.specs.Weights.{averagedPoints}
-use Rattle.averaging_blocks.specs.Flags.{averagedFlagPoints}
+use Rattle.averaging_flags.specs.Flags.{averagedFlagPoints}
 
 -- how many flags a triplet has: one for each point, b1, b2
 abbrev pub flagCount : ℤ → ℤ → ℕ

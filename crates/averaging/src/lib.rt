@@ -2,7 +2,7 @@
 ghost use mathlib.Core.Path.{_≡_};
 ghost use Rattle.averaging.specs.Answers.{averagingNo, averagingAnswer, weightsAfter, flagsAfter};
 pub use ask::Answer;
-use common::kernel::magnitude;
+use numbers::kernel::magnitude;
 use question_values::kernel::averages::degenerate_ids_ok;
 use question_values::kernel::averages::weights_ok;
 use question_values::kernel::counts::signed_counts_ok;
@@ -10,7 +10,7 @@ use question_values::kernel::tp_type::channels_of;
 use question_values::kernel::tp_type::tp_type_ok;
 
 // The number of the first question that is answered no, or 0.
-fn averaging_no(
+fn averaging_first_no(
     iw: &[f64],
     iw_zero: &[i8],
     degenerate_ids1: &[i64],
@@ -61,7 +61,7 @@ pub fn average_weights_over_degenerate_sets(
     ensures { λ r. ⌜ now («iw_zero» .exit) ≡ flagsAfter (now (iw .entry)) (now («iw_zero» .entry))
         (now («degenerate_ids1» .entry)) (now («degenerate_ids2» .entry)) «num_band0» «num_band» «tp_type» ⌝ }
 {
-    let no = averaging_no(
+    let no = averaging_first_no(
         iw,
         iw_zero,
         degenerate_ids1,
@@ -83,7 +83,7 @@ pub fn average_weights_over_degenerate_sets(
         bands,
         all_points,
     );
-    averaging_blocks::kernel::flags::average_points(
+    averaging_flags::kernel::flags::average_points(
         iw_zero,
         degenerate_ids1,
         degenerate_ids2,

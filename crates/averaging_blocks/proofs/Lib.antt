@@ -1,7 +1,5 @@
 -- The laws.
-pub mod SizeLaws
 pub mod WeightLaws
-pub mod FlagLaws
 pub mod PointLaws
 pub mod StartLaws
 pub mod SingleLaws

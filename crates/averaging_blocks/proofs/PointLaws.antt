@@ -11,9 +11,9 @@ use Rattle.list_laws.proofs.ProductLaws.{digit-lt}
 use Rattle.ieee_laws.specs.Zeros.{plusZero}
 use Rattle.degenerate_sets.specs.Sets.{startsAt, blockOf}
 use Rattle.averaging_blocks.specs.Weights.{averagedIn, averagedFrom, averaged, averagedPoints}
-use Rattle.averaging_blocks.specs.Flags.{flagIn, averagedFlags, averagedFlagPoints}
+use Rattle.averaging_flags.specs.Flags.{flagIn, averagedFlags, averagedFlagPoints}
 use Rattle.averaging_blocks.proofs.WeightLaws.{averaged-length}
-use Rattle.averaging_blocks.proofs.FlagLaws.{flags-length}
+use Rattle.averaging_flags.proofs.FlagLaws.{flags-length}
 
 -- ---- weights
 

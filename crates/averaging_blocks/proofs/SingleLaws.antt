@@ -18,7 +18,7 @@ use Rattle.list_laws.proofs.MatrixLaws.{each-same, part-len, square-is}
 use Rattle.ieee_laws.specs.Zeros.{plusZero}
 use Rattle.degenerate_sets.specs.Sets.{startsAt, endOf, blockOf}
 use Rattle.averaging_blocks.specs.Weights.{averagedIn, averagedFrom, averaged, averagedPoints}
-use Rattle.averaging_blocks.specs.Flags.{flagIn, averagedFlags, averagedFlagPoints}
+use Rattle.averaging_flags.specs.Flags.{flagIn, averagedFlags, averagedFlagPoints}
 use Rattle.degenerate_sets.proofs.SetLaws.{ends, start-hit}
 use Rattle.averaging_blocks.proofs.WeightLaws.{averaged-one}
 

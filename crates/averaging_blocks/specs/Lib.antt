@@ -1,3 +1,2 @@
 -- The definitions.
 pub mod Weights
-pub mod Flags

@@ -1,3 +1,2 @@
 // Averages matrices in place: weights and flags.
-pub mod flags;
 pub mod weights;

@@ -1,2 +1,2 @@
--- Laws that several proofs cite.
-pub mod MeshLaws
+-- The laws.
+pub mod MatrixLaws

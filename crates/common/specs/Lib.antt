@@ -1,2 +1,2 @@
--- The definitions that the contracts cite.
-pub mod Mesh
+-- The definitions.
+pub mod Matrix

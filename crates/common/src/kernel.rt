@@ -1,166 +1,60 @@
-// Helpers for the crates above.
+// The tests of a lattice and of a vector, and their product.
 ghost use mathlib.Core.Path.{_≡_};
-ghost use Prim.Native.Nat.{_+_, _<_};
-ghost use lib.ListN.{length};
-ghost use lib.Signed.{nonNeg, mag, ltZ};
+ghost use mathlib.Core.Bool.{true};
+ghost use Prim.Native.Nat.{_<_};
+ghost use lib.Ieee.{ofInt, binary64};
 ghost use Rattle.list_laws.specs.Lists.{at};
-ghost use Rattle.list_laws.specs.Signed.{eqZ, isNat, isBelow, isBetween, within, remEuclid};
-ghost use Rattle.ieee_laws.specs.Magnitude.{absolute};
-ghost use Rattle.common.specs.Mesh.{meshOf, countOf, MeshWithin};
-use crate::Mesh;
+ghost use Rattle.common.specs.Matrix.{isLatticeEntry, isLatticeRow, isLattice, isVector, rowTimes, matvecOf};
+use numbers::kernel::abs;
+use numbers::kernel::is_within;
 
-// ---- signed numbers
-
-pub fn nonneg(z: i64) -> bool
-    ensures { λ r. ⌜ r ≡ nonNeg z ⌝ }
+// Finite, and of magnitude at most 2^30.
+fn lattice_entry_ok(x: f64) -> bool
+    ensures { λ r. ⌜ r ≡ isLatticeEntry x ⌝ }
 {
-    0 <= z
+    abs(x) <= 1073741824.0
 }
 
-pub fn is_less(a: i64, b: i64) -> bool
-    ensures { λ r. ⌜ r ≡ ltZ a b ⌝ }
+fn lattice_row_ok(row: [f64; 3]) -> bool
+    ensures { λ r. ⌜ r ≡ isLatticeRow row ⌝ }
 {
-    a < b
+    lattice_entry_ok(row[0]) & lattice_entry_ok(row[1]) & lattice_entry_ok(row[2])
 }
 
-pub fn is_equal(a: i64, b: i64) -> bool
-    ensures { λ r. ⌜ r ≡ eqZ a b ⌝ }
+// Question 2.
+pub fn lattice_ok(a: [[f64; 3]; 3]) -> bool
+    ensures { λ r. ⌜ r ≡ isLattice a ⌝ }
 {
-    a == b
+    lattice_row_ok(a[0]) & lattice_row_ok(a[1]) & lattice_row_ok(a[2])
 }
 
-// The magnitude of `z` where it is not negative, and one less than its magnitude where it is.
-pub fn magnitude(z: i64) -> usize
-    ensures { λ r. ⌜ r ≡ mag z ⌝ }
+// Question 7, of a vector.
+pub fn vector_ok(b: [i64; 3]) -> bool
+    ensures { λ r. ⌜ r ≡ isVector b ⌝ }
 {
-    if 0 <= z {
-        z as usize
-    } else {
-        (-1 - z) as usize
-    }
+    is_within(4096, b[0]) & is_within(4096, b[1]) & is_within(4096, b[2])
 }
 
-pub fn is_nat(z: i64, n: usize) -> bool
-    ensures { λ r. ⌜ r ≡ isNat z n ⌝ }
+// A component of a tested vector as a float.
+fn component(b: [i64; 3], i: usize) -> f64
+    requires { ⌜ (i < 3) × (isVector b ≡ true) ⌝ }
+    ensures { λ r. ⌜ r ≡ ofInt binary64 (at b i) ⌝ }
 {
-    let k = magnitude(z);
-    nonneg(z) & (k == n)
+    b[i] as f64
 }
 
-pub fn is_below(z: i64, n: usize) -> bool
-    ensures { λ r. ⌜ r ≡ isBelow z n ⌝ }
+// One row of the lattice times the vector.
+fn row_times(row: [f64; 3], b: [i64; 3]) -> f64
+    requires { ⌜ isVector b ≡ true ⌝ }
+    ensures { λ r. ⌜ r ≡ rowTimes row b ⌝ }
 {
-    let k = magnitude(z);
-    nonneg(z) & (k < n)
+    row[0] * component(b, 0) + row[1] * component(b, 1) + row[2] * component(b, 2)
 }
 
-pub fn is_between(low: usize, high: usize, z: i64) -> bool
-    ensures { λ r. ⌜ r ≡ isBetween low high z ⌝ }
+// Float matrix times a tested integer vector.
+pub fn matvec(a: [[f64; 3]; 3], b: [i64; 3]) -> [f64; 3]
+    requires { ⌜ isVector b ≡ true ⌝ }
+    ensures { λ r. ⌜ r ≡ matvecOf a b ⌝ }
 {
-    let k = magnitude(z);
-    nonneg(z) & (low <= k) & (k <= high)
-}
-
-pub fn is_within(n: usize, z: i64) -> bool
-    ensures { λ r. ⌜ r ≡ within n z ⌝ }
-{
-    let k = magnitude(z);
-    if nonneg(z) { k <= n } else { k < n }
-}
-
-// The remainder of `a` by `m` that is never negative.
-pub fn rem_euclid(a: i64, m: usize) -> usize
-    requires { ⌜ 0 < m ⌝ }
-    ensures { λ r. ⌜ r ≡ remEuclid a m ⌝ }
-{
-    let k = magnitude(a);
-    if nonneg(a) { k % m } else { (m - 1) - k % m }
-}
-
-// ---- an element of a slice
-
-pub fn magnitude_at(xs: &[i64], k: usize) -> usize
-    requires { ⌜ k < length (now xs) ⌝ }
-    ensures { λ r. ⌜ r ≡ mag (at (now (xs .entry)) k) ⌝ }
-{
-    magnitude(xs[k])
-}
-
-pub fn equal_at(xs: &[i64], k: usize, z: i64) -> bool
-    requires { ⌜ k < length (now xs) ⌝ }
-    ensures { λ r. ⌜ r ≡ eqZ (at (now (xs .entry)) k) z ⌝ }
-{
-    is_equal(xs[k], z)
-}
-
-pub fn nat_at(xs: &[i64], k: usize, n: usize) -> bool
-    requires { ⌜ k < length (now xs) ⌝ }
-    ensures { λ r. ⌜ r ≡ isNat (at (now (xs .entry)) k) n ⌝ }
-{
-    is_nat(xs[k], n)
-}
-
-pub fn below_at(xs: &[i64], k: usize, n: usize) -> bool
-    requires { ⌜ k < length (now xs) ⌝ }
-    ensures { λ r. ⌜ r ≡ isBelow (at (now (xs .entry)) k) n ⌝ }
-{
-    is_below(xs[k], n)
-}
-
-pub fn within_at(n: usize, xs: &[i64], k: usize) -> bool
-    requires { ⌜ k < length (now xs) ⌝ }
-    ensures { λ r. ⌜ r ≡ within n (at (now (xs .entry)) k) ⌝ }
-{
-    is_within(n, xs[k])
-}
-
-pub fn less_at(xs: &[i64], k: usize) -> bool
-    requires { ⌜ k + 1 < length (now xs) ⌝ }
-    ensures { λ r. ⌜ r ≡ ltZ (at (now (xs .entry)) k) (at (now (xs .entry)) (k + 1)) ⌝ }
-{
-    is_less(xs[k], xs[k + 1])
-}
-
-// ---- the mesh numbers
-
-// The mesh number of place `i`, as an unsigned number.
-fn mesh_number(d_diag: [i64; 3], i: usize) -> usize
-    requires { ⌜ i < 3 ⌝ }
-    ensures { λ r. ⌜ r ≡ mag (at «d_diag» i) ⌝ }
-{
-    magnitude(d_diag[i])
-}
-
-// The mesh numbers as unsigned numbers.
-pub fn mesh_of(d_diag: [i64; 3]) -> Mesh
-    ensures { λ r. ⌜ r ≡ meshOf «d_diag» ⌝ }
-{
-    Mesh {
-        d0: mesh_number(d_diag, 0),
-        d1: mesh_number(d_diag, 1),
-        d2: mesh_number(d_diag, 2),
-    }
-}
-
-// N, the product of the mesh numbers.
-pub fn mesh_count(m: Mesh) -> usize
-    requires { ⌜ MeshWithin 256 m ⌝ }
-    ensures { λ r. ⌜ r ≡ countOf m ⌝ }
-{
-    m.d2 * (m.d0 * m.d1)
-}
-
-// ---- floats
-
-// The magnitude of x.
-pub fn abs(x: f64) -> f64
-    ensures { λ r. ⌜ r ≡ absolute x ⌝ }
-{
-    if x < 0.0 {
-        return -x;
-    }
-    if x == 0.0 {
-        return 0.0;
-    }
-    x
+    [row_times(a[0], b), row_times(a[1], b), row_times(a[2], b)]
 }

@@ -1,22 +1,34 @@
-// The leaves that turn a signed number into a bool or an unsigned number once, and the mesh numbers.
+// A lattice, question 2, and its product with a whole vector.
+ghost use mathlib.Core.Path.{_≡_};
+ghost use Rattle.common.specs.Matrix.{matvecAnswer};
+pub use ask::Answer;
+
 pub mod kernel;
 
-// Question 2 of document 01: a lattice entry that is not finite, or over 2^30 in magnitude.
-pub const BAD_LATTICE: u64 = 2;
-
-// Question 7 of document 01: a table or a vector with a component outside ±4,096.
-pub const BAD_TABLE: u64 = 7;
-
-// Three mesh numbers, tested.
-pub struct Mesh {
-    pub d0: usize,
-    pub d1: usize,
-    pub d2: usize,
+// The answer, and the product beside it, zeros beside a refusal.
+pub struct MatvecAnswer {
+    pub answer: Answer,
+    pub vector: [f64; 3],
 }
 
-// A grid address.
-pub struct Address {
-    pub x: i64,
-    pub y: i64,
-    pub z: i64,
+// Float matrix times integer vector.
+pub fn matvec_di(a: [[f64; 3]; 3], b: [i64; 3]) -> MatvecAnswer
+    ensures { λ r. ⌜ r ≡ matvecAnswer a b ⌝ }
+{
+    if !kernel::lattice_ok(a) {
+        return MatvecAnswer {
+            answer: Answer::Refused(numbers::BAD_LATTICE),
+            vector: [0.0, 0.0, 0.0],
+        };
+    }
+    if !kernel::vector_ok(b) {
+        return MatvecAnswer {
+            answer: Answer::Refused(numbers::BAD_TABLE),
+            vector: [0.0, 0.0, 0.0],
+        };
+    }
+    MatvecAnswer {
+        answer: Answer::Done,
+        vector: kernel::matvec(a, b),
+    }
 }

@@ -2,3 +2,4 @@
 pub mod SetLaws
 pub mod WalkLaws
 pub mod IdLaws
+pub mod SizeLaws

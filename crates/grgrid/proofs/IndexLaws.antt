@@ -5,9 +5,9 @@ use native.Mathlib.Omega.{arith}
 use Rattle.list_laws.specs.Signed.{remEuclid}
 use Rattle.list_laws.proofs.ProductLaws.{digit-lt}
 use Rattle.list_laws.proofs.SignedLaws.{rem-lt}
-use Rattle.common.specs.declared.Address.{Address}
-use Rattle.common.specs.declared.Mesh.{Mesh}
-use Rattle.common.specs.Mesh.{countOf, MeshWithin}
+use Rattle.numbers.specs.declared.Address.{Address}
+use Rattle.numbers.specs.declared.Mesh.{Mesh}
+use Rattle.numbers.specs.Mesh.{countOf, MeshWithin}
 use Rattle.grgrid.specs.Index.{gridIndex}
 
 module _ {top : ℕ} {m : Mesh} (w : MeshWithin top m) (a : Address) where

@@ -5,9 +5,9 @@ use Prim.Native.Nat.{ℕ, _+_, _*_}
 use lib.IntN.{ℤ, pos}
 use Rattle.list_laws.specs.Lists.{at}
 use Rattle.list_laws.specs.Signed.{remEuclid}
-use Rattle.common.specs.declared.Address.{Address}
-use Rattle.common.specs.declared.Mesh.{Mesh}
-use Rattle.common.specs.Mesh.{meshOf}
+use Rattle.numbers.specs.declared.Address.{Address}
+use Rattle.numbers.specs.declared.Mesh.{Mesh}
+use Rattle.numbers.specs.Mesh.{meshOf}
 use Rattle.question_grids.specs.Grids.{isMesh}
 use Rattle.grgrid.specs.declared.IndexAnswer.{IndexAnswer}
 use Rattle.grgrid.specs.declared.IndexAnswer.the-variants.{Index, Refused}

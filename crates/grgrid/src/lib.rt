@@ -16,7 +16,7 @@ pub fn grid_index_from_address(address: [i64; 3], d_diag: [i64; 3]) -> IndexAnsw
     if !question_grids::kernel::grid::mesh_ok(256, d_diag) {
         return IndexAnswer::Refused(questions::BAD_MESH);
     }
-    let m = common::kernel::mesh_of(d_diag);
+    let m = numbers::kernel::mesh_of(d_diag);
     let a = kernel::address_of(address);
     let g = kernel::grid_index(a, m);
     IndexAnswer::Index(g as i64)

@@ -17,8 +17,8 @@ use Rattle.question_values.proofs.CountLaws.{bands1-low, bands1-high, points-lo
 use Rattle.question_grids.specs.Grids.{gridQuestions, triplesIn}
 use Rattle.questions.specs.Irreducible.{areIrreducible}
 use Rattle.questions.proofs.IrreducibleLaws.{frequencies-held, irreducible-length, irreducible-at}
-use Rattle.bzgrid.specs.Neighbours.{gridOf}
-use Rattle.bzgrid.proofs.CallLaws.{sound-grid}
+use Rattle.bzgrid_lookup.specs.Neighbours.{gridOf}
+use Rattle.bzgrid_lookup.proofs.CallLaws.{sound-grid}
 use Rattle.tetrahedron_method.specs.declared.WeightFunction.{WeightFunction}
 use Rattle.grid_point_weights.specs.Weights.{study, Sound}
 use Rattle.grid_point_weights.specs.Calls.{weightsQuestions}

@@ -15,8 +15,8 @@ use Rattle.list_laws.proofs.MatrixLaws.{replaced-as}
 use Rattle.question_grids.specs.Grids.{triplesIn}
 use Rattle.question_grids.specs.Tables.{rowsIn}
 use Rattle.question_grids.proofs.TableLaws.{corners-whole}
-use Rattle.bzgrid.specs.Neighbours.{wantedAddress}
-use Rattle.bzgrid.proofs.NeighbourLaws.{neighbour-lt}
+use Rattle.bzgrid_lookup.specs.Neighbours.{wantedAddress}
+use Rattle.bzgrid_lookup.proofs.NeighbourLaws.{neighbour-lt}
 use Rattle.tetrahedron_method.proofs.SortedLaws.{weight-same}
 use Rattle.grid_point_weights.specs.Weights.{GridStudy, Sound, cornerOf, vertexFrequency, vertexFrequencies, gridPointWeight, weightsOf, cornerFrequency, cornerWeight, Held}
 

@@ -10,8 +10,8 @@ use lib.Signed.{mag}
 use Rattle.list_laws.specs.Lists.{at, tabulate, rows, area}
 use Rattle.question_grids.specs.Grids.{triplesIn}
 use Rattle.question_grids.specs.Tables.{isTable, rowsIn}
-use Rattle.bzgrid.specs.declared.BzGrid.{BzGrid}
-use Rattle.bzgrid.specs.Neighbours.{neighbourOf, wantedAddress, SoundGrid}
+use Rattle.bzgrid_lookup.specs.declared.BzGrid.{BzGrid}
+use Rattle.bzgrid_lookup.specs.Neighbours.{neighbourOf, wantedAddress, SoundGrid}
 use Rattle.tetrahedron_method.specs.declared.WeightFunction.{WeightFunction}
 use Rattle.tetrahedron_method.specs.Weight.{weightOf}
 

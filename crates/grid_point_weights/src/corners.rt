@@ -4,10 +4,10 @@ ghost use mathlib.Core.Bool.{true};
 ghost use Prim.Native.Nat.{_≤_, _<_};
 ghost use lib.ListN.{length};
 ghost use Rattle.list_laws.specs.Lists.{area};
-ghost use Rattle.bzgrid.specs.Neighbours.{SoundGrid};
+ghost use Rattle.bzgrid_lookup.specs.Neighbours.{SoundGrid};
 ghost use Rattle.question_grids.specs.Grids.{areTriples, triplesIn};
 ghost use Rattle.grid_point_weights.specs.Weights.{cornerOf};
-use bzgrid::BzGrid;
+use bzgrid_lookup::BzGrid;
 
 // One number for each corner of the table, at the start of a work area.
 pub fn corner_points(
@@ -24,8 +24,8 @@ pub fn corner_points(
     let mut corners = [0usize; 384];
     let n = table.len() / 3;
     for j in 0..n {
-        let v = bzgrid::kernel::neighbour(grid, addresses, gp_map, table, gp, j);
-        corners[j] = common::kernel::magnitude_at(gp2irgp_map, v);
+        let v = bzgrid_lookup::kernel::neighbour(grid, addresses, gp_map, table, gp, j);
+        corners[j] = numbers::kernel::magnitude_at(gp2irgp_map, v);
     }
     corners
 }

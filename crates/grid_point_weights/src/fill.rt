@@ -6,7 +6,7 @@ ghost use lib.ListN.{length};
 ghost use Rattle.question_grids.specs.Grids.{triplesIn};
 ghost use Rattle.question_grids.specs.Steps.{areGridPoints};
 ghost use Rattle.grid_point_weights.specs.Weights.{study, weightsOf, weightsOfAll, Sound};
-use bzgrid::BzGrid;
+use bzgrid_lookup::BzGrid;
 use tetrahedron_method::WeightFunction;
 
 // The weights of every band at every frequency point, around the grid point gp.
@@ -65,7 +65,7 @@ pub fn fill_all(
     let mut i = 0;
     let mut start = 0;
     while i < grid_points.len() {
-        let gp = common::kernel::magnitude_at(grid_points, i);
+        let gp = numbers::kernel::magnitude_at(grid_points, i);
         let end = start + size;
         fill_point(
             &mut iw[start..end],

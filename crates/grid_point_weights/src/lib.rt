@@ -2,7 +2,7 @@
 ghost use mathlib.Core.Path.{_≡_};
 ghost use lib.ListN.{length};
 ghost use lib.Signed.{mag};
-ghost use Rattle.bzgrid.specs.Neighbours.{gridOf};
+ghost use Rattle.bzgrid_lookup.specs.Neighbours.{gridOf};
 ghost use Rattle.ask.specs.Ask.{firstNo, afterCall};
 ghost use Rattle.ask.specs.Answers.{answerOf};
 ghost use Rattle.grid_point_weights.specs.Weights.{study, weightsOfAll};
@@ -39,11 +39,16 @@ pub fn integration_weights_at_grid_points(
         (weightsOfAll (study (gridOf «bz_grid_type» «d_diag») (now (addresses .entry)) (now («gp_map» .entry)) (now («relative_grid_address» .entry)) (now («gp2irgp_map» .entry)) (now (frequencies .entry)) (mag «num_band») (now («frequency_points» .entry)) function) (now («grid_points» .entry)))
         (now (iw .entry)) ⌝ }
 {
-    let grid_no = question_grids::kernel::grid::grid_no(bz_grid_type, d_diag, addresses, gp_map);
-    if grid_no != 0 {
-        return Answer::Refused(grid_no);
+    let grid_first_no = question_grids::kernel::grid::grid_first_no(
+        bz_grid_type,
+        d_diag,
+        addresses,
+        gp_map,
+    );
+    if grid_first_no != 0 {
+        return Answer::Refused(grid_first_no);
     }
-    let no = questioned::weights_no(
+    let no = questioned::weights_first_no(
         relative_grid_address,
         num_band,
         frequency_points,
@@ -57,8 +62,8 @@ pub fn integration_weights_at_grid_points(
     if no != 0 {
         return Answer::Refused(no);
     }
-    let grid = bzgrid::kernel::grid_of(bz_grid_type, d_diag);
-    let bands = common::kernel::magnitude(num_band);
+    let grid = bzgrid_lookup::kernel::grid_of(bz_grid_type, d_diag);
+    let bands = numbers::kernel::magnitude(num_band);
     fill::fill_all(
         iw,
         grid_points,

@@ -5,7 +5,7 @@ ghost use Rattle.grid_point_weights.specs.Calls.{weightsQuestions};
 use question_values::kernel::counts;
 
 // The number of the first question, after those on the grid, that is answered no, or 0.
-pub fn weights_no(
+pub fn weights_first_no(
     relative_grid_address: &[i64],
     num_band: i64,
     frequency_points: &[f64],
@@ -32,7 +32,7 @@ pub fn weights_no(
     if !question_grids::kernel::steps::grid_points_ok(p, grid_points) {
         return questions::BAD_GRID_POINT;
     }
-    let bands = common::kernel::magnitude(num_band);
+    let bands = numbers::kernel::magnitude(num_band);
     if !questions::kernel::irreducible::irreducible_ok(num_ir, bands, p, frequencies, gp2irgp_map) {
         return questions::BAD_FREQUENCY;
     }

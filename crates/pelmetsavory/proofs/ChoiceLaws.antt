@@ -6,9 +6,9 @@ use Prim.Native.Nat.{ℕ}
 use native.Mathlib.Omega.{arith}
 use lib.Ieee.{Float}
 use lib.IntN.{ℤ, pos}
-use Rattle.lattice.specs.Matrix.{matvecOf, matvecQuestions, matvecAnswer}
-use Rattle.common.specs.Mesh.{meshOf}
-use Rattle.lattice.specs.declared.MatvecAnswer.{MatvecAnswer}
+use Rattle.common.specs.Matrix.{matvecOf, matvecQuestions, matvecAnswer}
+use Rattle.numbers.specs.Mesh.{meshOf}
+use Rattle.common.specs.declared.MatvecAnswer.{MatvecAnswer}
 use Rattle.grgrid.specs.Index.{addressOf, gridIndex, indexAnswer}
 use Rattle.grgrid.specs.declared.IndexAnswer.the-variants as index
 use Rattle.ask.specs.Ask.{asks, firstNo, afterCall}

@@ -3,13 +3,13 @@ ghost use mathlib.Core.Path.{_≡_};
 ghost use lib.ListN.{length};
 ghost use lib.IntN.{pos};
 ghost use lib.Signed.{mag};
-ghost use Rattle.lattice.specs.Matrix.{matvecOf, matvecQuestions};
-ghost use Rattle.common.specs.Mesh.{meshOf};
+ghost use Rattle.common.specs.Matrix.{matvecOf, matvecQuestions};
+ghost use Rattle.numbers.specs.Mesh.{meshOf};
 ghost use Rattle.grgrid.specs.Index.{addressOf, gridIndex};
 ghost use Rattle.ask.specs.Ask.{firstNo, afterCall};
-ghost use Rattle.bzgrid.specs.Neighbours.{gridOf};
-ghost use Rattle.neighbours.specs.Lists.{neighboursOf, neighboursOfAll};
-ghost use Rattle.neighbours.specs.Calls.{pointQuestions, manyQuestions};
+ghost use Rattle.bzgrid_lookup.specs.Neighbours.{gridOf};
+ghost use Rattle.bzgrid.specs.Lists.{neighboursOf, neighboursOfAll};
+ghost use Rattle.bzgrid.specs.Calls.{pointQuestions, manyQuestions};
 ghost use Rattle.pelmetsavory.specs.Calls.{indexQuestions};
 use crate::Grid;
 use crate::Triple;
@@ -33,7 +33,7 @@ pub extern "C" fn pelmetsavory_fill_neighboring_grid_points(
 {
     let bz_grid_type = grid.bz_grid_type;
     let d_diag = grid.d_diag;
-    let answer = neighbours::fill_neighboring_grid_points(
+    let answer = bzgrid::fill_neighboring_grid_points(
         out,
         grid_point,
         relative_grid_address,
@@ -62,7 +62,7 @@ pub extern "C" fn pelmetsavory_neighboring_grid_points_many(
 {
     let bz_grid_type = grid.bz_grid_type;
     let d_diag = grid.d_diag;
-    let answer = neighbours::neighboring_grid_points_many(
+    let answer = bzgrid::neighboring_grid_points_many(
         out,
         grid_points,
         relative_grid_address,
@@ -108,7 +108,7 @@ pub extern "C" fn pelmetsavory_matvec_di(
 {
     let matrix = *a;
     let vector = b.numbers;
-    let done = lattice::matvec_di(matrix, vector);
+    let done = common::matvec_di(matrix, vector);
     let answer = done.answer;
     let no = number_of(answer);
     if no != 0 {

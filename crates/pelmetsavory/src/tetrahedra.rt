@@ -9,7 +9,7 @@ ghost use Rattle.relative_grid_address.specs.Answer.{allTables, latticeQuestion
 ghost use Rattle.tetrahedron_method.specs.Answer.{weightQuestions};
 ghost use Rattle.tetrahedron_method.specs.Weight.{weightOf};
 ghost use Rattle.ask.specs.Ask.{firstNo, afterCall};
-ghost use Rattle.bzgrid.specs.Neighbours.{gridOf};
+ghost use Rattle.bzgrid_lookup.specs.Neighbours.{gridOf};
 ghost use Rattle.grid_point_weights.specs.Weights.{study, weightsOfAll};
 ghost use Rattle.grid_point_weights.specs.Calls.{gridPointQuestions};
 ghost use Rattle.pelmetsavory.specs.Calls.{functionOf};

@@ -6,15 +6,15 @@ use Rattle.ieee_laws.specs.Zeros.{isNegativeZero}
 use Rattle.list_laws.specs.Lists.{allBelow, tabulate, rows, firstAt}
 use Rattle.list_laws.specs.Matrix.{eachPart}
 use Rattle.list_laws.specs.Signed.{isNat, isBelow, isBetween, within}
-use Rattle.lattice.specs.Matrix.{isLattice, isLatticeRow, isLatticeEntry, rowTimes}
-use Rattle.common.specs.Mesh.{meshOf, countOf}
+use Rattle.common.specs.Matrix.{isLattice, isLatticeRow, isLatticeEntry, rowTimes}
+use Rattle.numbers.specs.Mesh.{meshOf, countOf}
 use Rattle.grgrid.specs.Index.{gridIndex}
-use Rattle.neighbours.specs.Lists.{neighboursOfAll, neighboursOf}
-use Rattle.bzgrid.specs.Neighbours.{gridOf, kindOf, neighbourOf, wantedAddress, sparseNeighbour, mapOnDoubled, denseNeighbour, inGroup, isAddress}
+use Rattle.bzgrid.specs.Lists.{neighboursOfAll, neighboursOf}
+use Rattle.bzgrid_lookup.specs.Neighbours.{gridOf, kindOf, neighbourOf, wantedAddress, sparseNeighbour, mapOnDoubled, denseNeighbour, inGroup, isAddress}
 use Rattle.relative_grid_address.specs.Answer.{tableAnswer}
 use Rattle.relative_grid_address.specs.Diagonal.{mainDiagonalOf}
 use Rattle.averaging_blocks.specs.Weights.{averagedPoints}
-use Rattle.averaging_blocks.specs.Flags.{averagedFlagPoints}
+use Rattle.averaging_flags.specs.Flags.{averagedFlagPoints}
 use Rattle.ask.specs.Ask.{firstNo}
 use Rattle.question_values.specs.Averages.{isDegenerateId, areDegenerateIds, isWeight, areWeights}
 use Rattle.question_values.specs.Counts.{isBandCount, areCounts, isProduct}

@@ -9,9 +9,9 @@ use Rattle.ieee_laws.specs.Zeros.{zeroF}
 use Rattle.ask.specs.Ask.{firstNo}
 use Rattle.ask.specs.Answers.{answerOf}
 use Rattle.ask.specs.declared.Answer.the-variants.{Done}
-use Rattle.bzgrid.specs.Neighbours.{gridOf}
-use Rattle.neighbours.specs.Calls.{manyQuestions}
-use Rattle.neighbours.specs.Lists.{neighboursOfAll}
+use Rattle.bzgrid_lookup.specs.Neighbours.{gridOf}
+use Rattle.bzgrid.specs.Calls.{manyQuestions}
+use Rattle.bzgrid.specs.Lists.{neighboursOfAll}
 use Rattle.relative_grid_address.specs.Answer.{tableAnswer}
 use Rattle.tetrahedron_tables.specs.Tables.{tableOf, flat}
 use Rattle.averaging.specs.Answers.{averagingAnswer, weightsAfter, flagsAfter}

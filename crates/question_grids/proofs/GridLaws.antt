@@ -16,7 +16,7 @@ use Rattle.list_laws.specs.Signed.{isNat, isBetween, within}
 use Rattle.list_laws.proofs.BoolLaws.{and-left, and-right}
 use Rattle.list_laws.proofs.BelowLaws.{below-at}
 use Rattle.list_laws.proofs.SignedLaws.{between-low, between-high, nat-is, nat-nonneg, rises}
-use Rattle.common.specs.Mesh.{meshOf, MeshWithin}
+use Rattle.numbers.specs.Mesh.{meshOf, MeshWithin}
 use Rattle.question_grids.specs.Grids.{isMesh, areTriples, triplesIn, areAddresses, isPlace, isSparseMap, isDenseMap}
 
 pub mesh-within : (top : ℕ) (diag : List ℤ) → isMesh top diag ≡ true → MeshWithin top (meshOf diag)

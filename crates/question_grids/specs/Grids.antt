@@ -8,7 +8,7 @@ use lib.ListN.{length}
 use lib.Signed.{ltZ}
 use Rattle.list_laws.specs.Lists.{allBelow, at}
 use Rattle.list_laws.specs.Signed.{isNat, isBelow, isBetween, within}
-use Rattle.common.specs.Mesh.{countOf, meshOf}
+use Rattle.numbers.specs.Mesh.{countOf, meshOf}
 use Rattle.ask.specs.Ask.{Question, asks}
 
 -- Question 3: "Is the grid kind 1 or 2?"

@@ -4,7 +4,7 @@ pub mod kernel;
 // A refusal carries the number of the first question that is answered no. These are the numbers.
 pub const BAD_TEXT: u64 = 1;
 
-pub const BAD_LATTICE: u64 = common::BAD_LATTICE;
+pub const BAD_LATTICE: u64 = numbers::BAD_LATTICE;
 
 pub const BAD_GRID_TYPE: u64 = question_grids::BAD_GRID_TYPE;
 
@@ -14,7 +14,7 @@ pub const BAD_ADDRESSES: u64 = question_grids::BAD_ADDRESSES;
 
 pub const BAD_MAP: u64 = question_grids::BAD_MAP;
 
-pub const BAD_TABLE: u64 = common::BAD_TABLE;
+pub const BAD_TABLE: u64 = numbers::BAD_TABLE;
 
 pub const BAD_TP_TYPE: u64 = 8;
 

@@ -7,7 +7,7 @@ use native.Mathlib.Omega.{arith}
 use lib.ListN.{getD}
 use lib.Ieee.{Float, lt}
 use Rattle.list_laws.specs.Signed.{within}
-use Rattle.lattice.specs.Matrix.{isVector}
+use Rattle.common.specs.Matrix.{isVector}
 use Rattle.relative_grid_address.specs.Diagonal.{mainDiagonals, lengthOf, leastUpTo, mainDiagonalOf}
 
 pub diagonal-small : (i : ℕ) → i < 4 → isVector (getD mainDiagonals i []) ≡ true

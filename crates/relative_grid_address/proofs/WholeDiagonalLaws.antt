@@ -18,7 +18,7 @@ use Rattle.ieee_laws.specs.Whole.{Whole}
 use Rattle.ieee_laws.proofs.WholeLaws.{whole-of, whole-minus-zero, whole-mul, whole-add, whole-lt, whole-square, nat-add, whole-magnitude}
 use Rattle.ask.specs.Ask.{firstNo}
 use Rattle.ask.specs.declared.Answer.the-variants.{Done}
-use Rattle.lattice.specs.Matrix.{rowAt, rowTimes, matvecOf, isLattice, isLatticeRow, isLatticeEntry}
+use Rattle.common.specs.Matrix.{rowAt, rowTimes, matvecOf, isLattice, isLatticeRow, isLatticeEntry}
 use Rattle.relative_grid_address.specs.Diagonal.{mainDiagonals, normSquared, lengthOf, leastUpTo, mainDiagonalOf}
 use Rattle.relative_grid_address.specs.Answer.{tableAnswer}
 use Rattle.relative_grid_address.specs.Whole.{UpTo20, IsWhole, IsLatticeOf, component, squaredLength, square, FirstShortest}

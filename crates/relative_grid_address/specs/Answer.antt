@@ -6,7 +6,7 @@ use lib.Ieee.{Float}
 use Rattle.list_laws.specs.Lists.{rows}
 use Rattle.ask.specs.Ask.{Question, asks, firstNo, afterCall}
 use Rattle.ask.specs.Answers.{answerOf}
-use Rattle.lattice.specs.Matrix.{isLattice}
+use Rattle.common.specs.Matrix.{isLattice}
 use Rattle.tetrahedron_tables.specs.Tables.{tableOf, flat}
 use Rattle.relative_grid_address.specs.Diagonal.{mainDiagonalOf}
 use Rattle.relative_grid_address.specs.declared.TableAnswer.{TableAnswer}

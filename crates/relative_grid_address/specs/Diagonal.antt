@@ -5,7 +5,7 @@ use Prim.Native.Nat.{ℕ, zero, suc}
 use lib.IntN.{ℤ, pos, negsuc}
 use lib.ListN.{getD}
 use lib.Ieee.{Float, nan, binary64, add, mul, lt}
-use Rattle.lattice.specs.Matrix.{matvecOf}
+use Rattle.common.specs.Matrix.{matvecOf}
 
 -- the four main diagonals: 0-7, 1-6, 2-5 and 3-4 of the cell's eight vertices
 unfoldable pub mainDiagonals : List (List ℤ)

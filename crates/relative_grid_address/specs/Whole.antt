@@ -8,7 +8,7 @@ use lib.ListN.{getD}
 use lib.Ieee.{Float, nan, binary64, ofInt}
 use Rattle.list_laws.specs.Lists.{at}
 use Rattle.ieee_laws.specs.Zeros.{minusZero}
-use Rattle.lattice.specs.Matrix.{rowAt}
+use Rattle.common.specs.Matrix.{rowAt}
 use Rattle.relative_grid_address.specs.Diagonal.{mainDiagonals}
 
 -- "whole entries up to 2^20 in magnitude", the entry of row i and column j being l i j

@@ -26,7 +26,7 @@ fn length_of(rec_lattice: [[f64; 3]; 3], i: usize) -> f64
     requires { ⌜ i < 4 ⌝ }
     ensures { λ r. ⌜ r ≡ lengthOf «rec_lattice» i ⌝ }
 {
-    norm_squared(lattice::kernel::matvec(rec_lattice, main_diagonal(i)))
+    norm_squared(common::kernel::matvec(rec_lattice, main_diagonal(i)))
 }
 
 // The shortest main diagonal, the first on a tie.

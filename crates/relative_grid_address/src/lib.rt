@@ -17,9 +17,9 @@ pub fn relative_grid_address(rec_lattice: [[f64; 3]; 3]) -> TableAnswer
     ensures { λ r. ⌜ r ≡ tableAnswer «rec_lattice» ⌝ }
 {
     let mut table = [0i64; 288];
-    if !lattice::kernel::lattice_ok(rec_lattice) {
+    if !common::kernel::lattice_ok(rec_lattice) {
         return TableAnswer {
-            answer: Answer::Refused(common::BAD_LATTICE),
+            answer: Answer::Refused(numbers::BAD_LATTICE),
             index: 0,
             table,
         };

@@ -15,7 +15,7 @@ pub fn same(a: &[i64], b: &[i64]) -> bool
     let mut i = 0;
     while i < a.len() {
         let z = b[i];
-        ok = ok & common::kernel::equal_at(a, i, z);
+        ok = ok & numbers::kernel::equal_at(a, i, z);
         i += 1;
     }
     ok
@@ -28,7 +28,7 @@ pub fn all_are(a: &[i64], value: i64) -> bool
     let mut ok = true;
     let mut i = 0;
     while i < a.len() {
-        ok = ok & common::kernel::equal_at(a, i, value);
+        ok = ok & numbers::kernel::equal_at(a, i, value);
         i += 1;
     }
     ok

@@ -49,7 +49,7 @@ pub fn run_piece(
     ensures { λ r. ⌜ Did (studyIn shape addresses «gp_map» «relative_grid_address» frequencies1 frequencies2 «frequency_points» triplets)
         (sheetIn weights flags marks (tally .runs)) (run triplet b1 b2) r (sheetOut weights flags marks (r .tally .runs)) ⌝ }
 {
-    let no = sheet_step::kernel::asks::common_no(
+    let no = sheet_step::kernel::asks::common_first_no(
         shape,
         addresses,
         gp_map,
@@ -129,7 +129,7 @@ pub fn carry_on(
     ensures { λ r. ⌜ Did (studyIn shape addresses «gp_map» «relative_grid_address» frequencies1 frequencies2 «frequency_points» triplets)
         (sheetIn weights flags marks (tally .runs)) carry r (sheetOut weights flags marks (r .tally .runs)) ⌝ }
 {
-    let no = sheet_step::kernel::asks::common_no(
+    let no = sheet_step::kernel::asks::common_first_no(
         shape,
         addresses,
         gp_map,
@@ -204,7 +204,7 @@ pub fn average_triplet(
     ensures { λ r. ⌜ Did (studyIn shape addresses «gp_map» «relative_grid_address» frequencies1 frequencies2 «frequency_points» triplets)
         (sheetIn weights flags marks (tally .runs)) (average triplet (now («degenerate_ids1» .entry)) (now («degenerate_ids2» .entry))) r (sheetOut weights flags marks (r .tally .runs)) ⌝ }
 {
-    let no = sheet_step::kernel::asks::common_no(
+    let no = sheet_step::kernel::asks::common_first_no(
         shape,
         addresses,
         gp_map,

@@ -20,9 +20,9 @@ use Rattle.ieee_laws.specs.Zeros.{plusZero}
 use Rattle.triplet_study.specs.declared.Sizes.{Sizes}
 use Rattle.triplet_piece.specs.Layout.{tripletAt}
 use Rattle.averaging_blocks.specs.Weights.{averaged, averagedPoints}
-use Rattle.averaging_blocks.specs.Flags.{averagedFlags, averagedFlagPoints}
+use Rattle.averaging_flags.specs.Flags.{averagedFlags, averagedFlagPoints}
 use Rattle.averaging_blocks.proofs.WeightLaws.{averaged-length}
-use Rattle.averaging_blocks.proofs.FlagLaws.{flags-length}
+use Rattle.averaging_flags.proofs.FlagLaws.{flags-length}
 use Rattle.triplet_study.specs.Tested.{Counted}
 use Rattle.sheet_step.specs.Steps.{tripletAveraged, tripletFlagsAveraged}
 use Rattle.sheet_step.proofs.CountLaws.{cells-by-size}

@@ -71,7 +71,7 @@ pub fn average_flags(
     let size = points * z.pairs;
     let start = t * size;
     let end = start + size;
-    averaging_blocks::kernel::flags::average_points(
+    averaging_flags::kernel::flags::average_points(
         &mut flags[start..end],
         degenerate_ids1,
         degenerate_ids2,

@@ -9,8 +9,8 @@ use lib.Ieee.{Float}
 use lib.ListN.{length, replicate}
 use Rattle.list_laws.proofs.FillLaws.{length-area}
 use Rattle.question_grids.specs.Grids.{triplesIn}
-use Rattle.bzgrid.specs.declared.BzGrid.{BzGrid}
-use Rattle.bzgrid.specs.Neighbours.{neighbourOf, wantedAddress}
+use Rattle.bzgrid_lookup.specs.declared.BzGrid.{BzGrid}
+use Rattle.bzgrid_lookup.specs.Neighbours.{neighbourOf, wantedAddress}
 use Rattle.triplet_values.specs.Values.{areaAt}
 use Rattle.triplet_study.specs.declared.Sizes.{Sizes}
 use Rattle.triplet_study.specs.Study.{Study}

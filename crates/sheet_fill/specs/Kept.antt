@@ -4,7 +4,7 @@ use mathlib.Core.List.{List}
 use Prim.Native.Nat.{ℕ, _<_}
 use lib.IntN.{ℤ}
 use lib.Ieee.{Float}
-use Rattle.bzgrid.specs.declared.BzGrid.{BzGrid}
+use Rattle.bzgrid_lookup.specs.declared.BzGrid.{BzGrid}
 use Rattle.triplet_values.specs.Values.{areaAt}
 use Rattle.triplet_study.specs.Study.{Study}
 use Rattle.triplet_corners.specs.Corners.{cornerNumbers}

@@ -149,7 +149,7 @@ pub fn play_all(
     ensures { λ r. ⌜ outcome (sheetOut weights flags marks r) (now (answers .exit)) (now (tallies .exit))
         ≡ outcomeOf (studyIn shape addresses «gp_map» steps frequencies1 frequencies2 points triplets) (sheetIn weights flags marks before) (callsOf (now (list .entry)) (now (ids .entry))) ⌝ }
 {
-    let no = sheet_step::kernel::asks::common_no(
+    let no = sheet_step::kernel::asks::common_first_no(
         shape,
         addresses,
         gp_map,

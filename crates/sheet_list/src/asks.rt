@@ -4,7 +4,7 @@ ghost use lib.ListN.{length, replicate};
 ghost use Rattle.sheet_list.specs.Play.{listNo};
 
 // Question 12, of the list and of the buffers for answers and tallies: its number where it is answered no, or 0.
-pub fn list_no(list: &[i64], answers: &[u64], tallies: &[u64]) -> u64
+pub fn list_first_no(list: &[i64], answers: &[u64], tallies: &[u64]) -> u64
     ensures { λ r. ⌜ r ≡ listNo (length (now (list .entry))) (length (now (answers .entry))) (length (now (tallies .entry))) ⌝ }
 {
     let calls = answers.len();

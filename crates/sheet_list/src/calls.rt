@@ -16,9 +16,9 @@ pub fn number(list: &[i64], i: usize, k: usize) -> i64
 fn part_ok(ids: &[i64], start: i64, end: i64) -> bool
     ensures { λ r. ⌜ r ≡ isPart (now (ids .entry)) start end ⌝ }
 {
-    let s = common::kernel::magnitude(start);
-    let e = common::kernel::magnitude(end);
-    common::kernel::nonneg(start) & common::kernel::nonneg(end) & (s <= e) & (e <= ids.len())
+    let s = numbers::kernel::magnitude(start);
+    let e = numbers::kernel::magnitude(end);
+    numbers::kernel::nonneg(start) & numbers::kernel::nonneg(end) & (s <= e) & (e <= ids.len())
 }
 
 // The ids from `start` to `end`, or none.
@@ -26,8 +26,8 @@ pub fn ids_from<'a>(ids: &'a [i64], start: i64, end: i64) -> &'a [i64]
     ensures { λ r. ⌜ now r ≡ idsFrom (now (ids .entry)) start end ⌝ }
 {
     if part_ok(ids, start, end) {
-        let s = common::kernel::magnitude(start);
-        let e = common::kernel::magnitude(end);
+        let s = numbers::kernel::magnitude(start);
+        let e = numbers::kernel::magnitude(end);
         return &ids[s..e];
     }
     &ids[0..0]

@@ -39,7 +39,7 @@ pub fn play(
         (listNo (length (now (list .entry))) (length (now (answers .entry))) (length (now (tallies .entry))))
         (now (answers .entry)) (now (tallies .entry)) r (outcome (sheetOut weights flags marks (r .tally .runs)) (now (answers .exit)) (now (tallies .exit))) ⌝ }
 {
-    let own = asks::list_no(list, answers, tallies);
+    let own = asks::list_first_no(list, answers, tallies);
     if own != 0 {
         return sheet_marks::kernel::refused(own, tally);
     }

@@ -47,7 +47,7 @@ pub fn one_turn(
     let a = calls::number(list, i, 1);
     let b = calls::number(list, i, 2);
     let c = calls::number(list, i, 3);
-    if common::kernel::is_nat(kind, 0) {
+    if numbers::kernel::is_nat(kind, 0) {
         return kernel::run_asked(
             frequencies,
             channels,
@@ -72,7 +72,7 @@ pub fn one_turn(
             c,
         );
     }
-    if common::kernel::is_nat(kind, 1) {
+    if numbers::kernel::is_nat(kind, 1) {
         return kernel::carry_asked(
             frequencies,
             channels,

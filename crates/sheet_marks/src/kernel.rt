@@ -42,24 +42,24 @@ pub fn cells_of(counts: Counts) -> usize
     requires { ⌜ areSheetCounts counts ≡ true ⌝ }
     ensures { λ r. ⌜ (r ≡ cellsPerTriplet counts) × (r ≤ 4194304) ⌝ }
 {
-    let points = common::kernel::magnitude(counts.num_band0);
-    let bands1 = common::kernel::magnitude(counts.num_band1);
-    let bands2 = common::kernel::magnitude(counts.num_band2);
+    let points = numbers::kernel::magnitude(counts.num_band0);
+    let bands1 = numbers::kernel::magnitude(counts.num_band1);
+    let bands2 = numbers::kernel::magnitude(counts.num_band2);
     points * (bands1 * bands2)
 }
 
 // The number of the first question of the open count that is answered no, or 0.
-pub fn open_no(counts: Counts, num_flags: usize, triplet: i64) -> u64
+pub fn open_first_no(counts: Counts, num_flags: usize, triplet: i64) -> u64
     ensures { λ r. ⌜ r ≡ firstNo (openQuestions counts «num_flags» triplet) ⌝ }
 {
     if !counts_ok(counts) {
         return questions::BAD_COUNT;
     }
-    let triplets = common::kernel::magnitude(counts.num_triplets);
+    let triplets = numbers::kernel::magnitude(counts.num_triplets);
     if num_flags != triplets * cells_of(counts) {
         return questions::BAD_LENGTH;
     }
-    if !common::kernel::is_below(triplet, triplets) {
+    if !numbers::kernel::is_below(triplet, triplets) {
         return questions::NOT_ON_SHEET;
     }
     0

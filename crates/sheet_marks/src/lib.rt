@@ -58,11 +58,11 @@ pub enum OpenAnswer {
 pub fn open_count(counts: Counts, flags: &[i8], triplet: i64) -> OpenAnswer
     ensures { λ r. ⌜ r ≡ openCountAnswer counts (now (flags .entry)) triplet ⌝ }
 {
-    let no = kernel::open_no(counts, flags.len(), triplet);
+    let no = kernel::open_first_no(counts, flags.len(), triplet);
     if no != 0 {
         return OpenAnswer::Refused(no);
     }
     let size = kernel::cells_of(counts);
-    let t = common::kernel::magnitude(triplet);
+    let t = numbers::kernel::magnitude(triplet);
     OpenAnswer::Open(kernel::zeros_from(flags, t * size, size))
 }

@@ -19,7 +19,7 @@ use Rattle.triplet_study.specs.Questions.{studyQuestions, areLengths}
 use Rattle.triplet_piece.specs.Layout.{tripletAt}
 use Rattle.triplet_piece.specs.Weights.{computedWeights, computedFlags}
 use Rattle.averaging_blocks.specs.Weights.{averaged}
-use Rattle.averaging_blocks.specs.Flags.{averagedFlags}
+use Rattle.averaging_flags.specs.Flags.{averagedFlags}
 use Rattle.sheet_marks.specs.declared.SheetAnswer.{SheetAnswer}
 use Rattle.sheet_marks.specs.Tallies.{tallyQuestions, sheetAnswer}
 use Rattle.marks.specs.Bytes.{bytesFor, patchMarks}

@@ -52,9 +52,9 @@ module _ (g : Study) (s : Sheet) {z : Sizes} (y : commonNo g s ≡ 0) (ez : z �
     own-average : firstNo (averageQuestions z (s .weights) (s .marks) t ids1 ids2) ≡ verdict g s (average t ids1 ids2)
     own-average = ap (λ (x : Sizes). firstNo (averageQuestions x (s .weights) (s .marks) t ids1 ids2)) ez ∙ sym (verdict-own g s (average t ids1 ids2) y)
 
-    pub average-no : {n : ℕ} → n ≡ firstNo (averageQuestions z (s .weights) (s .marks) t ids1 ids2) → (n ≡ 0 → ⊥)
+    pub average-first-no : {n : ℕ} → n ≡ firstNo (averageQuestions z (s .weights) (s .marks) t ids1 ids2) → (n ≡ 0 → ⊥)
         → Called g s (average t ids1 ids2) n s
-    average-no {n} e h = called-no g s (average t ids1 ids2) n (sym (e ∙ own-average)) h
+    average-first-no {n} e h = called-no g s (average t ids1 ids2) n (sym (e ∙ own-average)) h
 
     module _ (e : firstNo (averageQuestions z (s .weights) (s .marks) t ids1 ids2) ≡ 0) (nt : ℕ) (et : nt ≡ mag t) where
       -- what the averages of weights and of flags require

@@ -45,9 +45,9 @@ pub fn run_accepted(
     ensures { λ r. ⌜ Called (studyIn (z .shape) addresses «gp_map» steps frequencies1 frequencies2 points triplets) (sheetIn weights flags marks runs) (run triplet b1 b2) (r .no) (sheetOut weights flags marks (r .runs)) ⌝ }
     ensures { λ r. ⌜ Kept (studyIn (z .shape) addresses «gp_map» steps frequencies1 frequencies2 points triplets) (z .triplets) (r .held) (now (frequencies .exit)) (now (channels .exit)) (now (places .exit)) (now (numbers .exit)) ⌝ }
 {
-    let t = common::kernel::magnitude(triplet);
-    let n1 = common::kernel::magnitude(b1);
-    let n2 = common::kernel::magnitude(b2);
+    let t = numbers::kernel::magnitude(triplet);
+    let n1 = numbers::kernel::magnitude(b1);
+    let n2 = numbers::kernel::magnitude(b2);
     sheet_fill::kernel::run::fill_named(
         frequencies,
         channels,
@@ -230,11 +230,11 @@ pub fn average_asked(
     requires { ⌜ (commonNo (studyNow (z .shape) addresses «gp_map» steps frequencies1 frequencies2 points triplets) (sheetNow weights flags marks runs) ≡ 0) × (z ≡ sizesOf (studyNow (z .shape) addresses «gp_map» steps frequencies1 frequencies2 points triplets)) ⌝ }
     ensures { λ r. ⌜ Called (studyIn (z .shape) addresses «gp_map» steps frequencies1 frequencies2 points triplets) (sheetIn weights flags marks runs) (average triplet (now (ids1 .entry)) (now (ids2 .entry))) r (sheetOut weights flags marks runs) ⌝ }
 {
-    let own = asks::average_no(z, weights, marks, triplet, ids1, ids2);
+    let own = asks::average_first_no(z, weights, marks, triplet, ids1, ids2);
     if own != 0 {
         return own;
     }
-    let t = common::kernel::magnitude(triplet);
+    let t = numbers::kernel::magnitude(triplet);
     sheet_average::kernel::average_weights(z, weights, t, ids1, ids2);
     sheet_average::kernel::average_flags(z, flags, t, ids1, ids2);
     let pairs = z.pairs;

@@ -19,6 +19,6 @@ pub fn weight_count_ok(
         return true;
     }
     let channels = question_values::kernel::tp_type::channels_of(tp_type);
-    let bands = common::kernel::magnitude(num_band1) * common::kernel::magnitude(num_band2);
+    let bands = numbers::kernel::magnitude(num_band1) * numbers::kernel::magnitude(num_band2);
     channels * triplets * points * bands <= 4096
 }

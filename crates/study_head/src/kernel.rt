@@ -47,7 +47,7 @@ pub fn parse_head(text: &[u8]) -> HeadRead
     let One::Read { next: t } = sections::kernel::parse_one(text, s, b"bands", 2, &mut bands) else {
         return HeadRead::Bad;
     };
-    if common::kernel::is_between(0, 3, diag[0]) {
+    if numbers::kernel::is_between(0, 3, diag[0]) {
         return HeadRead::Read {
             head: head_of(&grid, &diag, &tp_type, &bands),
             next: t,

@@ -9,7 +9,7 @@ ghost use Rattle.triplet_corners.specs.Corners.{copyOf};
 ghost use Rattle.triplet_addresses.specs.Copies.{copiesOf, copyQuestions};
 
 // The number of the first question that is answered no, or 0.
-pub fn copy_no(relative_grid_address: &[i64], tp_type: i64, out_len: usize) -> u64
+pub fn copy_first_no(relative_grid_address: &[i64], tp_type: i64, out_len: usize) -> u64
     ensures { λ r. ⌜ r ≡ firstNo (copyQuestions (now («relative_grid_address» .entry)) «tp_type» «out_len») ⌝ }
 {
     if !question_grids::kernel::tables::table_ok(relative_grid_address) {

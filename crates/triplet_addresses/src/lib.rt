@@ -39,7 +39,7 @@ pub fn set_relative_grid_address(
         (bothCopies «tp_type» (now («relative_grid_address» .entry)))
         (now (out .entry)) ⌝ }
 {
-    let no = copies::copy_no(relative_grid_address, tp_type, out.len());
+    let no = copies::copy_first_no(relative_grid_address, tp_type, out.len());
     if no != 0 {
         return Answer::Refused(no);
     }

@@ -14,14 +14,14 @@ fn point_of(triplet: [i64; 3], i: usize) -> usize
     requires { ⌜ i < 3 ⌝ }
     ensures { λ r. ⌜ r ≡ mag (at triplet i) ⌝ }
 {
-    common::kernel::magnitude(triplet[i])
+    numbers::kernel::magnitude(triplet[i])
 }
 
 fn below_in(triplet: [i64; 3], i: usize, p: usize) -> bool
     requires { ⌜ i < 3 ⌝ }
     ensures { λ r. ⌜ r ≡ isBelow (at triplet i) p ⌝ }
 {
-    common::kernel::is_below(triplet[i], p)
+    numbers::kernel::is_below(triplet[i], p)
 }
 
 // Question 10, of one triplet.
@@ -43,7 +43,7 @@ fn adds_to_zero(addresses: &[i64], a: usize, b: usize, c: usize, i: usize) -> bo
     requires { ⌜ (areTriples (now addresses) ≡ true) × ((3 * a + i < length (now addresses)) × ((3 * b + i < length (now addresses)) × (3 * c + i < length (now addresses)))) ⌝ }
     ensures { λ r. ⌜ r ≡ isNat (componentSum (now (addresses .entry)) a b c i) 0 ⌝ }
 {
-    common::kernel::is_nat(component_sum(addresses, a, b, c, i), 0)
+    numbers::kernel::is_nat(component_sum(addresses, a, b, c, i), 0)
 }
 
 // Whether the three addresses of a tested triplet add to zero in each component.

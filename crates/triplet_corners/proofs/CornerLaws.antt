@@ -18,9 +18,9 @@ use Rattle.list_laws.proofs.FillLaws.{length-tabulate, tabulate-at, area-at, ar
 use Rattle.list_laws.proofs.ProductLaws.{digit-lt}
 use Rattle.question_grids.specs.Grids.{areTriples, triplesIn}
 use Rattle.question_grids.proofs.GridLaws.{triples-at, triples-whole}
-use Rattle.bzgrid.specs.declared.BzGrid.{BzGrid}
-use Rattle.bzgrid.specs.Neighbours.{neighbourOf, wantedAddress, SoundGrid}
-use Rattle.bzgrid.proofs.NeighbourLaws.{neighbour-lt}
+use Rattle.bzgrid_lookup.specs.declared.BzGrid.{BzGrid}
+use Rattle.bzgrid_lookup.specs.Neighbours.{neighbourOf, wantedAddress, SoundGrid}
+use Rattle.bzgrid_lookup.proofs.NeighbourLaws.{neighbour-lt}
 use Rattle.triplet_types.specs.declared.TpType.{TpType}
 use Rattle.triplet_values.specs.Values.{Held}
 use Rattle.triplet_corners.specs.Corners.{isNegated, stepOf, copyOf, secondSteps, secondArea, cornerNumbers}

@@ -6,8 +6,8 @@ use lib.IntN.{ℤ, pos, negℤ}
 use lib.ListN.{length}
 use Rattle.list_laws.specs.Lists.{at, area}
 use Rattle.question_grids.specs.Grids.{triplesIn}
-use Rattle.bzgrid.specs.declared.BzGrid.{BzGrid}
-use Rattle.bzgrid.specs.Neighbours.{neighbourOf, wantedAddress}
+use Rattle.bzgrid_lookup.specs.declared.BzGrid.{BzGrid}
+use Rattle.bzgrid_lookup.specs.Neighbours.{neighbourOf, wantedAddress}
 use Rattle.triplet_types.specs.declared.TpType.{TpType}
 use Rattle.triplet_types.specs.declared.TpType.the-variants.{Type2, Type3, Type4}
 

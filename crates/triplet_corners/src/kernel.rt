@@ -7,9 +7,9 @@ ghost use lib.ListN.{length};
 ghost use Rattle.list_laws.specs.Lists.{at};
 ghost use Rattle.list_laws.specs.Signed.{within};
 ghost use Rattle.question_grids.specs.Grids.{areTriples, triplesIn};
-ghost use Rattle.bzgrid.specs.Neighbours.{SoundGrid};
+ghost use Rattle.bzgrid_lookup.specs.Neighbours.{SoundGrid};
 ghost use Rattle.triplet_corners.specs.Corners.{isNegated, stepOf, secondArea, cornerNumbers};
-use bzgrid::BzGrid;
+use bzgrid_lookup::BzGrid;
 use triplet_types::TpType;
 
 // Whether the second copy is negated: for types 2 and 3, not for 4.
@@ -76,7 +76,7 @@ pub fn corner_numbers(
     let mut a = [0usize; 384];
     let n = steps.len() / 3;
     for j in 0..n {
-        a[j] = bzgrid::kernel::neighbour(grid, addresses, gp_map, steps, g, j);
+        a[j] = bzgrid_lookup::kernel::neighbour(grid, addresses, gp_map, steps, g, j);
     }
     a
 }

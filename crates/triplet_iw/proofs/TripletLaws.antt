@@ -12,7 +12,7 @@ use lib.IntN.{ℤ}
 use lib.ListN.{length}
 use borrow.Author.Tests.{eq-eqb, lt-ltb, le-ltb, ltb-true, ltb-false, eqb-true, eqb-false}
 use Rattle.list_laws.proofs.StrideLaws.{both-none, both-all}
-use Rattle.bzgrid.specs.Neighbours.{SoundGrid}
+use Rattle.bzgrid_lookup.specs.Neighbours.{SoundGrid}
 use Rattle.triplet_values.specs.Values.{Held}
 use Rattle.triplet_study.specs.declared.Sizes.{Sizes}
 use Rattle.triplet_study.specs.Study.{Study, tpIn, gridIn, bands1In, bands2In, tripletCount, sizesBy, sizesOf}

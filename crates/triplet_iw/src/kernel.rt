@@ -32,8 +32,8 @@ pub fn fill_triplet(
     requires { ⌜ (now second ≡ secondSteps (z .tp) (now steps)) × (t < z .triplets) ⌝ }
     ensures { λ _. ⌜ Computes (studyIn (z .shape) addresses «gp_map» steps frequencies1 frequencies2 points triplets) (λ n. eqb (n / z .pairs) t) weights flags ⌝ }
 {
-    let g1 = common::kernel::magnitude_at(triplets, 3 * t + 1);
-    let g2 = common::kernel::magnitude_at(triplets, 3 * t + 2);
+    let g1 = numbers::kernel::magnitude_at(triplets, 3 * t + 1);
+    let g2 = numbers::kernel::magnitude_at(triplets, 3 * t + 2);
     let grid = z.grid;
     let numbers = [
         triplet_corners::kernel::corner_numbers(grid, addresses, gp_map, steps, g1),

@@ -23,7 +23,7 @@ use Rattle.question_grids.specs.Steps.{areGridPoints}
 use Rattle.question_grids.proofs.StepLaws.{grid-points-at, product-yes}
 use Rattle.question_values.proofs.RowsLaws.{table-rows}
 use Rattle.question_values.proofs.CountLaws.{bands1-low, bands1-high, bands2-low, bands2-high, points-low, points-high, many-high}
-use Rattle.bzgrid.proofs.CallLaws.{sound-grid}
+use Rattle.bzgrid_lookup.proofs.CallLaws.{sound-grid}
 use Rattle.triplet_types.proofs.TypeLaws.{channel-count-le}
 use Rattle.triplet_study.specs.declared.Shape.{Shape}
 use Rattle.triplet_study.specs.declared.Sizes.{Sizes}
@@ -75,8 +75,8 @@ module _ (s : Study) where
   grid-numbered = (omega arith, (omega arith, (omega arith, (omega arith, tt))))
 
   -- one of 3 to 6 says no
-  pub grid-no : (n : ℕ) → n ≡ firstNo gridPart → (n ≡ 0 → ⊥) → n ≡ firstNo (studyQuestions s)
-  grid-no n e h = e ∙ sym (group-no gridPart (tableQuestions (s .steps) ++ valuePart) (λ z. h (e ∙ z)))
+  pub grid-first-no : (n : ℕ) → n ≡ firstNo gridPart → (n ≡ 0 → ⊥) → n ≡ firstNo (studyQuestions s)
+  grid-first-no n e h = e ∙ sym (group-no gridPart (tableQuestions (s .steps) ++ valuePart) (λ z. h (e ∙ z)))
 
   -- none of them does
   module _ (n : ℕ) (e : n ≡ firstNo gridPart) (h : n ≡ 0) where

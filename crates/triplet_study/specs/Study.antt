@@ -6,8 +6,8 @@ use lib.Ieee.{Float}
 use lib.ListN.{length}
 use lib.Signed.{mag}
 use Rattle.question_grids.specs.Tables.{rowsIn}
-use Rattle.bzgrid.specs.declared.BzGrid.{BzGrid}
-use Rattle.bzgrid.specs.Neighbours.{gridOf}
+use Rattle.bzgrid_lookup.specs.declared.BzGrid.{BzGrid}
+use Rattle.bzgrid_lookup.specs.Neighbours.{gridOf}
 use Rattle.triplet_types.specs.declared.TpType.{TpType}
 use Rattle.triplet_types.specs.Types.{tpTypeOf, channelCount}
 use Rattle.triplet_study.specs.declared.Shape.{Shape}

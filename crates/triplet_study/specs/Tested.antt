@@ -7,7 +7,7 @@ use lib.Signed.{mag}
 use Rattle.list_laws.specs.Lists.{at}
 use Rattle.question_grids.specs.Grids.{areTriples, triplesIn}
 use Rattle.question_grids.specs.Tables.{rowsIn}
-use Rattle.bzgrid.specs.Neighbours.{SoundGrid}
+use Rattle.bzgrid_lookup.specs.Neighbours.{SoundGrid}
 use Rattle.triplet_study.specs.declared.Sizes.{Sizes}
 use Rattle.triplet_study.specs.Study.{Study, gridIn, bands1In, bands2In, tripletCount, sizesOf}
 

@@ -27,7 +27,7 @@ pub fn study_first_no(
 {
     let bz_grid_type = shape.bz_grid_type;
     let d_diag = shape.d_diag;
-    let no = question_grids::kernel::grid::grid_no(bz_grid_type, d_diag, addresses, gp_map);
+    let no = question_grids::kernel::grid::grid_first_no(bz_grid_type, d_diag, addresses, gp_map);
     if no != 0 {
         return no;
     }
@@ -60,10 +60,10 @@ pub fn sizes_of(shape: Shape, rows: usize, points: usize, triplets: usize) -> Si
     let num_band1 = shape.num_band1;
     let num_band2 = shape.num_band2;
     let tp = triplet_types::kernel::tp_type_of(tp_type);
-    let grid = bzgrid::kernel::grid_of(bz_grid_type, d_diag);
+    let grid = bzgrid_lookup::kernel::grid_of(bz_grid_type, d_diag);
     let channels = tp.num_channels();
-    let bands1 = common::kernel::magnitude(num_band1);
-    let bands2 = common::kernel::magnitude(num_band2);
+    let bands1 = numbers::kernel::magnitude(num_band1);
+    let bands2 = numbers::kernel::magnitude(num_band2);
     let pairs = bands1 * bands2;
     let cells = triplets * points * pairs;
     Sizes {

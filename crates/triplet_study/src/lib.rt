@@ -1,5 +1,5 @@
 // A study: its numbers as a caller gives them, tested by questions 3 to 12, and the counts of a tested one.
-use bzgrid::BzGrid;
+use bzgrid_lookup::BzGrid;
 use triplet_types::TpType;
 
 pub mod kernel;

@@ -2,7 +2,7 @@
 ghost use mathlib.Core.Path.{_≡_};
 ghost use Rattle.triplet_types.specs.Types.{tpTypeOf};
 use crate::TpType;
-use common::kernel::is_nat;
+use numbers::kernel::is_nat;
 
 // The type of a number that has passed question 8.
 pub fn tp_type_of(tp_type: i64) -> TpType

@@ -8,7 +8,7 @@ ghost use mathlib.Core.Path.{_≡_};
 ghost use Prim.Native.Nat.{_≤_, _<_};
 ghost use lib.ListN.{length};
 use ask::kernel::number_of;
-use common::kernel::magnitude;
+use numbers::kernel::magnitude;
 use replay_compare::kernel as compare;
 use replay_input::kernel as input;
 use replay_input::kernel::Cursor;

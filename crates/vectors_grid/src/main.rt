@@ -89,7 +89,7 @@ fn one_agrees(
     stored: &[i64],
 ) -> bool {
     stamps::stamp(out);
-    let answer = neighbours::fill_neighboring_grid_points(
+    let answer = bzgrid::fill_neighboring_grid_points(
         out,
         point,
         steps,
@@ -152,7 +152,7 @@ fn many_agrees(
     stored: &[i64],
 ) -> bool {
     stamps::stamp(out);
-    let answer = neighbours::neighboring_grid_points_many(
+    let answer = bzgrid::neighboring_grid_points_many(
         out,
         points,
         steps,

@@ -16,7 +16,7 @@
 ghost use mathlib.Core.Path.{_≡_};
 ghost use lib.ListN.{length};
 use ask::kernel::number_of;
-use lattice::MatvecAnswer;
+use common::MatvecAnswer;
 use relative_grid_address::TableAnswer;
 use replay_compare::kernel as compare;
 use replay_input::kernel as input;
@@ -287,7 +287,7 @@ fn product_case(text: &[u8], c: Cursor) -> Judged {
     let b = lattice.second;
     let d = lattice.third;
     let v = vector.value;
-    let answer = lattice::matvec_di(
+    let answer = common::matvec_di(
         [[a[0], a[1], a[2]], [b[0], b[1], b[2]], [d[0], d[1], d[2]]],
         v,
     );

@@ -10,8 +10,8 @@ use Rattle.ask.proofs.AskLaws.{after-done, kept}
 use Rattle.ask.proofs.AnswerLaws.{done-is, refused-is}
 use Rattle.averaging.specs.Answers.{averagingNo}
 use Rattle.averaging_blocks.specs.Weights.{averagedPoints}
-use Rattle.averaging_blocks.specs.Flags.{averagedFlagPoints}
-use Rattle.averaging_blocks.proofs.SizeLaws.{points-le}
+use Rattle.averaging_flags.specs.Flags.{averagedFlagPoints}
+use Rattle.degenerate_sets.proofs.SizeLaws.{points-le}
 use Rattle.question_values.proofs.TypeLaws.{channels-le}
 use Rattle.averaging.proofs.AnswerLaws.{Accepted, accepted}
 use borrow.Author.Needs.{needs}
@@ -20,11 +20,11 @@ use Rattle.averaging.proofs.average_weights_over_degenerate_sets.Tie as
 
 -- ---- what the callees tell of the arguments
 
-no-is : (c : tie.After-averaging-no) → let args = c .before .before .before .before .args in c .averaging-no .result ≡ averagingNo (args .iw .now) (args .iw-zero .now) (args .degenerate-ids1 .now) (args .degenerate-ids2 .now) (args .num-band0) (args .num-band) (args .tp-type)
+no-is : (c : tie.After-averaging-first-no) → let args = c .before .before .before .before .args in c .averaging-first-no .result ≡ averagingNo (args .iw .now) (args .iw-zero .now) (args .degenerate-ids1 .now) (args .degenerate-ids2 .now) (args .num-band0) (args .num-band) (args .tp-type)
 no-is c =
     let start = c .before .before .before .before in
     let args = start .args in
-    c .averaging-no .ensures
+    c .averaging-first-no .ensures
     ∙ (λ i. averagingNo (args .iw .now) (args .iw-zero .now) (args .degenerate-ids1 .now) (args .degenerate-ids2 .now)
     (toZ-ofZ w64 (args .num-band0) (start .fits .num-band0) i)
     (toZ-ofZ w64 (args .num-band) (start .fits .num-band) i)
@@ -50,8 +50,8 @@ few-channels c = omega (arith, channels-are c, channels-le (c .before .before .b
 
 -- ---- the needs
 
-averaging-no-requires : tie.Need-averaging-no-requires
-averaging-no-requires c κs = search needs
+averaging-first-no-requires : tie.Need-averaging-first-no-requires
+averaging-first-no-requires c κs = search needs
 
 same-length : tie.Need-same-length
 same-length c = search needs
@@ -119,7 +119,7 @@ pub average-weights-over-degenerate-sets-spec : {M : Type 1} → statement M
 average-weights-over-degenerate-sets-spec =
     tie.close
     (tie.spec
-    averaging-no-requires
+    averaging-first-no-requires
     same-length
     same-length-2
     returns

@@ -1,5 +1,5 @@
 // Degenerate sets of an id list, walked with no list of sets.
-use common::kernel::nat_at;
+use numbers::kernel::nat_at;
 ghost use mathlib.Core.Path.{_≡_};
 ghost use Prim.Native.Nat.{_≤_, _<_};
 ghost use lib.ListN.{length};

@@ -6,7 +6,7 @@ use mathlib.Core.Path.{ap}
 use mir.Syntax.{w64}
 use mir.ValLaws.{toZ-pos}
 use native.Mathlib.Omega.{arith}
-use Rattle.common.proofs.MeshLaws.{count-le}
+use Rattle.numbers.proofs.MeshLaws.{count-le}
 use Rattle.grgrid.proofs.IndexLaws.{index-lt}
 use Rattle.grgrid.specs.Index.{indexAnswer}
 use Rattle.list_laws.proofs.BoolLaws.{no-of, yes-of}

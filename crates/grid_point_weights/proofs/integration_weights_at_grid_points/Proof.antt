@@ -7,8 +7,8 @@ use mathlib.Core.List.{List, _++_}
 use mathlib.Core.Path.{_∙_, _≡_, sym}
 use mir.Syntax.{w64}
 use mir.ValLaws.{toZ-ofZ}
-use Rattle.bzgrid.proofs.CallLaws.{grid-numbered}
-use Rattle.bzgrid.specs.Neighbours.{gridOf}
+use Rattle.bzgrid_lookup.proofs.CallLaws.{grid-numbered}
+use Rattle.bzgrid_lookup.specs.Neighbours.{gridOf}
 use Rattle.grid_point_weights.proofs.CallLaws.{sound-study, weights-numbered}
 use Rattle.ask.proofs.AnswerLaws.{done-is, refused-is}
 use Rattle.grid_point_weights.specs.Calls.{weightsQuestions}
@@ -29,21 +29,21 @@ others s =
 
 -- ---- what each callee tells of the arguments
 
-grid-told : (c : tie.After-grid-no) → c .grid-no .result ≡ firstNo (grids (c .before .before .before .before))
+grid-told : (c : tie.After-grid-first-no) → c .grid-first-no .result ≡ firstNo (grids (c .before .before .before .before))
 grid-told c =
     let start = c .before .before .before .before in
-    rw (toZ-ofZ w64 (start .args .bz-grid-type) (start .fits .bz-grid-type)) at (c .grid-no .ensures)
+    rw (toZ-ofZ w64 (start .args .bz-grid-type) (start .fits .bz-grid-type)) at (c .grid-first-no .ensures)
 
 grid-yes : (c : tie.Else1) → firstNo (grids (c .before .before .before .before .before)) ≡ 0
 grid-yes c = sym (grid-told (c .before)) ∙ c .if1 .left
 
-others-told : (c : tie.After-weights-no) → c .weights-no .result ≡ firstNo (others (c .before .before .before .before .before .before))
+others-told : (c : tie.After-weights-first-no) → c .weights-first-no .result ≡ firstNo (others (c .before .before .before .before .before .before))
 others-told c =
     let start = c .before .before .before .before .before .before in
-    rw (toZ-ofZ w64 (start .args .num-band) (start .fits .num-band), toZ-ofZ w64 (start .args .num-ir) (start .fits .num-ir)) at (c .weights-no .ensures)
+    rw (toZ-ofZ w64 (start .args .num-band) (start .fits .num-band), toZ-ofZ w64 (start .args .num-ir) (start .fits .num-ir)) at (c .weights-first-no .ensures)
 
 -- all questions in a row
-told : (c : tie.After-weights-no) → firstNo (grids (c .before .before .before .before .before .before) ++ others (c .before .before .before .before .before .before)) ≡ c .weights-no .result
+told : (c : tie.After-weights-first-no) → firstNo (grids (c .before .before .before .before .before .before) ++ others (c .before .before .before .before .before .before)) ≡ c .weights-first-no .result
 told c =
     let start = c .before .before .before .before .before .before in
     let args = start .args in
@@ -69,8 +69,8 @@ bands-are c =
 
 -- ---- the needs
 
-grid-no-requires : tie.Need-grid-no-requires
-grid-no-requires c κs = search needs
+grid-first-no-requires : tie.Need-grid-first-no-requires
+grid-first-no-requires c κs = search needs
 
 returns : tie.Need-returns
 returns c =
@@ -79,8 +79,8 @@ returns c =
     let e = group-no (grids start) (others start) (λ z. c .if1 .taken (g ∙ z)) ∙ sym g in
     (refused-is _ _ e (c .if1 .taken), kept _ _ _ _ e (c .if1 .taken))
 
-weights-no-requires : tie.Need-weights-no-requires
-weights-no-requires c κs = search needs
+weights-first-no-requires : tie.Need-weights-first-no-requires
+weights-first-no-requires c κs = search needs
 
 returns-2 : tie.Need-returns-2
 returns-2 c =
@@ -117,9 +117,9 @@ pub integration-weights-at-grid-points-spec : {M : Type 1} → statement M
 integration-weights-at-grid-points-spec =
     tie.close
     (tie.spec
-    grid-no-requires
+    grid-first-no-requires
     returns
-    weights-no-requires
+    weights-first-no-requires
     returns-2
     grid-of-requires
     magnitude-requires

@@ -7,7 +7,7 @@ ghost use Rattle.list_laws.specs.Lists.{allBelow, at};
 ghost use Rattle.list_laws.specs.Signed.{within};
 ghost use Rattle.ask.specs.Ask.{firstNo};
 ghost use Rattle.question_grids.specs.Grids.{isGridKind, isMesh, areTriples, areAddresses, isPlace, isSparseMap, isDenseMap, isMap, gridQuestions};
-use common::kernel;
+use numbers::kernel;
 
 // Question 3.
 pub fn grid_kind_ok(bz_grid_type: i64) -> bool
@@ -115,7 +115,7 @@ pub fn map_ok(bz_grid_type: i64, n: usize, p: usize, gp_map: &[i64]) -> bool
 }
 
 // The number of the first question on the grid that is answered no, or 0.
-pub fn grid_no(bz_grid_type: i64, d_diag: [i64; 3], addresses: &[i64], gp_map: &[i64]) -> u64
+pub fn grid_first_no(bz_grid_type: i64, d_diag: [i64; 3], addresses: &[i64], gp_map: &[i64]) -> u64
     ensures { λ r. ⌜ r ≡ firstNo (gridQuestions «bz_grid_type» «d_diag» (now (addresses .entry)) (now («gp_map» .entry))) ⌝ }
 {
     if !grid_kind_ok(bz_grid_type) {

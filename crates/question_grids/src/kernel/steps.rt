@@ -1,7 +1,7 @@
 // Questions 7 and 10: the steps of a neighbour call, and grid points.
 ghost use mathlib.Core.Path.{_≡_};
 ghost use Rattle.question_grids.specs.Steps.{areSteps, areGridPoints};
-use common::kernel;
+use numbers::kernel;
 
 // Question 7, of a neighbour call: one triple or more.
 pub fn steps_ok(relative_grid_address: &[i64]) -> bool

@@ -4,7 +4,7 @@ ghost use Prim.Native.Nat.{_<_};
 ghost use lib.ListN.{length};
 ghost use Rattle.ieee_laws.specs.Zeros.{isNegativeZero};
 ghost use Rattle.question_values.specs.Averages.{isDegenerateId, areDegenerateIds, isWeight, areWeights};
-use common::kernel;
+use numbers::kernel;
 
 // Whether the id at k is k or the id before it.
 fn id_ok(ids: &[i64], k: usize) -> bool

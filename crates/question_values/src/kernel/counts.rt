@@ -3,7 +3,7 @@ ghost use mathlib.Core.Path.{_≡_};
 ghost use Prim.Native.Nat.{_<_};
 ghost use lib.IntN.{pos};
 ghost use Rattle.question_values.specs.Counts.{isBandCount, isPointCount, isTripletCount, areCounts, isProduct};
-use common::kernel;
+use numbers::kernel;
 
 // Question 9, of a band count.
 pub fn band_count_ok(num_band: i64) -> bool

@@ -19,7 +19,7 @@ const GREATEST_POINT: f64 = 2147483648.0;
 pub fn in_range(low: f64, high: f64, x: f64) -> bool
     ensures { λ r. ⌜ r ≡ inRange low high x ⌝ }
 {
-    let magnitude = common::kernel::abs(x);
+    let magnitude = numbers::kernel::abs(x);
     (x == 0.0) | ((low <= magnitude) & (magnitude <= high))
 }
 

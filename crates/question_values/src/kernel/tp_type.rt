@@ -1,7 +1,7 @@
 // Question 8, and the channels of a type.
 ghost use mathlib.Core.Path.{_≡_};
 ghost use Rattle.question_values.specs.TpTypes.{isTpType, channelsOf};
-use common::kernel;
+use numbers::kernel;
 
 // Question 8.
 pub fn tp_type_ok(tp_type: i64) -> bool

@@ -2,7 +2,7 @@
 ghost use mathlib.Core.Path.{_≡_};
 ghost use Prim.Native.Nat.{_<_};
 ghost use Rattle.questions.specs.Irreducible.{isIrreducibleMap, areIrreducible};
-use common::kernel;
+use numbers::kernel;
 
 // "P map values 0 to R-1".
 fn irreducible_map_ok(p: usize, r: usize, gp2irgp_map: &[i64]) -> bool

@@ -32,7 +32,7 @@ pub fn is_stamped(out: &[i64]) -> bool
     let mut i = 0;
     while i < out.len() {
         let z = stamp_at(i);
-        ok = ok & common::kernel::equal_at(out, i, z);
+        ok = ok & numbers::kernel::equal_at(out, i, z);
         i += 1;
     }
     ok

@@ -23,10 +23,10 @@ start s = sheet (s .args .weights .now) (s .args .flags .now) (s .args .marks .n
 
 -- 3 to 13 said yes
 yes : (c : tie.After-sizes-of) → let s = c .before .before .before .before .before .before .before .before .before in commonNo (asked s) (start s) ≡ 0
-yes c = sym (c .before .before .common-no .ensures) ∙ c .before .if1 .left
+yes c = sym (c .before .before .common-first-no .ensures) ∙ c .before .if1 .left
 
-common-no-requires : tie.Need-common-no-requires
-common-no-requires c κs = search needs
+common-first-no-requires : tie.Need-common-first-no-requires
+common-first-no-requires c κs = search needs
 
 refused-requires : tie.Need-refused-requires
 refused-requires c κs = search needs
@@ -37,12 +37,12 @@ same-length c = search needs
 returns : tie.Need-returns
 returns c =
     let s : _ = c .before .before .before .before .before .before .before .before .before in
-    common-refused (asked s) (start s) (average (s .args .triplet) (s .args .degenerate-ids1 .now) (s .args .degenerate-ids2 .now)) (c .before .before .common-no .result) _ (c .before .before .common-no .ensures) (c .before .if1 .taken) (c .refused .ensures)
+    common-refused (asked s) (start s) (average (s .args .triplet) (s .args .degenerate-ids1 .now) (s .args .degenerate-ids2 .now)) (c .before .before .common-first-no .result) _ (c .before .before .common-first-no .ensures) (c .before .if1 .taken) (c .refused .ensures)
 
 sizes-of-requires : tie.Need-sizes-of-requires
 sizes-of-requires c κs =
     let s : _ = c .before .before .before .before .before .before .before .before in
-    few-counts (tested (asked s) (study-yes (asked s) (start s) (average (s .args .triplet) (s .args .degenerate-ids1 .now) (s .args .degenerate-ids2 .now)) (sym (c .before .common-no .ensures) ∙ c .if1 .left)))
+    few-counts (tested (asked s) (study-yes (asked s) (start s) (average (s .args .triplet) (s .args .degenerate-ids1 .now) (s .args .degenerate-ids2 .now)) (sym (c .before .common-first-no .ensures) ∙ c .if1 .left)))
 
 average-asked-requires : tie.Need-average-asked-requires
 average-asked-requires c κs =
@@ -72,7 +72,7 @@ pub average-triplet-spec : {M : Type 1} → statement M
 average-triplet-spec =
     tie.close
     (tie.spec
-    common-no-requires
+    common-first-no-requires
     refused-requires
     same-length
     returns

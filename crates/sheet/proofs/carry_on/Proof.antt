@@ -29,7 +29,7 @@ start s = sheet (s .args .weights .now) (s .args .flags .now) (s .args .marks .n
 
 -- 3 to 13 said yes
 yes : (c : tie.After-sizes-of) → let s = c .before .before .before .before .before .before .before .before .before in commonNo (asked s) (start s) ≡ 0
-yes c = sym (c .before .before .common-no .ensures) ∙ c .before .if1 .left
+yes c = sym (c .before .before .common-first-no .ensures) ∙ c .before .if1 .left
 
 -- the study is ready
 ready-all : (c : tie.After-sizes-of) → let s = c .before .before .before .before .before .before .before .before .before in Ready (asked s) (c .sizes-of .result) (length (s .args .weights .now)) (length (s .args .flags .now))
@@ -39,8 +39,8 @@ ready-all c = let s = c .before .before .before .before .before .before .before 
 lent : (c : tie.After-second-steps) → let s = c .before .before .before .before .before .before .before .before .before .before in take (length (s .args .relative-grid-address .now)) (c .second-steps .result) ≡ secondSteps (c .before .sizes-of .result .tp) (s .args .relative-grid-address .now)
 lent c = let s = c .before .before .before .before .before .before .before .before .before .before in second-lent (c .before .sizes-of .result .tp) (s .args .relative-grid-address .now) (c .second-steps .result) (c .second-steps .ensures)
 
-common-no-requires : tie.Need-common-no-requires
-common-no-requires c κs = search needs
+common-first-no-requires : tie.Need-common-first-no-requires
+common-first-no-requires c κs = search needs
 
 refused-requires : tie.Need-refused-requires
 refused-requires c κs = search needs
@@ -51,12 +51,12 @@ same-length c = search needs
 returns : tie.Need-returns
 returns c =
     let s : _ = c .before .before .before .before .before .before .before .before .before in
-    common-refused (asked s) (start s) carry (c .before .before .common-no .result) _ (c .before .before .common-no .ensures) (c .before .if1 .taken) (c .refused .ensures)
+    common-refused (asked s) (start s) carry (c .before .before .common-first-no .result) _ (c .before .before .common-first-no .ensures) (c .before .if1 .taken) (c .refused .ensures)
 
 sizes-of-requires : tie.Need-sizes-of-requires
 sizes-of-requires c κs =
     let s : _ = c .before .before .before .before .before .before .before .before in
-    few-counts (tested (asked s) (study-yes (asked s) (start s) carry (sym (c .before .common-no .ensures) ∙ c .if1 .left)))
+    few-counts (tested (asked s) (study-yes (asked s) (start s) carry (sym (c .before .common-first-no .ensures) ∙ c .if1 .left)))
 
 second-steps-requires : tie.Need-second-steps-requires
 second-steps-requires c κs =
@@ -98,7 +98,7 @@ pub carry-on-spec : {M : Type 1} → statement M
 carry-on-spec =
     tie.close
     (tie.spec
-    common-no-requires
+    common-first-no-requires
     refused-requires
     same-length
     returns

@@ -35,7 +35,7 @@ start s = sheet (s .args .weights .now) (s .args .flags .now) (s .args .marks .n
 
 -- 3 to 13 said yes
 yes : (c : tie.After-sizes-of) → let s = c .before .before .before .before .before .before .before .before .before in commonNo (asked s) (start s) ≡ 0
-yes c = sym (c .before .before .common-no .ensures) ∙ c .before .if1 .left
+yes c = sym (c .before .before .common-first-no .ensures) ∙ c .before .if1 .left
 
 -- the study is ready
 ready-all : (c : tie.After-sizes-of) → let s = c .before .before .before .before .before .before .before .before .before in Ready (asked s) (c .sizes-of .result) (length (s .args .weights .now)) (length (s .args .flags .now))
@@ -49,8 +49,8 @@ lent c = let s = c .before .before .before .before .before .before .before .befo
 own : (c : tie.After-run-first-no) → let s = c .before .before .before .before .before .before .before .before .before .before .before in c .run-first-no .result ≡ firstNo (pieceQuestions (c .before .before .sizes-of .result) (s .args .marks .now) (s .args .triplet) (s .args .b1) (s .args .b2) ++ tallyQuestions (s .args .tally .runs) 1)
 own c = let s = c .before .before .before .before .before .before .before .before .before .before .before in rw (toZ-ofZ w64 (s .args .triplet) (s .fits .triplet), toZ-ofZ w64 (s .args .b1) (s .fits .b1), toZ-ofZ w64 (s .args .b2) (s .fits .b2)) at (c .run-first-no .ensures)
 
-common-no-requires : tie.Need-common-no-requires
-common-no-requires c κs = search needs
+common-first-no-requires : tie.Need-common-first-no-requires
+common-first-no-requires c κs = search needs
 
 refused-requires : tie.Need-refused-requires
 refused-requires c κs = search needs
@@ -61,12 +61,12 @@ same-length c = search needs
 returns : tie.Need-returns
 returns c =
     let s : _ = c .before .before .before .before .before .before .before .before .before in
-    common-refused (asked s) (start s) (run (s .args .triplet) (s .args .b1) (s .args .b2)) (c .before .before .common-no .result) _ (c .before .before .common-no .ensures) (c .before .if1 .taken) (c .refused .ensures)
+    common-refused (asked s) (start s) (run (s .args .triplet) (s .args .b1) (s .args .b2)) (c .before .before .common-first-no .result) _ (c .before .before .common-first-no .ensures) (c .before .if1 .taken) (c .refused .ensures)
 
 sizes-of-requires : tie.Need-sizes-of-requires
 sizes-of-requires c κs =
     let s : _ = c .before .before .before .before .before .before .before .before in
-    few-counts (tested (asked s) (study-yes (asked s) (start s) (run (s .args .triplet) (s .args .b1) (s .args .b2)) (sym (c .before .common-no .ensures) ∙ c .if1 .left)))
+    few-counts (tested (asked s) (study-yes (asked s) (start s) (run (s .args .triplet) (s .args .b1) (s .args .b2)) (sym (c .before .common-first-no .ensures) ∙ c .if1 .left)))
 
 run-first-no-requires : tie.Need-run-first-no-requires
 run-first-no-requires c κs =
@@ -129,7 +129,7 @@ pub run-piece-spec : {M : Type 1} → statement M
 run-piece-spec =
     tie.close
     (tie.spec
-    common-no-requires
+    common-first-no-requires
     refused-requires
     same-length
     returns

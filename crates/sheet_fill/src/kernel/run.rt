@@ -7,14 +7,14 @@ ghost use lib.ListN.{length};
 ghost use lib.Signed.{mag};
 ghost use Rattle.list_laws.specs.Lists.{at};
 ghost use Rattle.question_grids.specs.Grids.{areTriples, triplesIn};
-ghost use Rattle.bzgrid.specs.Neighbours.{SoundGrid};
+ghost use Rattle.bzgrid_lookup.specs.Neighbours.{SoundGrid};
 ghost use Rattle.triplet_study.specs.Tested.{Ready};
 ghost use Rattle.triplet_study.specs.Lent.{studyNow, studyIn};
 ghost use Rattle.triplet_corners.specs.Corners.{secondSteps};
 ghost use Rattle.triplet_piece.specs.Layout.{AreSized};
 ghost use Rattle.triplet_piece.specs.Weights.{Computes};
 ghost use Rattle.sheet_fill.specs.Kept.{AreCorners, Kept};
-use bzgrid::BzGrid;
+use bzgrid_lookup::BzGrid;
 use triplet_study::Sizes;
 
 // The corners of triplet `t`; where they are those of `held` already, nothing is looked up. `second` is the second copy of the steps.
@@ -37,8 +37,8 @@ fn keep_corners(
     if held == t {
         return;
     }
-    let g1 = common::kernel::magnitude_at(triplets, 3 * t + 1);
-    let g2 = common::kernel::magnitude_at(triplets, 3 * t + 2);
+    let g1 = numbers::kernel::magnitude_at(triplets, 3 * t + 1);
+    let g2 = numbers::kernel::magnitude_at(triplets, 3 * t + 2);
     numbers[0] = triplet_corners::kernel::corner_numbers(grid, addresses, gp_map, steps, g1);
     numbers[1] = triplet_corners::kernel::corner_numbers(grid, addresses, gp_map, second, g2);
 }

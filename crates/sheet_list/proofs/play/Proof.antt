@@ -26,8 +26,8 @@ calls s = callsOf (s .args .list .now) (s .args .ids .now)
 abbrev number : tie.Start → ℕ
 number s = listNo (length (s .args .list .now)) (length (s .args .answers .now)) (length (s .args .tallies .now))
 
-list-no-requires : tie.Need-list-no-requires
-list-no-requires c κs = search needs
+list-first-no-requires : tie.Need-list-first-no-requires
+list-first-no-requires c κs = search needs
 
 refused-requires : tie.Need-refused-requires
 refused-requires c κs = search needs
@@ -41,12 +41,12 @@ same-length-2 c = search needs
 returns : tie.Need-returns
 returns c =
     let s : _ = c .before .before .before .before .before .before .before .before .before .before .before .before in
-    play-refused (asked s) (start s) (calls s) (number s) (s .args .answers .now) (s .args .tallies .now) _ (c .before .before .list-no .ensures) (c .before .if1 .taken) (c .refused .ensures)
+    play-refused (asked s) (start s) (calls s) (number s) (s .args .answers .now) (s .args .tallies .now) _ (c .before .before .list-first-no .ensures) (c .before .if1 .taken) (c .refused .ensures)
 
 play-all-requires : tie.Need-play-all-requires
 play-all-requires c κs =
     let s : _ = c .before .before .before .before .before .before .before .before .before .before .before .before .before .before .before .before in
-    let y : number s ≡ 0 = sym (c .before .before .before .before .before .before .list-no .ensures) ∙ c .before .before .before .before .before .if1 .left in
+    let y : number s ≡ 0 = sym (c .before .before .before .before .before .before .list-first-no .ensures) ∙ c .before .before .before .before .before .if1 .left in
     list-yes (length (s .args .list .now)) (length (s .args .answers .now)) (length (s .args .tallies .now)) y
 
 same-length-3 : tie.Need-same-length-3
@@ -67,14 +67,14 @@ same-length-7 c = search needs
 returns-2 : tie.Need-returns-2
 returns-2 c =
     let s : _ = c .before .before .before .before .before .before .before .before .before .before .before .before .before .before .before .before .before .before .before .before .before .before .before .before .before .before in
-    let y : number s ≡ 0 = sym (c .before .before .before .before .before .before .before .before .before .before .before .before .before .before .before .before .list-no .ensures) ∙ c .before .before .before .before .before .before .before .before .before .before .before .before .before .before .before .if1 .left in
+    let y : number s ≡ 0 = sym (c .before .before .before .before .before .before .before .before .before .before .before .before .before .before .before .before .list-first-no .ensures) ∙ c .before .before .before .before .before .before .before .before .before .before .before .before .before .before .before .if1 .left in
     play-done (asked s) (start s) (calls s) (number s) (s .args .answers .now) (s .args .tallies .now) _ _ _ _ _ _ y (c .before .before .before .before .before .before .before .before .before .play-all .ensures)
 
 pub play-spec : {M : Type 1} → statement M
 play-spec =
     tie.close
     (tie.spec
-    list-no-requires
+    list-first-no-requires
     refused-requires
     same-length
     same-length-2

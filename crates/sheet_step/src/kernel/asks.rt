@@ -16,7 +16,7 @@ use triplet_study::Shape;
 use triplet_study::Sizes;
 
 // Questions 12 and 13, of the sheet.
-fn sheet_no(z: Sizes, weights: usize, flags: usize, marks: &[u8]) -> u64
+fn sheet_first_no(z: Sizes, weights: usize, flags: usize, marks: &[u8]) -> u64
     requires { ⌜ Counted z ⌝ }
     ensures { λ r. ⌜ r ≡ firstNo (sheetQuestions z weights flags (now (marks .entry))) ⌝ }
 {
@@ -33,7 +33,7 @@ fn sheet_no(z: Sizes, weights: usize, flags: usize, marks: &[u8]) -> u64
 }
 
 // Questions 3 to 13, which every call asks.
-pub fn common_no(
+pub fn common_first_no(
     shape: Shape,
     addresses: &[i64],
     gp_map: &[i64],
@@ -68,21 +68,21 @@ pub fn common_no(
         frequency_points.len(),
         triplets.len() / 3,
     );
-    sheet_no(z, weights, flags, marks)
+    sheet_first_no(z, weights, flags, marks)
 }
 
 // Questions 14 and 15, of a named piece.
-fn piece_no(z: Sizes, marks: &[u8], triplet: i64, b1: i64, b2: i64) -> u64
+fn piece_first_no(z: Sizes, marks: &[u8], triplet: i64, b1: i64, b2: i64) -> u64
     requires { ⌜ Counted z × Holds (piecesOf z) (now marks) ⌝ }
     ensures { λ r. ⌜ r ≡ firstNo (pieceQuestions z (now (marks .entry)) triplet b1 b2) ⌝ }
 {
     let pairs = z.pairs;
-    if !(common::kernel::is_below(triplet, z.triplets)
-        & common::kernel::is_below(b1, z.bands1)
-        & common::kernel::is_below(b2, z.bands2)) {
+    if !(numbers::kernel::is_below(triplet, z.triplets)
+        & numbers::kernel::is_below(b1, z.bands1)
+        & numbers::kernel::is_below(b2, z.bands2)) {
         return questions::NOT_ON_SHEET;
     }
-    let t = common::kernel::magnitude(triplet);
+    let t = numbers::kernel::magnitude(triplet);
     if !mark::not_averaged(pairs, marks, t) {
         return questions::ALREADY_AVERAGED;
     }
@@ -94,7 +94,7 @@ pub fn run_first_no(z: Sizes, marks: &[u8], runs: u64, triplet: i64, b1: i64, b2
     requires { ⌜ Counted z × Holds (piecesOf z) (now marks) ⌝ }
     ensures { λ r. ⌜ r ≡ firstNo (pieceQuestions z (now (marks .entry)) triplet b1 b2 ++ tallyQuestions runs 1) ⌝ }
 {
-    let own = piece_no(z, marks, triplet, b1, b2);
+    let own = piece_first_no(z, marks, triplet, b1, b2);
     if own != 0 {
         return own;
     }
@@ -125,7 +125,7 @@ fn triplet_weights_ok(z: Sizes, t: usize, weights: &[f64]) -> bool
 }
 
 // Questions 14 to 19, of an averaging.
-pub fn average_no(
+pub fn average_first_no(
     z: Sizes,
     weights: &[f64],
     marks: &[u8],
@@ -138,10 +138,10 @@ pub fn average_no(
 {
     let pairs = z.pairs;
     let bands = z.bands1;
-    if !common::kernel::is_below(triplet, z.triplets) {
+    if !numbers::kernel::is_below(triplet, z.triplets) {
         return questions::NOT_ON_SHEET;
     }
-    let t = common::kernel::magnitude(triplet);
+    let t = numbers::kernel::magnitude(triplet);
     if !mark::not_averaged(pairs, marks, t) {
         return questions::ALREADY_AVERAGED;
     }

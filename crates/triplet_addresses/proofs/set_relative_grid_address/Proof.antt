@@ -18,14 +18,14 @@ use Rattle.triplet_addresses.proofs.set_relative_grid_address.Tie as ti
 abbrev asked : tie.Start → List Question
 asked s = copyQuestions (s .args .relative-grid-address .now) (s .args .tp-type) (length (s .args .out .now))
 
-copy-no-requires : tie.Need-copy-no-requires
-copy-no-requires c κs = search needs
+copy-first-no-requires : tie.Need-copy-first-no-requires
+copy-first-no-requires c κs = search needs
 
 returns : tie.Need-returns
 returns c =
     let s : _ = c .before .before in
     let b : _ = toZ-ofZ w64 (c .before .before .args .tp-type) (c .before .before .fits .tp-type) in
-    let n : c .before .copy-no .result ≡ firstNo (asked s) = rw b at (c .before .copy-no .ensures) in
+    let n : c .before .copy-first-no .result ≡ firstNo (asked s) = rw b at (c .before .copy-first-no .ensures) in
     (refused-is _ _ (sym n) (c .if1 .taken), kept _ _ _ _ (sym n) (c .if1 .taken))
 
 tp-type-of-requires : tie.Need-tp-type-of-requires
@@ -38,7 +38,7 @@ fill-copies-requires : tie.Need-fill-copies-requires
 fill-copies-requires c κs =
     let s : _ = c .before .before .before .before .before in
     let b : _ = toZ-ofZ w64 (s .args .tp-type) (s .fits .tp-type) in
-    let n : c .before .before .before .before .copy-no .result ≡ firstNo (asked s) = rw b at (c .before .before .before .before .copy-no .ensures) in
+    let n : c .before .before .before .before .copy-first-no .result ≡ firstNo (asked s) = rw b at (c .before .before .before .before .copy-first-no .ensures) in
     let y : AllYes (asked s) = all-yes (asked s) (omega arith, (omega arith, (omega arith, tt))) (sym n ∙ c .before .before .before .if1 .left) in
     (table-triples (s .args .relative-grid-address .now) (y .0), product-yes 2 (length (s .args .relative-grid-address .now)) (length (s .args .out .now)) (y .1 .1 .0))
 
@@ -49,7 +49,7 @@ returns-2 : tie.Need-returns-2
 returns-2 c =
     let s : _ = c .before .before .before .before .before .before .before in
     let b : _ = toZ-ofZ w64 (s .args .tp-type) (s .fits .tp-type) in
-    let n : c .before .before .before .before .before .before .copy-no .result ≡ firstNo (asked s) = rw b at (c .before .before .before .before .before .before .copy-no .ensures) in
+    let n : c .before .before .before .before .before .before .copy-first-no .result ≡ firstNo (asked s) = rw b at (c .before .before .before .before .before .before .copy-first-no .ensures) in
     let e : firstNo (asked s) ≡ 0 = sym n ∙ c .before .before .before .before .before .if1 .left in
     (done-is _ e, rw (c .before .before .is-negated .ensures, rw b at (c .before .before .before .before .tp-type-of .ensures)) at (c .before .fill-copies .ensures) ∙ after-done _ _ _ e)
 
@@ -57,7 +57,7 @@ pub set-relative-grid-address-spec : {M : Type 1} → statement M
 set-relative-grid-address-spec =
     tie.close
     (tie.spec
-    copy-no-requires
+    copy-first-no-requires
     returns
     tp-type-of-requires
     is-negated-requires

@@ -3,7 +3,7 @@ ghost use mathlib.Core.Path.{_≡_};
 ghost use Prim.Native.Nat.{_<_};
 ghost use Rattle.ask.specs.Ask.{firstNo};
 ghost use Rattle.triplet_study.specs.Questions.{areTriplets, holdFrequencies, areStudyFrequencies, valueQuestions};
-use common::kernel::magnitude;
+use numbers::kernel::magnitude;
 use question_grids::kernel::steps;
 use question_values::kernel::counts;
 use question_values::kernel::frequencies;

@@ -2,8 +2,8 @@
 use borrow.Author.Needs.{needs}
 use native.Mathlib.Nat.{mul-le-mul}
 use native.Mathlib.Omega.{arith}
-use Rattle.common.proofs.MeshLaws.{count-le}
-use Rattle.common.specs.Mesh.{countOf}
+use Rattle.numbers.proofs.MeshLaws.{count-le}
+use Rattle.numbers.specs.Mesh.{countOf}
 use Rattle.grgrid.proofs.IndexLaws.{index-lt}
 use Rattle.grgrid.specs.Index.{gridIndex}
 use Rattle.list_laws.proofs.SignedLaws.{back}

@@ -4,8 +4,8 @@ use lib.ListN.{length}
 use lib.Signed.{mag}
 use mathlib.Core.Path.{_∙_, _≡_, ap}
 use native.Mathlib.Omega.{arith}
-use Rattle.bzgrid.proofs.NeighbourLaws.{neighbour-lt}
-use Rattle.bzgrid.specs.Neighbours.{wantedAddress}
+use Rattle.bzgrid_lookup.proofs.NeighbourLaws.{neighbour-lt}
+use Rattle.bzgrid_lookup.specs.Neighbours.{wantedAddress}
 use Rattle.grid_point_weights.specs.Weights.{cornerOf}
 use Rattle.list_laws.proofs.FillLaws.{area-next, area-none, length-area}
 use Rattle.list_laws.specs.Lists.{area, at}

@@ -18,8 +18,8 @@ asked s = study (s .args .shape) (s .args .addresses .now) (s .args .gp-map .now
 abbrev start : tie.Start → Sheet
 start s = sheet (s .args .weights .now) (s .args .flags .now) (s .args .marks .now) (s .args .before)
 
-common-no-requires : tie.Need-common-no-requires
-common-no-requires c κs = search needs
+common-first-no-requires : tie.Need-common-first-no-requires
+common-first-no-requires c κs = search needs
 
 fill-with-requires : tie.Need-fill-with-requires
 fill-with-requires c κs = search needs
@@ -39,14 +39,14 @@ same-length-3 c = search needs
 returns : tie.Need-returns
 returns c =
     let s : _ = c .before .before .before .before .before .before .before .before .before .before .before .before .before .before .before .before .before .before in
-    let n = c .before .before .before .before .before .before .before .before .before .common-no .result in
+    let n = c .before .before .before .before .before .before .before .before .before .common-first-no .result in
     let t = c .before .before .fill-with2 .ensures ∙ ap (λ (k : ℕ). replicate k (s .args .before)) (s .pre .1) in
-    (λ i. outcome (start s) (c .before .before .before .before .before .before .fill-with .ensures i) (t i)) ∙ outcome-refused (asked s) (start s) (s .args .list .now) (s .args .ids .now) (length (s .args .answers .now)) (s .pre .0) n (c .before .before .before .before .before .before .before .before .before .common-no .ensures) (c .before .before .before .before .before .before .before .before .if1 .taken)
+    (λ i. outcome (start s) (c .before .before .before .before .before .before .fill-with .ensures i) (t i)) ∙ outcome-refused (asked s) (start s) (s .args .list .now) (s .args .ids .now) (length (s .args .answers .now)) (s .pre .0) n (c .before .before .before .before .before .before .before .before .before .common-first-no .ensures) (c .before .before .before .before .before .before .before .before .if1 .taken)
 
 play-asked-requires : tie.Need-play-asked-requires
 play-asked-requires c κs =
     let s : _ = c .before .before .before .before .before .before .before .before .before .before .before .before .before .before .before in
-    (sym (c .before .before .before .before .before .before .common-no .ensures) ∙ c .before .before .before .before .before .if1 .left, s .pre)
+    (sym (c .before .before .before .before .before .before .common-first-no .ensures) ∙ c .before .before .before .before .before .if1 .left, s .pre)
 
 same-length-4 : tie.Need-same-length-4
 same-length-4 c = search needs
@@ -71,7 +71,7 @@ pub play-all-spec : {M : Type 1} → statement M
 play-all-spec =
     tie.close
     (tie.spec
-    common-no-requires
+    common-first-no-requires
     fill-with-requires
     fill-with-requires-2
     same-length

@@ -1,5 +1,5 @@
 -- `sheet_turn::kernel::average_asked` meets its contract. Assumes nothing.
-use Rattle.sheet_turn.proofs.TurnLaws.{average-done, average-no, average-on, average-place, counted-yes, long-yes}
+use Rattle.sheet_turn.proofs.TurnLaws.{average-done, average-first-no, average-on, average-place, counted-yes, long-yes}
 use Rattle.sheet_step.specs.Steps.{Sheet, sheet}
 use Rattle.triplet_study.specs.Study.{Study, study}
 use lib.Signed.{mag}
@@ -20,8 +20,8 @@ start s = sheet (s .args .weights .now) (s .args .flags .now) (s .args .marks .n
 
 -- ---- the facts that the checker asks for
 
-average-no-requires : tie.Need-average-no-requires
-average-no-requires c κs =
+average-first-no-requires : tie.Need-average-first-no-requires
+average-first-no-requires c κs =
     let s : _ = c .before .before .before .before .before .before .before in
     let y = s .pre .0 in
     let p = s .pre .1 in
@@ -38,8 +38,8 @@ returns c =
     let s : _ = c .before .before .before .before .before .before .before .before .before in
     let y = s .pre .0 in
     let p = s .pre .1 in
-    let o = rw (toZ-ofZ w64 (s .args .triplet) (s .fits .triplet)) at (c .before .average-no .ensures) in
-    average-no (asked s) (start s) y p (s .args .triplet) (s .args .ids1 .now) (s .args .ids2 .now) o (c .if1 .taken)
+    let o = rw (toZ-ofZ w64 (s .args .triplet) (s .fits .triplet)) at (c .before .average-first-no .ensures) in
+    average-first-no (asked s) (start s) y p (s .args .triplet) (s .args .ids1 .now) (s .args .ids2 .now) o (c .if1 .taken)
 
 magnitude-requires : tie.Need-magnitude-requires
 magnitude-requires c κs = search needs
@@ -49,7 +49,7 @@ average-weights-requires c κs =
     let s : _ = c .before .before .before .before .before .before .before .before .before .before .before in
     let y = s .pre .0 in
     let p = s .pre .1 in
-    let o = rw (toZ-ofZ w64 (s .args .triplet) (s .fits .triplet)) at (c .before .before .before .average-no .ensures) in
+    let o = rw (toZ-ofZ w64 (s .args .triplet) (s .fits .triplet)) at (c .before .before .before .average-first-no .ensures) in
     let e = sym o ∙ c .before .before .if1 .left in
     let nt = c .before .magnitude .ensures ∙ ap mag (toZ-ofZ w64 (s .args .triplet) (s .fits .triplet)) in
     let n = average-on (asked s) (start s) y p (s .args .triplet) (s .args .ids1 .now) (s .args .ids2 .now) e (c .before .magnitude .result) nt in
@@ -61,7 +61,7 @@ average-flags-requires c κs =
     let s : _ = c .before .before .before .before .before .before .before .before .before .before .before .before .before .before .before in
     let y = s .pre .0 in
     let p = s .pre .1 in
-    let o = rw (toZ-ofZ w64 (s .args .triplet) (s .fits .triplet)) at (c .before .before .before .before .before .before .before .average-no .ensures) in
+    let o = rw (toZ-ofZ w64 (s .args .triplet) (s .fits .triplet)) at (c .before .before .before .before .before .before .before .average-first-no .ensures) in
     let e = sym o ∙ c .before .before .before .before .before .before .if1 .left in
     let nt = c .before .before .before .before .before .magnitude .ensures ∙ ap mag (toZ-ofZ w64 (s .args .triplet) (s .fits .triplet)) in
     let n = average-on (asked s) (start s) y p (s .args .triplet) (s .args .ids1 .now) (s .args .ids2 .now) e (c .before .before .before .before .before .magnitude .result) nt in
@@ -73,7 +73,7 @@ average-marks-requires c κs =
     let s : _ = c .before .before .before .before .before .before .before .before .before .before .before .before .before .before .before .before .before .before in
     let y = s .pre .0 in
     let p = s .pre .1 in
-    let o = rw (toZ-ofZ w64 (s .args .triplet) (s .fits .triplet)) at (c .before .before .before .before .before .before .before .before .before .before .average-no .ensures) in
+    let o = rw (toZ-ofZ w64 (s .args .triplet) (s .fits .triplet)) at (c .before .before .before .before .before .before .before .before .before .before .average-first-no .ensures) in
     let e = sym o ∙ c .before .before .before .before .before .before .before .before .before .if1 .left in
     let nt = c .before .before .before .before .before .before .before .before .magnitude .ensures ∙ ap mag (toZ-ofZ w64 (s .args .triplet) (s .fits .triplet)) in
     let n = average-on (asked s) (start s) y p (s .args .triplet) (s .args .ids1 .now) (s .args .ids2 .now) e (c .before .before .before .before .before .before .before .before .magnitude .result) nt in
@@ -94,7 +94,7 @@ returns-2 c =
     let s : _ = c .before .before .before .before .before .before .before .before .before .before .before .before .before .before .before .before .before .before .before .before .before in
     let y = s .pre .0 in
     let p = s .pre .1 in
-    let o = rw (toZ-ofZ w64 (s .args .triplet) (s .fits .triplet)) at (c .before .before .before .before .before .before .before .before .before .before .before .before .before .average-no .ensures) in
+    let o = rw (toZ-ofZ w64 (s .args .triplet) (s .fits .triplet)) at (c .before .before .before .before .before .before .before .before .before .before .before .before .before .average-first-no .ensures) in
     let e = sym o ∙ c .before .before .before .before .before .before .before .before .before .before .before .before .if1 .left in
     let nt = c .before .before .before .before .before .before .before .before .before .before .before .magnitude .ensures ∙ ap mag (toZ-ofZ w64 (s .args .triplet) (s .fits .triplet)) in
     average-done (asked s) (start s) y p (s .args .triplet) (s .args .ids1 .now) (s .args .ids2 .now) e (c .before .before .before .before .before .before .before .before .before .before .before .magnitude .result) nt (c .before .before .before .before .before .before .before .before .before .average-weights .ensures) (c .before .before .before .before .before .average-flags .ensures) (c .before .before .average-marks .ensures)
@@ -103,7 +103,7 @@ pub average-asked-spec : {M : Type 1} → statement M
 average-asked-spec =
     tie.close
     (tie.spec
-    average-no-requires
+    average-first-no-requires
     same-length
     same-length-2
     returns

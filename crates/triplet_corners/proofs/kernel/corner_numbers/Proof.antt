@@ -6,11 +6,11 @@ use lib.ListN.{length}
 use mathlib.Core.List.{List}
 use mathlib.Core.Path.{_∙_, _≡_, ap}
 use native.Mathlib.Omega.{arith}
-use Rattle.bzgrid.specs.Neighbours.{neighbourOf, wantedAddress}
+use Rattle.bzgrid_lookup.specs.Neighbours.{neighbourOf, wantedAddress}
 use Rattle.list_laws.proofs.FillLaws.{area-next, area-none, length-area}
 use Rattle.list_laws.specs.Lists.{area}
 use Rattle.triplet_corners.specs.Corners.{cornerNumbers}
-use Rattle.bzgrid.specs.declared.BzGrid.{BzGrid}
+use Rattle.bzgrid_lookup.specs.declared.BzGrid.{BzGrid}
 use Rattle.triplet_corners.proofs.kernel.corner_numbers.Statement.{statement}
 use Rattle.triplet_corners.proofs.kernel.corner_numbers.Tie as tie
 

@@ -9,8 +9,8 @@ use Rattle.triplet_study.proofs.kernel.sizes_of.Statement.{statement}
 use Rattle.triplet_study.proofs.kernel.sizes_of.Tie as tie
 use Rattle.triplet_study.proofs.kernel.sizes_of.Reads as reads
 use Rattle.triplet_study.proofs.kernel.sizes_of.Lts as lts
-use Rattle.bzgrid.proofs.kernel.grid_of.Reads as grid-of-reads
-use Rattle.common.proofs.kernel.magnitude.Reads as magnitude-reads
+use Rattle.bzgrid_lookup.proofs.kernel.grid_of.Reads as grid-of-reads
+use Rattle.numbers.proofs.kernel.magnitude.Reads as magnitude-reads
 use Rattle.triplet_types.proofs.TpType.num_channels.Reads as num-channels-reads
 use Rattle.triplet_types.proofs.kernel.tp_type_of.Reads as tp-type-of-reads
 

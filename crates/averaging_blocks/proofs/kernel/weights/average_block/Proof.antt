@@ -11,7 +11,7 @@ use Rattle.ieee_laws.specs.Zeros.{plusZero}
 use Rattle.averaging_blocks.specs.Weights.{mean}
 use Rattle.averaging_blocks.proofs.WeightLaws.{averaged-many, averaged-one}
 use Rattle.list_laws.proofs.MatrixLaws.{replaced-as, replaced-same}
-use Rattle.averaging_blocks.proofs.SizeLaws.{square-le}
+use Rattle.degenerate_sets.proofs.SizeLaws.{square-le}
 use Rattle.averaging_blocks.proofs.kernel.weights.average_block.Statement.{statement}
 use Rattle.averaging_blocks.proofs.kernel.weights.average_block.Tie as tie
 

@@ -8,7 +8,7 @@ use Rattle.list_laws.proofs.MatrixLaws.{Made, made-none, made-length, made-next
 use Rattle.list_laws.proofs.ProductLaws.{row-le, row-next}
 use Rattle.ieee_laws.specs.Zeros.{plusZero}
 use Rattle.averaging_blocks.specs.Weights.{averaged, averagedPoints}
-use Rattle.averaging_blocks.proofs.SizeLaws.{square-le}
+use Rattle.degenerate_sets.proofs.SizeLaws.{square-le}
 use Rattle.averaging_blocks.proofs.WeightLaws.{averaged-length}
 use Rattle.averaging_blocks.proofs.kernel.weights.average_points.Statement.{statement}
 use Rattle.averaging_blocks.proofs.kernel.weights.average_points.Tie as tie

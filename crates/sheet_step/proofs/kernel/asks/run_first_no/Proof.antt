@@ -11,13 +11,13 @@ use Rattle.sheet_step.proofs.kernel.asks.run_first_no.Statement.{statem
 use Rattle.sheet_step.proofs.kernel.asks.run_first_no.Tie as tie
 
 -- 14 and 15, of the arguments
-piece-asked : (c : tie.After-piece-no) → let s = c .before .before in c .piece-no .result ≡ firstNo (pieceQuestions (s .args .z) (s .args .marks .now) (s .args .triplet) (s .args .b1) (s .args .b2))
+piece-asked : (c : tie.After-piece-first-no) → let s = c .before .before in c .piece-first-no .result ≡ firstNo (pieceQuestions (s .args .z) (s .args .marks .now) (s .args .triplet) (s .args .b1) (s .args .b2))
 piece-asked c =
     let s : _ = c .before .before in
-    rw (toZ-ofZ w64 (s .args .triplet) (s .fits .triplet), toZ-ofZ w64 (s .args .b1) (s .fits .b1), toZ-ofZ w64 (s .args .b2) (s .fits .b2)) at (c .piece-no .ensures)
+    rw (toZ-ofZ w64 (s .args .triplet) (s .fits .triplet), toZ-ofZ w64 (s .args .b1) (s .fits .b1), toZ-ofZ w64 (s .args .b2) (s .fits .b2)) at (c .piece-first-no .ensures)
 
-piece-no-requires : tie.Need-piece-no-requires
-piece-no-requires c κs = search needs
+piece-first-no-requires : tie.Need-piece-first-no-requires
+piece-first-no-requires c κs = search needs
 
 returns : tie.Need-returns
 returns c =
@@ -37,4 +37,4 @@ returns-2 c =
 
 pub run-first-no-spec : {M : Type 1} → statement M
 run-first-no-spec =
-    tie.close (tie.spec piece-no-requires returns add-requires number-of-requires returns-2)
+    tie.close (tie.spec piece-first-no-requires returns add-requires number-of-requires returns-2)

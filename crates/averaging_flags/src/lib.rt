@@ -1,0 +1,2 @@
+// Flags averaged over degenerate sets, block by block.
+pub mod kernel;

@@ -1,3 +1,0 @@
--- The definitions that the contracts cite.
-pub mod Lists
-pub mod Calls
