@@ -3,20 +3,20 @@ use mathlib.Core.Path.{_≡_, refl, ap, ap₂, _∙_}
 use mathlib.Core.List.{List, [], _∷_, map}
 use Prim.Native.Nat.{ℕ}
 use lib.ListN.{length, replicate}
-use Rattle.triplet_study.specs.Given.{Given}
-use Rattle.sheet_step.specs.Steps.{Sheet, Call, countsOf, piecesOf, step}
+use Rattle.triplet_study.specs.Study.{Study, sizesOf}
+use Rattle.sheet_step.specs.Steps.{Sheet, Call, piecesOf, step}
 use Rattle.book_claim.specs.Book.{Book, opened, render, turn}
 use Rattle.book_claim.proofs.Demand3.{demand-3, same-step, opened-long, opened-is}
 use Rattle.book_claim.proofs.TurnLaws.{turn-long}
 use Rattle.sheet_list.specs.Play.{numberIn, tallies, outcome, outcomeOf}
 use Rattle.sheet_list.specs.Booked.{bookTallies, bookOutcome}
 
-module _ (g : Given) (start : Sheet) where
+module _ (g : Study) (start : Sheet) where
   render-tally : (b : Book) → render g start b .tally ≡ b .tally
   unfolding render
   render-tally b = refl
 
-  all-tallies : (calls : List Call) (b : Book) → length (b .words) ≡ piecesOf (countsOf g) → (s : Sheet) → s ≡ render g start b → tallies g s calls ≡ bookTallies g start b calls
+  all-tallies : (calls : List Call) (b : Book) → length (b .words) ≡ piecesOf (sizesOf g) → (s : Sheet) → s ≡ render g start b → tallies g s calls ≡ bookTallies g start b calls
   all-tallies [] b long s e = refl
   all-tallies (c ∷ calls) b long s e =
       let k : step g s c ≡ render g start (turn g start b c) = rw e (same-step g start b long c) in

@@ -14,17 +14,18 @@ use Rattle.list_laws.proofs.BoolLaws.{and-left, and-right, and-both, clash}
 use Rattle.list_laws.proofs.BelowLaws.{below-at, below-all}
 use Rattle.ask.specs.Ask.{AllYes}
 use Rattle.ask.proofs.AskLaws.{all-yes, none-no, group-yes}
-use Rattle.triplet_piece.proofs.StudyLaws.{length-computed, length-computed-flags}
-use Rattle.triplet_study.specs.Given.{Given, givenQuestions}
-use Rattle.triplet_study.proofs.GivenLaws.{given-numbered}
+use Rattle.triplet_piece.proofs.WeightLaws.{length-computed, length-computed-flags}
+use Rattle.triplet_study.specs.Study.{Study, sizesOf}
+use Rattle.triplet_study.specs.Questions.{studyQuestions}
+use Rattle.triplet_study.proofs.StudyLaws.{study-numbered}
 use Rattle.marks.specs.Bytes.{markAt, patchMarks, placesIn, Holds}
 use Rattle.marks.proofs.BytesLaws.{place-in, small-mark, length-marks, mark-patch}
 use Rattle.marks.proofs.MarkLaws.{length-carried, length-averaged, carried-mark, averaged-mark}
 use Rattle.marks.specs.Marks.{isAveragedAt, alike, isMark, areMarks, isNotAveraged, closed, carriedMarks, averagedMarks}
-use Rattle.sheet_step.specs.Steps.{Sheet, Call, run, carry, average, countsOf, piecesOf, sheetQuestions, verdict, effect, step, pieceOf}
+use Rattle.sheet_step.specs.Steps.{Sheet, Call, run, carry, average, piecesOf, sheetQuestions, verdict, effect, step, pieceOf}
 use Rattle.sheet_step.proofs.StepLaws.{both-yes, refused-sheet, done-sheet}
-use Rattle.sheet_turn.proofs.EntryLaws.{length-average, length-average-flags}
-use Rattle.book_claim.proofs.AcceptedLaws.{Accepted, accepted, named, piece-in}
+use Rattle.sheet_average.proofs.AverageLaws.{length-average, length-average-flags}
+use Rattle.book_claim.proofs.AcceptedLaws.{Accepted, accepted, counts, named, piece-in}
 use Rattle.sheet_turn.specs.Turns.{commonNo}
 
 -- ---- question 13 by its two parts
@@ -141,27 +142,27 @@ module _ (pairs pieces : ℕ) (m : List ℕ) (h : areMarks pairs pieces m ≡ tr
 
 -- ---- every call keeps them
 
-module _ (g : Given) (s : Sheet) where
+module _ (g : Study) (s : Sheet) where
   abbrev same-sheet : Sheet → Type 0
-  same-sheet x = (length (x .weights) ≡ length (s .weights)) × ((length (x .flags) ≡ length (s .flags)) × ((length (x .marks) ≡ length (s .marks)) × (areMarks (countsOf g .pairs) (piecesOf (countsOf g)) (x .marks) ≡ true)))
+  same-sheet x = (length (x .weights) ≡ length (s .weights)) × ((length (x .flags) ≡ length (s .flags)) × ((length (x .marks) ≡ length (s .marks)) × (areMarks (sizesOf g .pairs) (piecesOf (sizesOf g)) (x .marks) ≡ true)))
 
   effect-kept : (c : Call) → Accepted g s c → same-sheet (effect g s c)
   unfolding effect isNotAveraged
   effect-kept (run t b1 b2) a =
-      let p : ℕ = pieceOf (countsOf g) t b1 b2 in
-      let on : _ = piece-in (countsOf g) t b1 b2 (a .bands) (a .own .0) in
-      let d : p / countsOf g .pairs ≡ mag t = digits-div (mag t) (on .1) in
-      (length-computed _ _ (s .weights), (length-computed-flags _ _ (s .flags), (length-marks _ _ (s .marks), run-marks (countsOf g .pairs) (piecesOf (countsOf g)) (s .marks) (a .fine) (a .marked) p (named g s t b1 b2 a) (rw d (not-true (isAveragedAt (s .marks) (mag t * countsOf g .pairs)) (a .own .1 .0))))))
-  effect-kept carry a = (length-computed _ _ (s .weights), (length-computed-flags _ _ (s .flags), (length-carried _ (s .marks), carry-marks (countsOf g .pairs) (piecesOf (countsOf g)) (s .marks) (a .fine) (a .marked))))
+      let p : ℕ = pieceOf (sizesOf g) t b1 b2 in
+      let on : _ = piece-in (sizesOf g) t b1 b2 (counts a .pairs-are) (a .own .0) in
+      let d : p / sizesOf g .pairs ≡ mag t = digits-div (mag t) (on .1) in
+      (length-computed _ _ (s .weights), (length-computed-flags _ _ (s .flags), (length-marks _ _ (s .marks), run-marks (sizesOf g .pairs) (piecesOf (sizesOf g)) (s .marks) (a .fine) (a .marked) p (named g s t b1 b2 a) (rw d (not-true (isAveragedAt (s .marks) (mag t * sizesOf g .pairs)) (a .own .1 .0))))))
+  effect-kept carry a = (length-computed _ _ (s .weights), (length-computed-flags _ _ (s .flags), (length-carried _ (s .marks), carry-marks (sizesOf g .pairs) (piecesOf (sizesOf g)) (s .marks) (a .fine) (a .marked))))
   effect-kept (average t ids1 ids2) a =
-      (length-average _ _ ids1 ids2 (s .weights), (length-average-flags _ _ ids1 ids2 (s .flags), (length-averaged _ _ (s .marks), average-marks (countsOf g .pairs) (piecesOf (countsOf g)) (s .marks) (a .fine) (a .marked) (mag t) (a .some))))
+      (length-average _ _ ids1 ids2 (s .weights), (length-average-flags _ _ ids1 ids2 (s .flags), (length-averaged _ _ (s .marks), average-marks (sizesOf g .pairs) (piecesOf (sizesOf g)) (s .marks) (a .fine) (a .marked) (mag t) (counts a .pairs-some))))
 
   same-no : (x : Sheet) → same-sheet x → commonNo g s ≡ 0 → commonNo g x ≡ 0
   same-no x k e =
-      let b : _ = both-yes (givenQuestions g) _ (given-numbered g) e in
-      let y : AllYes (sheetQuestions (countsOf g) (length (s .weights)) (length (s .flags)) (s .marks)) = all-yes (sheetQuestions (countsOf g) (length (s .weights)) (length (s .flags)) (s .marks)) (omega arith, (omega arith, tt)) (b .1) in
-      group-yes (givenQuestions g) (sheetQuestions (countsOf g) (length (x .weights)) (length (x .flags)) (x .marks)) (given-numbered g) (b .0)
-      ∙ none-no (sheetQuestions (countsOf g) (length (x .weights)) (length (x .flags)) (x .marks)) (rw (k .0, k .1 .0, k .1 .1 .0) (y .0), (k .1 .1 .1, tt))
+      let b : _ = both-yes (studyQuestions g) _ (study-numbered g) e in
+      let y : AllYes (sheetQuestions (sizesOf g) (length (s .weights)) (length (s .flags)) (s .marks)) = all-yes (sheetQuestions (sizesOf g) (length (s .weights)) (length (s .flags)) (s .marks)) (omega arith, (omega arith, tt)) (b .1) in
+      group-yes (studyQuestions g) (sheetQuestions (sizesOf g) (length (x .weights)) (length (x .flags)) (x .marks)) (study-numbered g) (b .0)
+      ∙ none-no (sheetQuestions (sizesOf g) (length (x .weights)) (length (x .flags)) (x .marks)) (rw (k .0, k .1 .0, k .1 .1 .0) (y .0), (k .1 .1 .1, tt))
 
   -- the yes to 3 to 13 stays
   pub common-kept : (c : Call) → commonNo g s ≡ 0 → commonNo g (step g s c) ≡ 0

@@ -17,7 +17,7 @@ use Rattle.ask.specs.Ask.{asks}
 use Rattle.ask.proofs.AskLaws.{all-yes, after-done, after-refused}
 use Rattle.sheet_marks.specs.Tallies.{refusedWith, sheetAnswer}
 use Rattle.sheet_marks.proofs.TallyLaws.{refused-is, number-is as number-of}
-use Rattle.triplet_study.specs.Given.{Given}
+use Rattle.triplet_study.specs.Study.{Study}
 use Rattle.sheet_marks.specs.declared.SheetAnswer.{SheetAnswer}
 use Rattle.sheet_step.specs.Steps.{Sheet, sheet, Call, Called, verdict, step, stepAnswer}
 use Rattle.sheet_step.proofs.StepLaws.{verdict-common, refused-sheet}
@@ -29,12 +29,12 @@ use Rattle.sheet_list.specs.Play.{areListLengths, listNo, numberIn, numb
 use Rattle.sheet_list.proofs.KeptLaws.{common-kept}
 
 -- the number of an answer is the verdict
-number-is : (g : Given) (s : Sheet) (c : Call) → numberIn (stepAnswer g s c) ≡ verdict g s c
+number-is : (g : Study) (s : Sheet) (c : Call) → numberIn (stepAnswer g s c) ≡ verdict g s c
 number-is g s c = number-of (verdict g s c)
 
 -- ---- the first calls
 
-module _ (g : Given) (start : Sheet) (call : ℕ → Call) where
+module _ (g : Study) (start : Sheet) (call : ℕ → Call) where
   -- the sheet after the first i of them
   abbrev pub after : ℕ → Sheet
   after i = played g start (tabulate i call)
@@ -82,11 +82,11 @@ module _ (g : Given) (start : Sheet) (call : ℕ → Call) where
       ∙ sym (map-append numberIn (answers g start (tabulate n call)) (stepAnswer g (after n) (call n) ∷ []))
       ∙ ap (map numberIn) (sym (answers-cut g start (tabulate n call) (call n ∷ [])))
 
-pub tallies-cut : (g : Given) (s : Sheet) (first rest : List Call) → tallies g s (first ++ rest) ≡ tallies g s first ++ tallies g (played g s first) rest
+pub tallies-cut : (g : Study) (s : Sheet) (first rest : List Call) → tallies g s (first ++ rest) ≡ tallies g s first ++ tallies g (played g s first) rest
 tallies-cut g s [] rest = refl
 tallies-cut g s (c ∷ first) rest = ap (λ (l : List ℕ). step g s c .tally ∷ l) (tallies-cut g (step g s c) first rest)
 
-all-tallies : (g : Given) (start : Sheet) (call : ℕ → Call) (n : ℕ) → tabulate n (tallyAfter g start call) ≡ tallies g start (tabulate n call)
+all-tallies : (g : Study) (start : Sheet) (call : ℕ → Call) (n : ℕ) → tabulate n (tallyAfter g start call) ≡ tallies g start (tabulate n call)
 unfolding tabulate
 all-tallies g start call zero = refl
 all-tallies g start call (suc n) =
@@ -95,7 +95,7 @@ all-tallies g start call (suc n) =
 
 -- ---- a list that one of 3 to 13 refuses: every call is refused with that number
 
-module _ (g : Given) (s : Sheet) (n : ℕ) (e : n ≡ commonNo g s) (h : n ≡ 0 → ⊥) where
+module _ (g : Study) (s : Sheet) (n : ℕ) (e : n ≡ commonNo g s) (h : n ≡ 0 → ⊥) where
   refused : (c : Call) → verdict g s c ≡ n
   refused c = verdict-common g s c (λ z. h (e ∙ z)) ∙ sym e
 
@@ -121,7 +121,7 @@ module _ (g : Given) (s : Sheet) (n : ℕ) (e : n ≡ commonNo g s) (h : n ≡ 0
 
 -- ---- the end of the list
 
-module _ (g : Given) (start : Sheet) (list ids : List ℤ) (n : ℕ) (h : length list ≡ n * 6) where
+module _ (g : Study) (start : Sheet) (list ids : List ℤ) (n : ℕ) (h : length list ≡ n * 6) where
   calls-are : tabulate n (callAt list ids) ≡ callsOf list ids
   unfolding callsOf
   calls-are = ap (λ (k : ℕ). tabulate k (callAt list ids)) (omega (arith, h))
@@ -178,7 +178,7 @@ list-yes list answers tallies e =
     )
 
 -- what playing a list did, refused by its own question or done
-module _ (g : Given) (s : Sheet) (calls : List Call) (number : ℕ) (answers tallies : List ℕ) where
+module _ (g : Study) (s : Sheet) (calls : List Call) (number : ℕ) (answers tallies : List ℕ) where
   pub play-refused : {n : ℕ} (a : SheetAnswer) → n ≡ number → (n ≡ 0 → ⊥) → a ≡ refusedWith n (s .tally)
       → DidPlay g s calls number answers tallies a (outcome (sheet (s .weights) (s .flags) (s .marks) (a .tally .runs)) answers tallies)
   play-refused {n} a e h r =

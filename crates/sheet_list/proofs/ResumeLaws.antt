@@ -9,7 +9,7 @@ use lib.ListN.{length, length-append, List·getD-append}
 use lib.Seq.{getD-append-add}
 use Rattle.list_laws.specs.Lists.{tabulate, at}
 use Rattle.list_laws.proofs.FillLaws.{tabulate-ext}
-use Rattle.triplet_study.specs.Given.{Given}
+use Rattle.triplet_study.specs.Study.{Study}
 use Rattle.sheet_step.specs.Steps.{Sheet, Call}
 use Rattle.book_claim.specs.Lists.{played, answers}
 use Rattle.book_claim.proofs.CutLaws.{played-cut, answers-cut}
@@ -56,16 +56,16 @@ module _ (first rest ids : List ℤ) (n : ℕ) (h : length first ≡ n * 6) wher
       ∙ ap (λ (l : List Call). tabulate n (callAt first ids) ++ l) (tabulate-ext (length rest / 6) _ (callAt rest ids) (λ i _. call-rest i)))
 
   -- playing both at once, or the rest on what the first left: one sheet and tally, the same numbers, the same tallies
-  pub played-resumed : (g : Given) (s : Sheet) → played g s (callsOf (first ++ rest) ids) ≡ played g (played g s (callsOf first ids)) (callsOf rest ids)
+  pub played-resumed : (g : Study) (s : Sheet) → played g s (callsOf (first ++ rest) ids) ≡ played g (played g s (callsOf first ids)) (callsOf rest ids)
   played-resumed g s = ap (played g s) calls-cut ∙ played-cut g s (callsOf first ids) (callsOf rest ids)
 
-  pub numbers-resumed : (g : Given) (s : Sheet)
+  pub numbers-resumed : (g : Study) (s : Sheet)
       → numbers g s (callsOf (first ++ rest) ids) ≡ numbers g s (callsOf first ids) ++ numbers g (played g s (callsOf first ids)) (callsOf rest ids)
   numbers-resumed g s =
       ap (numbers g s) calls-cut
       ∙ ap (map numberIn) (answers-cut g s (callsOf first ids) (callsOf rest ids))
       ∙ map-append numberIn (answers g s (callsOf first ids)) (answers g (played g s (callsOf first ids)) (callsOf rest ids))
 
-  pub tallies-resumed : (g : Given) (s : Sheet)
+  pub tallies-resumed : (g : Study) (s : Sheet)
       → tallies g s (callsOf (first ++ rest) ids) ≡ tallies g s (callsOf first ids) ++ tallies g (played g s (callsOf first ids)) (callsOf rest ids)
   tallies-resumed g s = ap (tallies g s) calls-cut ∙ tallies-cut g s (callsOf first ids) (callsOf rest ids)

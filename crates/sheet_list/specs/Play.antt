@@ -5,7 +5,7 @@ use mathlib.Core.List.{List, [], _∷_, map}
 use Prim.Native.Nat.{ℕ, _*_}
 use lib.Dec.{eqb}
 use Rattle.ask.specs.Ask.{asks, firstNo, afterCall}
-use Rattle.triplet_study.specs.Given.{Given}
+use Rattle.triplet_study.specs.Study.{Study}
 use Rattle.sheet_marks.specs.declared.SheetAnswer.{SheetAnswer}
 use Rattle.ask.specs.Answers.{answerNumber}
 use Rattle.sheet_marks.specs.Tallies.{sheetAnswer}
@@ -29,11 +29,11 @@ abbrev pub numberIn : SheetAnswer → ℕ
 numberIn a = answerNumber (a .answer)
 
 -- "for each call accepted or which number"
-abbrev pub numbers : Given → Sheet → List Call → List ℕ
+abbrev pub numbers : Study → Sheet → List Call → List ℕ
 numbers g s calls = map numberIn (answers g s calls)
 
 -- the tally after each of the calls
-abbrev pub tallies : Given → Sheet → List Call → List ℕ
+abbrev pub tallies : Study → Sheet → List Call → List ℕ
 tallies g s [] = []
 tallies g s (c ∷ calls) = step g s c .tally ∷ tallies g (step g s c) calls
 
@@ -48,10 +48,10 @@ abbrev pub outcome : Sheet → List ℕ → List ℕ → Outcome
 outcome sheet numbers tallies = record { sheet = sheet; numbers = numbers; tallies = tallies }
 
 -- that of a list of calls, one after the other
-unfoldable pub outcomeOf : Given → Sheet → List Call → Outcome
+unfoldable pub outcomeOf : Study → Sheet → List Call → Outcome
 outcomeOf g s calls = outcome (played g s calls) (numbers g s calls) (tallies g s calls)
 
 -- What playing a list did: its answer by the number of its first no, with the tally that it left, and what it left.
-pub record DidPlay (g : Given) (s : Sheet) (calls : List Call) (number : ℕ) (answers tallies : List ℕ) (answer : SheetAnswer) (left : Outcome) : Type 0 where
+pub record DidPlay (g : Study) (s : Sheet) (calls : List Call) (number : ℕ) (answers tallies : List ℕ) (answer : SheetAnswer) (left : Outcome) : Type 0 where
   pub answers-with : answer ≡ sheetAnswer number (left .sheet .tally)
   pub leaves : left ≡ afterCall number (outcomeOf g s calls) (outcome s answers tallies)

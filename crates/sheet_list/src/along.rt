@@ -9,25 +9,19 @@ ghost use Rattle.sheet_list.specs.Calls.{callsOf};
 ghost use Rattle.sheet_list.specs.Play.{outcome, outcomeOf};
 use crate::asks;
 use crate::turns;
-use bzgrid_lookup::BzGrid;
-use triplet_piece::Sizes;
 use triplet_study::Shape;
-use triplet_types::TpType;
+use triplet_study::Sizes;
 
 // Runs the calls, and gives the tally after the last. The corners of a triplet are looked up once for runs that follow each other.
 fn play_prepared(
     weights: &mut [f64],
     flags: &mut [i8],
     marks: &mut [u8],
-    shape: Shape,
     z: Sizes,
-    tp: TpType,
-    grid: BzGrid,
     addresses: &[i64],
     gp_map: &[i64],
     steps: &[i64],
     second: &[i64],
-    rows: usize,
     frequencies1: &[f64],
     frequencies2: &[f64],
     points: &[f64],
@@ -38,48 +32,32 @@ fn play_prepared(
     answers: &mut [u64],
     tallies: &mut [u64],
 ) -> u64
-    requires { ⌜ (commonNo (studyNow shape addresses «gp_map» steps frequencies1 frequencies2 points triplets) (sheetNow weights flags marks before) ≡ 0) × Prepared (studyNow shape addresses «gp_map» steps frequencies1 frequencies2 points triplets) z tp grid (now second) rows ⌝ }
+    requires { ⌜ (commonNo (studyNow (z .shape) addresses «gp_map» steps frequencies1 frequencies2 points triplets) (sheetNow weights flags marks before) ≡ 0) × Prepared (studyNow (z .shape) addresses «gp_map» steps frequencies1 frequencies2 points triplets) z (now second) ⌝ }
     requires { ⌜ (length (now list) ≡ length (now answers) * 6) × (length (now tallies) ≡ length (now answers)) ⌝ }
     ensures { λ r. ⌜ outcome (sheetOut weights flags marks r) (now (answers .exit)) (now (tallies .exit))
-        ≡ outcomeOf (studyIn shape addresses «gp_map» steps frequencies1 frequencies2 points triplets) (sheetIn weights flags marks before) (callsOf (now (list .entry)) (now (ids .entry))) ⌝ }
+        ≡ outcomeOf (studyIn (z .shape) addresses «gp_map» steps frequencies1 frequencies2 points triplets) (sheetIn weights flags marks before) (callsOf (now (list .entry)) (now (ids .entry))) ⌝ }
 {
-    let mut f1 = [0.0; 384];
-    let mut f2 = [0.0; 384];
-    let mut a0 = [0.0; 384];
-    let mut a1 = [0.0; 384];
-    let mut a2 = [0.0; 384];
-    let mut p0 = [0usize; 96];
-    let mut p1 = [0usize; 96];
-    let mut p2 = [0usize; 96];
-    let mut numbers1 = [0usize; 384];
-    let mut numbers2 = [0usize; 384];
+    let mut frequencies = [[0.0; 384]; 2];
+    let mut channels = [[0.0; 384]; 3];
+    let mut places = [[0usize; 96]; 3];
+    let mut numbers = [[0usize; 384]; 2];
     let mut held = z.triplets;
     let mut runs = before;
     let mut i = 0;
     while i < answers.len() {
         let turn = turns::one_turn(
-            &mut f1,
-            &mut f2,
-            &mut a0,
-            &mut a1,
-            &mut a2,
-            &mut p0,
-            &mut p1,
-            &mut p2,
-            &mut numbers1,
-            &mut numbers2,
+            &mut frequencies,
+            &mut channels,
+            &mut places,
+            &mut numbers,
             weights,
             flags,
             marks,
-            shape,
             z,
-            tp,
-            grid,
             addresses,
             gp_map,
             steps,
             second,
-            rows,
             frequencies1,
             frequencies2,
             points,
@@ -99,7 +77,7 @@ fn play_prepared(
     runs
 }
 
-// Prepares what all calls take: the counts, the type, the grid and the second copy of the steps.
+// Prepares what all calls take: the counts, and the second copy of the steps.
 fn play_asked(
     weights: &mut [f64],
     flags: &mut [i8],
@@ -123,28 +101,19 @@ fn play_asked(
     ensures { λ r. ⌜ outcome (sheetOut weights flags marks r) (now (answers .exit)) (now (tallies .exit))
         ≡ outcomeOf (studyIn shape addresses «gp_map» steps frequencies1 frequencies2 points triplets) (sheetIn weights flags marks before) (callsOf (now (list .entry)) (now (ids .entry))) ⌝ }
 {
-    let z = triplet_study::kernel::sizes_of(shape, points.len(), triplets.len() / 3);
-    let tp_type = shape.tp_type;
-    let bz_grid_type = shape.bz_grid_type;
-    let d_diag = shape.d_diag;
-    let tp = triplet_types::kernel::tp_type_of(tp_type);
-    let grid = bzgrid_lookup::kernel::grid_of(bz_grid_type, d_diag);
-    let second = triplet_corners::kernel::second_steps(tp, steps);
     let m = steps.len();
-    let rows = m / 12;
+    let z = triplet_study::kernel::sizes_of(shape, m / 12, points.len(), triplets.len() / 3);
+    let tp = z.tp;
+    let second = triplet_corners::kernel::second_steps(tp, steps);
     play_prepared(
         weights,
         flags,
         marks,
-        shape,
         z,
-        tp,
-        grid,
         addresses,
         gp_map,
         steps,
         &second[..m],
-        rows,
         frequencies1,
         frequencies2,
         points,

@@ -3,7 +3,7 @@ use Rattle.sheet_list.proofs.ListLaws.{list-yes, play-done, play-refuse
 use Rattle.sheet_list.specs.Play.{listNo}
 use Rattle.sheet_list.specs.Calls.{callsOf}
 use Rattle.sheet_step.specs.Steps.{Sheet, Call, sheet}
-use Rattle.triplet_study.specs.Given.{Given, given}
+use Rattle.triplet_study.specs.Study.{Study, study}
 use lib.ListN.{length}
 use Prim.Native.Nat.{ℕ}
 use mathlib.Core.List.{List}
@@ -14,8 +14,8 @@ use Rattle.sheet_list.proofs.play.Tie as tie
 
 -- ---- what the list takes
 
-abbrev asked : tie.Start → Given
-asked s = given (s .args .shape) (s .args .addresses .now) (s .args .gp-map .now) (s .args .relative-grid-address .now) (s .args .frequencies1 .now) (s .args .frequencies2 .now) (s .args .frequency-points .now) (s .args .triplets .now)
+abbrev asked : tie.Start → Study
+asked s = study (s .args .shape) (s .args .addresses .now) (s .args .gp-map .now) (s .args .relative-grid-address .now) (s .args .frequencies1 .now) (s .args .frequencies2 .now) (s .args .frequency-points .now) (s .args .triplets .now)
 
 abbrev start : tie.Start → Sheet
 start s = sheet (s .args .weights .now) (s .args .flags .now) (s .args .marks .now) (s .args .tally .runs)

@@ -2,7 +2,7 @@
 use Rattle.sheet_list.proofs.ListLaws.{outcome-refused}
 use Rattle.sheet_list.specs.Play.{outcome}
 use Rattle.sheet_step.specs.Steps.{Sheet, sheet}
-use Rattle.triplet_study.specs.Given.{Given, given}
+use Rattle.triplet_study.specs.Study.{Study, study}
 use lib.ListN.{length, replicate}
 use Prim.Native.Nat.{ℕ}
 use mathlib.Core.Path.{_∙_, ap, sym}
@@ -12,8 +12,8 @@ use Rattle.sheet_list.proofs.along.play_all.Tie as tie
 
 -- ---- what the list takes
 
-abbrev asked : tie.Start → Given
-asked s = given (s .args .shape) (s .args .addresses .now) (s .args .gp-map .now) (s .args .steps .now) (s .args .frequencies1 .now) (s .args .frequencies2 .now) (s .args .points .now) (s .args .triplets .now)
+abbrev asked : tie.Start → Study
+asked s = study (s .args .shape) (s .args .addresses .now) (s .args .gp-map .now) (s .args .steps .now) (s .args .frequencies1 .now) (s .args .frequencies2 .now) (s .args .points .now) (s .args .triplets .now)
 
 abbrev start : tie.Start → Sheet
 start s = sheet (s .args .weights .now) (s .args .flags .now) (s .args .marks .now) (s .args .before)

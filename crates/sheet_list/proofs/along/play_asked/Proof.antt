@@ -1,66 +1,62 @@
 -- `sheet_list::along::play_asked` meets its contract. Assumes nothing.
-use Rattle.sheet_turn.proofs.TurnLaws.{steps-yes}
-use Rattle.sheet_turn.specs.Turns.{Prepared}
-use Rattle.sheet_step.proofs.StepLaws.{given-yes}
-use Rattle.sheet_step.specs.Steps.{Sheet, sheet, carry}
-use Rattle.triplet_study.proofs.GivenLaws.{few-counts, sizes-same}
-use Rattle.triplet_study.specs.Given.{Given, given}
-use Rattle.triplet_corners.proofs.CornerLaws.{second-length, second-lent}
-use Rattle.list_laws.proofs.SignedLaws.{back}
-use lib.ListN.{length}
-use mathlib.Core.Path.{_∙_, ap, sym, refl}
-use native.Mathlib.Omega.{arith}
 use borrow.Author.Needs.{needs}
+use lib.ListN.{length, take}
+use mathlib.Core.Path.{_∙_, _≡_, ap, sym}
+use native.Mathlib.Omega.{arith}
+use Rattle.sheet_list.specs.Calls.{callsOf}
+use Rattle.sheet_list.specs.Play.{outcomeOf}
+use Rattle.sheet_step.proofs.StepLaws.{study-yes}
+use Rattle.sheet_step.specs.Steps.{Sheet, sheet, carry}
+use Rattle.sheet_turn.proofs.EntryLaws.{prepared, shaped-yes}
+use Rattle.sheet_turn.proofs.TurnLaws.{ready-made}
+use Rattle.triplet_corners.proofs.CornerLaws.{second-length, second-lent}
+use Rattle.triplet_corners.specs.Corners.{secondSteps}
+use Rattle.triplet_iw.proofs.TripletLaws.{steps-few}
+use Rattle.triplet_study.proofs.StudyLaws.{few-counts, study-shaped, tested}
+use Rattle.triplet_study.specs.Study.{Study, study}
+use Rattle.triplet_study.specs.Tested.{Ready}
 use Rattle.sheet_list.proofs.along.play_asked.Statement.{statement}
 use Rattle.sheet_list.proofs.along.play_asked.Tie as tie
 
--- ---- what the list takes
-
-abbrev asked : tie.Start → Given
-asked s = given (s .args .shape) (s .args .addresses .now) (s .args .gp-map .now) (s .args .steps .now) (s .args .frequencies1 .now) (s .args .frequencies2 .now) (s .args .points .now) (s .args .triplets .now)
+-- what the list takes
+abbrev asked : tie.Start → Study
+asked s =
+    study (s .args .shape) (s .args .addresses .now) (s .args .gp-map .now) (s .args .steps .now) (s .args .frequencies1 .now) (s .args .frequencies2 .now) (s .args .points .now) (s .args .triplets .now)
 
 abbrev start : tie.Start → Sheet
 start s = sheet (s .args .weights .now) (s .args .flags .now) (s .args .marks .now) (s .args .before)
 
+-- the study is ready
+ready-all : (c : tie.After-sizes-of) → let s = c .before .before .before .before .before .before .before .before in Ready (asked s) (c .sizes-of .result) (length (s .args .weights .now)) (length (s .args .flags .now))
+ready-all c = let s = c .before .before .before .before .before .before .before .before in ready-made (asked s) (start s) (s .pre .0) (c .sizes-of .ensures)
+
+-- the second copy of the steps as it is lent
+lent : (c : tie.After-second-steps) → let s = c .before .before .before .before .before .before .before .before .before in take (length (s .args .steps .now)) (c .second-steps .result) ≡ secondSteps (c .before .sizes-of .result .tp) (s .args .steps .now)
+lent c = let s = c .before .before .before .before .before .before .before .before .before in second-lent (c .before .sizes-of .result .tp) (s .args .steps .now) (c .second-steps .result) (c .second-steps .ensures)
+
 sizes-of-requires : tie.Need-sizes-of-requires
 sizes-of-requires c κs =
     let s : _ = c .before .before .before .before .before .before .before in
-    few-counts (asked s) (given-yes (asked s) (start s) carry (s .pre .0))
-
-tp-type-of-requires : tie.Need-tp-type-of-requires
-tp-type-of-requires c κs = search needs
-
-grid-of-requires : tie.Need-grid-of-requires
-grid-of-requires c κs = search needs
+    few-counts (tested (asked s) (study-yes (asked s) (start s) carry (s .pre .0)))
 
 second-steps-requires : tie.Need-second-steps-requires
 second-steps-requires c κs =
-    let s : _ = c .before .before .before .before .before .before .before .before .before .before .before .before .before in
-    let q = steps-yes (asked s) (start s) (s .pre .0) in
-    (omega (arith, q .1 .0, q .1 .1), q .0)
+    let r : _ = ready-all c in
+    (steps-few r, r .tested .table)
 
 array-share-prefix-second : tie.Need-array-share-prefix-second
-array-share-prefix-second c =
-    let s : _ = c .before .before .before .before .before .before .before .before .before .before .before .before .before .before .before .before .before in
-    let q = steps-yes (asked s) (start s) (s .pre .0) in
-    omega (arith, q .1 .0, q .1 .1)
+array-share-prefix-second c = omega (arith, steps-few (ready-all (c .before .before .before .before)))
 
 slice-aggregate-play-prepared : tie.Need-slice-aggregate-play-prepared
 slice-aggregate-play-prepared c =
-    let s : _ = c .before .before .before .before .before .before .before .before .before .before .before .before .before .before .before .before .before .before in
-    sym (ap length (second-lent (c .before .before .before .before .before .before .tp-type-of .result) (s .args .steps .now) (c .before .before .before .before .second-steps .result) (c .before .before .before .before .second-steps .ensures)) ∙ second-length (c .before .before .before .before .before .before .tp-type-of .result) (s .args .steps .now))
+    let s : _ = c .before .before .before .before .before .before .before .before .before .before .before .before .before in
+    sym (ap length (lent (c .before .before .before .before)) ∙ second-length (c .before .before .before .before .before .sizes-of .result .tp) (s .args .steps .now))
 
 play-prepared-requires : tie.Need-play-prepared-requires
 play-prepared-requires c κs =
-    let s : _ = c .before .before .before .before .before .before .before .before .before .before .before .before .before .before .before .before .before .before .before .before in
-    let p : Prepared (asked s) (c .before .before .before .before .before .before .before .before .before .before .before .before .sizes-of .result) (c .before .before .before .before .before .before .before .before .tp-type-of .result) (c .before .before .before .before .before .before .before .grid-of .result) _ _ = record {
-      counts = c .before .before .before .before .before .before .before .before .before .before .before .before .sizes-of .ensures ∙ sizes-same (asked s);
-      type = rw (back (s .args .shape .«tp_type») (c .before .before .before .before .before .before .before .before .before .before .before .struct-told .given .1 .1 .0 .1)) at (c .before .before .before .before .before .before .before .before .tp-type-of .ensures);
-      mesh = rw (back (s .args .shape .«bz_grid_type») (c .before .before .before .before .before .before .before .before .before .before .struct-told2 .given .0 .1)) at (c .before .before .before .before .before .before .before .grid-of .ensures);
-      copy = second-lent (c .before .before .before .before .before .before .before .before .tp-type-of .result) (s .args .steps .now) (c .before .before .before .before .before .before .second-steps .result) (c .before .before .before .before .before .before .second-steps .ensures);
-      all-rows = refl;
-    } in
-    ((s .pre .0, p), s .pre .1)
+    let s : _ = c .before .before .before .before .before .before .before .before .before .before .before .before .before .before .before in
+    let z : _ = c .before .before .before .before .before .before .before .sizes-of .ensures in
+    ((shaped-yes (asked s) (start s) z (s .pre .0), prepared (asked s) (start s) z (lent (c .before .before .before .before .before .before))), s .pre .1)
 
 same-length : tie.Need-same-length
 same-length c = search needs
@@ -78,15 +74,15 @@ same-length-5 : tie.Need-same-length-5
 same-length-5 c = search needs
 
 returns : tie.Need-returns
-returns c = search needs
+returns c =
+    let s : _ = c .before .before .before .before .before .before .before .before .before .before .before .before .before .before .before .before .before .before .before .before .before .before .before .before .before in
+    c .before .before .before .before .before .before .before .before .before .play-prepared .ensures ∙ ap (λ (g : Study). outcomeOf g (start s) (callsOf (s .args .list .now) (s .args .ids .now))) (study-shaped (asked s) (c .before .before .before .before .before .before .before .before .before .before .before .before .before .before .before .before .before .sizes-of .result) (c .before .before .before .before .before .before .before .before .before .before .before .before .before .before .before .before .before .sizes-of .ensures))
 
 pub play-asked-spec : {M : Type 1} → statement M
 play-asked-spec =
     tie.close
     (tie.spec
     sizes-of-requires
-    tp-type-of-requires
-    grid-of-requires
     second-steps-requires
     array-share-prefix-second
     slice-aggregate-play-prepared
