@@ -7,14 +7,11 @@ use Rattle.ask.specs.Ask.{firstNo}
 use Rattle.ask.proofs.AskLaws.{after-done, after-refused}
 use Rattle.ask.specs.declared.Answer.the-variants.{Done, Refused}
 use Rattle.sheet_marks.specs.declared.SheetAnswer.{SheetAnswer}
+use Rattle.ask.proofs.AnswerLaws.{number-is}
 use Rattle.ask.specs.Answers.{answerOf, answerNumber}
 use Rattle.sheet_marks.specs.Tallies.{sheetAnswer, refusedWith, isRoom, tallyQuestions, addedTo}
 
 -- ---- the number of an answer
-
-pub number-is : (n : ℕ) → answerNumber (answerOf n) ≡ n
-number-is zero = refl
-number-is (suc n) = refl
 
 pub refused-is : (n tally : ℕ) → (n ≡ 0 → ⊥) → refusedWith n tally ≡ sheetAnswer n tally
 refused-is zero tally h = absurd (h refl)

@@ -26,7 +26,8 @@ use Rattle.marks.specs.Bytes.{bytesFor, Holds}
 use Rattle.sheet_marks.specs.declared.SheetAnswer.{SheetAnswer}
 use Rattle.ask.specs.Answers.{answerNumber}
 use Rattle.sheet_marks.specs.Tallies.{sheetAnswer, refusedWith, isRoom, tallyQuestions, addedTo}
-use Rattle.sheet_marks.proofs.TallyLaws.{number-is, refused-is}
+use Rattle.ask.proofs.AnswerLaws.{number-is}
+use Rattle.sheet_marks.proofs.TallyLaws.{refused-is}
 use Rattle.sheet_step.specs.Steps.{Sheet, sheet, Call, Did, piecesOf, commonQuestions, areSheetLengths, isPiece, areIdLists, sheetQuestions, pieceQuestions, averageQuestions, ownQuestions, verdict, effect, step}
 use Rattle.sheet_step.proofs.CountLaws.{marks-held}
 

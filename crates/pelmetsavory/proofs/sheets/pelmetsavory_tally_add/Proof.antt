@@ -2,7 +2,7 @@
 use borrow.Author.Needs.{needs}
 use mathlib.Core.Path.{_∙_, ap}
 use Rattle.sheet_list.specs.Play.{numberIn}
-use Rattle.sheet_marks.proofs.TallyLaws.{number-is}
+use Rattle.ask.proofs.AnswerLaws.{number-is}
 use Rattle.sheet_marks.specs.declared.SheetAnswer.{SheetAnswer}
 use Rattle.pelmetsavory.proofs.sheets.pelmetsavory_tally_add.Statement.{statement}
 use Rattle.pelmetsavory.proofs.sheets.pelmetsavory_tally_add.Tie as tie
