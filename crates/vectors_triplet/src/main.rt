@@ -19,6 +19,7 @@ use replay_input::kernel::Judged;
 use replay_input::kernel::stamps;
 use replay_report::kernel as report;
 use replay_report::kernel::Count;
+use replay_study::kernel as records;
 use triplet::Shape;
 
 fn numbers() -> [i64; 4200]
@@ -350,29 +351,32 @@ fn study_case(
     addresses: &[i64],
     map: &[i64],
 ) -> Judged {
-    let ty = input::next_whole(text, study);
-    let b1 = input::next_whole(text, ty.next);
-    let b2 = input::next_whole(text, b1.next);
+    let head = input::next_three(text, study);
     let mut table = numbers();
-    let t = input::fill_wholes(text, b2.next, &mut table);
+    let t = input::fill_wholes(text, head.next, &mut table);
     let mut frequencies1 = reals();
-    let f1 = input::fill_reals(text, t.next, &mut frequencies1);
     let mut frequencies2 = reals();
-    let f2 = input::fill_reals(text, f1.next, &mut frequencies2);
     let mut points = reals();
-    let x = input::fill_reals(text, f2.next, &mut points);
+    let v = records::read_values(
+        text,
+        t.next,
+        &mut frequencies1,
+        &mut frequencies2,
+        &mut points,
+    );
+    let h = head.value;
     let shape = Shape {
         bz_grid_type,
         d_diag,
-        tp_type: ty.value,
-        num_band1: b1.value,
-        num_band2: b2.value,
+        tp_type: h[0],
+        num_band1: h[1],
+        num_band2: h[2],
     };
     let nt = t.count;
-    let n1 = f1.count;
-    let n2 = f2.count;
-    let nx = x.count;
-    let next = x.next;
+    let n1 = v.frequencies1;
+    let n2 = v.frequencies2;
+    let nx = v.points;
+    let next = v.next;
     if record == 2 {
         return read_only(next);
     }
@@ -393,17 +397,14 @@ fn study_case(
 // A call on the grid whose record starts at grid, and the study whose record starts at study; after record 1, which is the grid, nothing
 // but where the next record starts.
 fn weights_case(text: &[u8], grid: Cursor, study: Cursor, c: Cursor, record: u64) -> Judged {
-    let kind = input::next_whole(text, grid);
-    let mesh = input::next_three(text, kind.next);
     let mut addresses = numbers();
-    let a = input::fill_wholes(text, mesh.next, &mut addresses);
     let mut map = numbers();
-    let m = input::fill_wholes(text, a.next, &mut map);
-    let k = kind.value;
-    let d = mesh.value;
-    let p = a.count;
-    let v = m.count;
-    let next = m.next;
+    let g = records::read_grid(text, grid, &mut addresses, &mut map);
+    let k = g.kind;
+    let d = g.mesh;
+    let p = g.addresses;
+    let v = g.map;
+    let next = g.next;
     if record == 1 {
         return read_only(next);
     }

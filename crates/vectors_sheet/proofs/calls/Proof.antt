@@ -30,8 +30,8 @@ sub-left c = search needs
 next-count-requires-2 : tie.Need-next-count-requires-2 Inv-loop μ-loop
 next-count-requires-2 c κs = search needs
 
-grid-call-requires : tie.Need-grid-call-requires Inv-loop μ-loop
-grid-call-requires c κs = search needs
+kind-call-requires : tie.Need-kind-call-requires Inv-loop μ-loop
+kind-call-requires c κs = search needs
 
 next-count-requires-3 : tie.Need-next-count-requires-3 Inv-loop μ-loop
 next-count-requires-3 c κs = search needs
@@ -92,7 +92,7 @@ calls-spec =
     loop-holds
     sub-left
     next-count-requires-2
-    grid-call-requires
+    kind-call-requires
     next-count-requires-3
     next-bits-requires-2
     next-count-requires-4

@@ -1,0 +1,77 @@
+// What is counted and printed: the answers by kind of call, 21 a kind, and the differences at place 0.
+
+fn one_more(n: u64) -> u64 {
+    if n < 18446744073709551615 { n + 1 } else { n }
+}
+
+fn count_at(counts: &mut [u64], k: usize) {
+    if k < counts.len() {
+        let n = one_more(counts[k]);
+        counts[k] = n;
+    }
+}
+
+// Where the answers of a kind of call are counted: 0 done, else the number of the refusal.
+fn place_of(kind: u64, number: u64) -> usize {
+    if kind < 6 {
+        if number < 21 {
+            return (kind * 21 + number) as usize;
+        }
+    }
+    0
+}
+
+pub fn count_answer(counts: &mut [u64], kind: u64, number: u64, agrees: bool) {
+    count_at(counts, place_of(kind, number));
+    if !agrees {
+        count_at(counts, 0);
+    }
+}
+
+fn print_kind(kind: u64) {
+    match kind {
+        1 => {
+            io::write_all(1, b"run of a piece");
+        }
+        2 => {
+            io::write_all(1, b"carry on");
+        }
+        3 => {
+            io::write_all(1, b"average of a triplet");
+        }
+        5 => {
+            io::write_all(1, b"list of calls");
+        }
+        _ => {
+            io::write_all(1, b"open count");
+        }
+    }
+}
+
+fn print_answer(kind: u64, number: u64, n: u64) {
+    if n == 0 {
+        return;
+    }
+    print_kind(kind);
+    if number == 0 {
+        io::write_all(1, b"\tdone\t");
+    } else {
+        io::write_all(1, b"\trefused ");
+        io::print_decimal(1, number);
+        io::write_all(1, b"\t");
+    }
+    io::print_decimal(1, n);
+    io::write_all(1, b"\n");
+}
+
+// A line for each kind of call and answer, and the differences.
+pub fn print_counts(counts: [u64; 126]) {
+    let mut k = 21;
+    while k < 126 {
+        print_answer((k / 21) as u64, (k % 21) as u64, counts[k]);
+        k += 1;
+    }
+    io::write_all(1, b"differences\t");
+    io::print_decimal(1, counts[0]);
+    io::write_all(1, b"\n");
+}
