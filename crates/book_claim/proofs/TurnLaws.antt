@@ -21,6 +21,7 @@ use Rattle.ask.specs.Ask.{afterCall}
 use Rattle.triplet_study.specs.Study.{Study, sizesOf}
 use Rattle.marks.specs.Bytes.{markAt, placesIn}
 use Rattle.marks.proofs.BytesLaws.{all-in}
+use Rattle.marks.proofs.MarkLaws.{alike-same}
 use Rattle.marks.specs.Marks.{isAveragedAt, alike, isMark, areMarks, isNotAveraged}
 use Rattle.book_claim.proofs.MarkWords.{mark-word}
 use Rattle.book_claim.proofs.RunLaws.{all-marked}
@@ -36,13 +37,6 @@ averaged-mark : (w : Word) → eqb (markOf w) 2 ≡ isAveraged w
 averaged-mark fresh = refl
 averaged-mark computed = refl
 averaged-mark (averagedBy ids1 ids2) = refl
-
-alike-is : (a b : Bool) → alike a b ≡ true → a ≡ b
-unfolding alike
-alike-is true true e = refl
-alike-is true false e = clash e
-alike-is false true e = clash e
-alike-is false false e = refl
 
 -- piece q is one of a book's
 abbrev pub On : Study → Sheet → Book → ℕ → Type 0
@@ -63,7 +57,7 @@ module _ (l : List Word) (start : List ℕ) (pieces : ℕ) (held : pieces ≤ pl
       let m : List ℕ = marksOf pieces l start in
       let y : (ltb (markAt m q) 3 && alike (isAveragedAt m q) (isAveragedAt m (q / b * b))) ≡ true = below-at pieces (isMark b m) e q h in
       sym (averaged-at q h)
-      ∙ alike-is (isAveragedAt m q) (isAveragedAt m (q / b * b)) (and-right (ltb (markAt m q) 3) (alike (isAveragedAt m q) (isAveragedAt m (q / b * b))) y)
+      ∙ alike-same (isAveragedAt m q) (isAveragedAt m (q / b * b)) (and-right (ltb (markAt m q) 3) (alike (isAveragedAt m q) (isAveragedAt m (q / b * b))) y)
 
   -- no piece of a triplet that is not yet averaged is averaged
   none-averaged : (b t q : ℕ) → areMarks b pieces (marksOf pieces l start) ≡ true → isNotAveraged b (marksOf pieces l start) t ≡ true → q / b ≡ t → q < pieces

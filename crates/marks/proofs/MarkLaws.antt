@@ -9,8 +9,9 @@ use lib.Arith.{digits-div, digits-mod}
 use lib.Dec.{eqb, ltb}
 use lib.ListN.{length}
 use borrow.Author.Tests.{eq-eqb, lt-ltb, le-ltb, ltb-true, ltb-false, eqb-true, eqb-false}
+use Rattle.list_laws.proofs.BoolLaws.{clash}
 use Rattle.marks.specs.Bytes.{markAt, patchMarks, placesIn, IsMark}
-use Rattle.marks.specs.Marks.{isOpenMark, isOpenAt, averagedMarks, carriedMarks, closed}
+use Rattle.marks.specs.Marks.{isOpenMark, isOpenAt, alike, averagedMarks, carriedMarks, closed}
 use Rattle.marks.proofs.BytesLaws.{small-mark, mark-lt, length-marks, mark-patch, marks-twice, marks-none, marks-ext}
 
 -- the first place of a row is not beyond
@@ -97,3 +98,12 @@ averaged-mark pairs t q marks l = mark-patch (λ q. eqb (q / pairs) t) (λ q. 2)
 pub open-at : (pieces q : ℕ) (marks : List ℕ) → q < pieces → isOpenAt pieces marks q ≡ isOpenMark marks q
 unfolding isOpenAt
 open-at pieces q marks h = rw (lt-ltb q pieces h)
+
+-- ---- both or neither
+
+pub alike-same : (a b : Bool) → alike a b ≡ true → a ≡ b
+unfolding alike
+alike-same true true e = refl
+alike-same true false e = clash e
+alike-same false true e = clash e
+alike-same false false e = refl

@@ -1,6 +1,7 @@
 // A sheet's content: read, and held to the stored one.
 pub mod calls;
 pub mod counts;
+pub mod open;
 
 ghost use Prim.Native.Nat.{_≤_, min};
 ghost use mathlib.Core.Path.{_≡_};
@@ -11,6 +12,32 @@ ghost use Rattle.replay_sheet.specs.Content.{flagOf, flagFrom, markFrom,
 use replay_compare::kernel as compare;
 use replay_input::kernel as input;
 use replay_input::kernel::Cursor;
+
+// Weights, flags and marks of a sheet.
+pub fn weights_buffer() -> [f64; 256]
+    ensures { λ r. ⌜ 256 ≡ length r ⌝ }
+{
+    [0.0; 256]
+}
+
+pub fn flags_buffer() -> [i8; 256]
+    ensures { λ r. ⌜ 256 ≡ length r ⌝ }
+{
+    [0; 256]
+}
+
+pub fn marks_buffer() -> [u8; 256]
+    ensures { λ r. ⌜ 256 ≡ length r ⌝ }
+{
+    [0; 256]
+}
+
+// Answers and tallies of a list.
+pub fn answers_buffer() -> [u64; 256]
+    ensures { λ r. ⌜ 256 ≡ length r ⌝ }
+{
+    [0; 256]
+}
 
 // How much of the marks a count takes: the count, or all of them where they are fewer.
 pub fn pieces_of(n: u64, buf: &[u8]) -> usize

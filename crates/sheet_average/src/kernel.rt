@@ -1,6 +1,6 @@
 // For the crates above, on a tested study and sheet: the averages of one triplet.
 ghost use mathlib.Core.Path.{_≡_};
-ghost use Prim.Native.Nat.{_+_, _*_, _<_, _≤_};
+ghost use Prim.Native.Nat.{_+_, _*_, _<_};
 ghost use lib.Ieee.{nan};
 ghost use lib.ListN.{length};
 ghost use Rattle.list_laws.specs.Groups.{groupMade};

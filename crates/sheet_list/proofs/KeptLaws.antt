@@ -1,6 +1,6 @@
 -- Questions 3 to 13 keep their yes: a call keeps the lengths, and "marks 0, 1, 2, and a triplet's all 2 or none 2". Assumes nothing.
 use mathlib.Core.Path.{_≡_, refl, sym, _∙_, subst}
-use mathlib.Core.Bool.{Bool, true, false, not, cond}
+use mathlib.Core.Bool.{Bool, true, false, cond}
 use mathlib.Core.List.{List}
 use Prim.Native.Nat.{ℕ, zero, suc, _+_, _*_, _/_, _≤_, _<_}
 use native.Mathlib.Nat.{div-add-mod'}
@@ -10,7 +10,7 @@ use lib.Arith.{digits-div}
 use lib.Dec.{eqb, ltb}
 use lib.ListN.{length}
 use lib.Signed.{mag}
-use Rattle.list_laws.proofs.BoolLaws.{and-left, and-right, and-both, clash}
+use Rattle.list_laws.proofs.BoolLaws.{and-left, and-right, and-both}
 use Rattle.list_laws.proofs.BelowLaws.{below-at, below-all}
 use Rattle.ask.specs.Ask.{AllYes}
 use Rattle.ask.proofs.AskLaws.{all-yes, none-no, group-yes}
@@ -20,7 +20,7 @@ use Rattle.triplet_study.specs.Questions.{studyQuestions}
 use Rattle.triplet_study.proofs.StudyLaws.{study-numbered}
 use Rattle.marks.specs.Bytes.{markAt, patchMarks, placesIn, Holds}
 use Rattle.marks.proofs.BytesLaws.{place-in, small-mark, length-marks, mark-patch}
-use Rattle.marks.proofs.MarkLaws.{length-carried, length-averaged, carried-mark, averaged-mark}
+use Rattle.marks.proofs.MarkLaws.{alike-same, length-carried, length-averaged, carried-mark, averaged-mark}
 use Rattle.marks.specs.Marks.{isAveragedAt, alike, isMark, areMarks, isNotAveraged, closed, carriedMarks, averagedMarks}
 use Rattle.sheet_step.specs.Steps.{Sheet, Call, run, carry, average, piecesOf, sheetQuestions, verdict, effect, step, pieceOf}
 use Rattle.sheet_step.proofs.StepLaws.{both-yes, refused-sheet, done-sheet}
@@ -29,13 +29,6 @@ use Rattle.book_claim.proofs.AcceptedLaws.{Accepted, accepted, counts, named, p
 use Rattle.sheet_turn.specs.Turns.{commonNo}
 
 -- ---- question 13 by its two parts
-
-alike-same : (a b : Bool) → alike a b ≡ true → a ≡ b
-unfolding alike
-alike-same true true e = refl
-alike-same true false e = clash e
-alike-same false true e = clash e
-alike-same false false e = refl
 
 same-alike : (a b : Bool) → a ≡ b → alike a b ≡ true
 unfolding alike

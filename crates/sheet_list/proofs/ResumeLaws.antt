@@ -7,7 +7,7 @@ use native.Mathlib.Omega.{arith}
 use lib.IntN.{ℤ, pos}
 use lib.ListN.{length, length-append, List·getD-append}
 use lib.Seq.{getD-append-add}
-use Rattle.list_laws.specs.Lists.{tabulate, at}
+use Rattle.list_laws.specs.Lists.{tabulate}
 use Rattle.list_laws.proofs.FillLaws.{tabulate-ext}
 use Rattle.triplet_study.specs.Study.{Study}
 use Rattle.sheet_step.specs.Steps.{Sheet, Call}

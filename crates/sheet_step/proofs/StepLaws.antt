@@ -118,14 +118,6 @@ module _ (g : Study) (s : Sheet) (c : Call) where
   unfolding step
   done-sheet e = after-done (verdict g s c) (effect g s c) s e
 
-  -- what an accepted call did
-  pub done-call : (a : SheetAnswer) (w : List Float) (f : List ℤ) (m : List ℕ) → verdict g s c ≡ 0 → a ≡ sheetAnswer 0 (effect g s c .tally)
-      → w ≡ effect g s c .weights → f ≡ effect g s c .flags → m ≡ effect g s c .marks → Did g s c a (sheet w f m (a .tally .runs))
-  done-call a w f m e q ew ef em = record {
-    answers = q ∙ (λ i. sheetAnswer (sym e i) (done-sheet e i .tally));
-    leaves = (λ i. sheet (ew i) (ef i) (em i) (q i .tally .runs)) ∙ done-sheet e;
-  }
-
 -- ---- what 14 says of a named piece, and 14 to 19 of an averaging
 
 -- question 14's yes

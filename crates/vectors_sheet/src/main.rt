@@ -22,10 +22,9 @@ use replay_sheet::kernel as content;
 use replay_sheet::kernel::calls;
 use replay_sheet::kernel::calls::Call;
 use replay_sheet::kernel::counts;
+use replay_sheet::kernel::open;
 use replay_study::kernel as records;
 use sheet::Answer;
-use sheet::Counts;
-use sheet::OpenAnswer;
 use sheet::Shape;
 use sheet::SheetAnswer;
 
@@ -41,32 +40,6 @@ fn reals() -> [f64; 1100]
     [0.0; 1100]
 }
 
-// Weights, flags and marks of a sheet.
-fn weights_buffer() -> [f64; 256]
-    ensures { λ r. ⌜ 256 ≡ length r ⌝ }
-{
-    [0.0; 256]
-}
-
-fn flags_buffer() -> [i8; 256]
-    ensures { λ r. ⌜ 256 ≡ length r ⌝ }
-{
-    [0; 256]
-}
-
-fn marks_buffer() -> [u8; 256]
-    ensures { λ r. ⌜ 256 ≡ length r ⌝ }
-{
-    [0; 256]
-}
-
-// Answers and tallies of a list.
-fn answers_buffer() -> [u64; 256]
-    ensures { λ r. ⌜ 256 ≡ length r ⌝ }
-{
-    [0; 256]
-}
-
 // ---- the calls
 
 // What a call gave: the number of its refusal, 0 where it is done, and the tally afterwards.
@@ -75,15 +48,10 @@ struct Made {
     tally: u64,
 }
 
-// A refusal with no number counts as 21.
-fn refusal_of(number: u64) -> u64 {
-    if number == 0 { 21 } else { number }
-}
-
 fn number_in(answer: Answer) -> u64 {
     match answer {
         Answer::Done => 0,
-        Answer::Refused(number) => refusal_of(number),
+        Answer::Refused(number) => counts::refusal_of(number),
     }
 }
 
@@ -288,8 +256,8 @@ fn kind_call(
     let next = size.next;
     let n1 = one.count;
     let n2 = two.count;
-    let mut answers = answers_buffer();
-    let mut tallies = answers_buffer();
+    let mut answers = content::answers_buffer();
+    let mut tallies = content::answers_buffer();
     let k = content::answers_of(size.value, &answers);
     let j = content::answers_of(size.value, &tallies);
     lists_call(
@@ -362,9 +330,9 @@ fn list_case(text: &[u8], places: Places, c: Cursor, counts: &mut [u64]) {
     let f = input::next_count(text, w.next);
     let m = input::next_count(text, f.next);
     let next = m.next;
-    let mut weights = weights_buffer();
-    let mut flags = flags_buffer();
-    let mut marks = marks_buffer();
+    let mut weights = content::weights_buffer();
+    let mut flags = content::flags_buffer();
+    let mut marks = content::marks_buffer();
     let nw = input::room_of(w.value, &weights);
     let nf = input::places_of(f.value, &flags);
     let nm = content::pieces_of(m.value, &marks);
@@ -377,50 +345,6 @@ fn list_case(text: &[u8], places: Places, c: Cursor, counts: &mut [u64]) {
         &mut marks[..nm],
         counts,
     );
-}
-
-fn open_number(answer: OpenAnswer) -> u64 {
-    match answer {
-        OpenAnswer::Open(_) => 0,
-        OpenAnswer::Refused(number) => refusal_of(number),
-    }
-}
-
-// The count of an accepted call, 0 of a refused one.
-fn open_flags(answer: OpenAnswer) -> u64 {
-    match answer {
-        OpenAnswer::Open(n) => n,
-        OpenAnswer::Refused(_) => 0,
-    }
-}
-
-fn flags_case(text: &[u8], c: Cursor, open: Counts, flags: &mut [i8], counts: &mut [u64]) {
-    let after_flags = content::read_flags(text, c, flags);
-    let t = input::next_whole(text, after_flags);
-    let refusal = input::next_count(text, t.next);
-    let count = input::next_bits(text, refusal.next);
-    let answer = sheet::open_count(open, flags, t.value);
-    let number = open_number(answer);
-    let agrees = (number == refusal.value) & (open_flags(answer) == count.value);
-    counts::count_answer(counts, 4, number, agrees);
-}
-
-fn open_case(text: &[u8], c: Cursor, counts: &mut [u64]) {
-    let t = input::next_whole(text, c);
-    let b0 = input::next_whole(text, t.next);
-    let b1 = input::next_whole(text, b0.next);
-    let b2 = input::next_whole(text, b1.next);
-    let places = input::next_count(text, b2.next);
-    let next = places.next;
-    let mut flags = flags_buffer();
-    let m = input::places_of(places.value, &flags);
-    let open = Counts {
-        num_triplets: t.value,
-        num_band0: b0.value,
-        num_band1: b1.value,
-        num_band2: b2.value,
-    };
-    flags_case(text, next, open, &mut flags[..m], counts);
 }
 
 // Where the record after size bytes starts.
@@ -447,7 +371,7 @@ fn case_of(text: &[u8], places: Places, record: u64, c: Cursor, counts: &mut [u6
     if record == 4 {
         list_case(text, places, c, counts);
     } else if record == 5 {
-        open_case(text, c, counts);
+        open::open_case(text, c, counts);
     }
 }
 

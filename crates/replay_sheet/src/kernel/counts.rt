@@ -11,6 +11,11 @@ fn count_at(counts: &mut [u64], k: usize) {
     }
 }
 
+// A refusal with no number counts as 21.
+pub fn refusal_of(number: u64) -> u64 {
+    if number == 0 { 21 } else { number }
+}
+
 // Where the answers of a kind of call are counted: 0 done, else the number of the refusal.
 fn place_of(kind: u64, number: u64) -> usize {
     if kind < 6 {

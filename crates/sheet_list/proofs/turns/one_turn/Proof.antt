@@ -1,7 +1,6 @@
 -- `sheet_list::turns::one_turn` meets its contract. Assumes nothing.
 use borrow.Author.Needs.{needs}
 use lib.IntN.{ℤ}
-use mathlib.Core.Bool.{false, true}
 use mathlib.Core.Path.{_∙_, _≡_, ap, sym}
 use mir.Syntax.{w64}
 use mir.Val.{ofZ, toZ}

@@ -3,7 +3,6 @@ use borrow.Author.Needs.{needs}
 use mathlib.Core.Path.{_∙_, _≡_, ap, sym}
 use native.Mathlib.Omega.{arith}
 use Rattle.marks.proofs.BytesLaws.{held-few}
-use Rattle.sheet_marks.specs.declared.SheetAnswer.{SheetAnswer}
 use Rattle.sheet_marks.specs.Tallies.{addedTo}
 use Rattle.sheet_step.proofs.StepLaws.{added-no, added-runs}
 use Rattle.sheet_step.specs.Steps.{Sheet, sheet, piecesOf}

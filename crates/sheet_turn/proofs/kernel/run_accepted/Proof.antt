@@ -1,6 +1,5 @@
 -- `sheet_turn::kernel::run_accepted` meets its contract. Assumes nothing.
 use borrow.Author.Needs.{needs}
-use lib.Dec.{eqb}
 use lib.Signed.{mag}
 use mathlib.Core.Path.{_∙_, _≡_, ap}
 use mir.Syntax.{w64}
@@ -8,7 +7,6 @@ use mir.ValLaws.{toZ-ofZ}
 use native.Mathlib.Omega.{arith}
 use Prim.Native.Nat.{_+_, _*_, _<_}
 use Rattle.marks.proofs.BytesLaws.{small-mark}
-use Rattle.marks.specs.Bytes.{placesIn}
 use Rattle.sheet_step.proofs.StepLaws.{run-yes}
 use Rattle.sheet_step.specs.Steps.{Sheet, sheet}
 use Rattle.sheet_turn.proofs.TurnLaws.{ready-made, run-done, run-on, run-place, run-small}

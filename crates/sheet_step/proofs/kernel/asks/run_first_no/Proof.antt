@@ -3,7 +3,6 @@ use borrow.Author.Needs.{needs}
 use mathlib.Core.Path.{_≡_}
 use mir.Syntax.{w64}
 use mir.ValLaws.{toZ-ofZ}
-use Prim.Native.Nat.{ℕ}
 use Rattle.ask.specs.Ask.{firstNo}
 use Rattle.sheet_step.proofs.StepLaws.{added-no, run-no, run-room}
 use Rattle.sheet_step.specs.Steps.{pieceQuestions}
