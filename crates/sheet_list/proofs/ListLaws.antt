@@ -16,6 +16,7 @@ use Rattle.list_laws.proofs.BoolLaws.{and-left, and-right}
 use Rattle.ask.specs.Ask.{asks}
 use Rattle.ask.proofs.AskLaws.{all-yes, after-done, after-refused}
 use Rattle.sheet_marks.specs.Tallies.{refusedWith, sheetAnswer}
+use Rattle.ask.proofs.AnswerLaws.{number-is as number-of}
 use Rattle.sheet_marks.proofs.TallyLaws.{refused-is}
 use Rattle.triplet_study.specs.Study.{Study}
 use Rattle.sheet_marks.specs.declared.SheetAnswer.{SheetAnswer}
