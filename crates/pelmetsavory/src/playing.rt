@@ -2,7 +2,7 @@
 ghost use lib.ListN.{length};
 ghost use Rattle.triplet_study.specs.Lent.{studyIn};
 ghost use Rattle.sheet_step.specs.Lent.{sheetIn, sheetOut};
-ghost use Rattle.sheet_list.specs.Calls.{callsOf};
+ghost use Rattle.sheet_calls.specs.Calls.{callsOf};
 ghost use Rattle.sheet_list.specs.Play.{listNo, outcome};
 ghost use Rattle.pelmetsavory.specs.Sheets.{CalledPlay};
 use ask::kernel::number_of;

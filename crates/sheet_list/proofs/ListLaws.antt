@@ -24,7 +24,7 @@ use Rattle.sheet_step.specs.Steps.{Sheet, sheet, Call, Called, verdict, step, s
 use Rattle.sheet_step.proofs.StepLaws.{verdict-common, refused-sheet}
 use Rattle.book_claim.specs.Lists.{played, answers}
 use Rattle.book_claim.proofs.CutLaws.{played-cut, answers-cut}
-use Rattle.sheet_list.specs.Calls.{callAt, callsOf}
+use Rattle.sheet_calls.specs.Calls.{callAt, callsOf}
 use Rattle.sheet_turn.specs.Turns.{commonNo}
 use Rattle.sheet_list.specs.Play.{areListLengths, listNo, numberIn, numbers, tallies, outcome, outcomeOf, DidPlay}
 use Rattle.sheet_list.proofs.KeptLaws.{common-kept}

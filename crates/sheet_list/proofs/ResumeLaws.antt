@@ -13,7 +13,7 @@ use Rattle.triplet_study.specs.Study.{Study}
 use Rattle.sheet_step.specs.Steps.{Sheet, Call}
 use Rattle.book_claim.specs.Lists.{played, answers}
 use Rattle.book_claim.proofs.CutLaws.{played-cut, answers-cut}
-use Rattle.sheet_list.specs.Calls.{numberAt, callOf, callAt, callsOf}
+use Rattle.sheet_calls.specs.Calls.{numberAt, callOf, callAt, callsOf}
 use Rattle.sheet_list.specs.Play.{numberIn, numbers, tallies}
 use Rattle.sheet_list.proofs.ListLaws.{tallies-cut}
 

@@ -1,4 +1,3 @@
 -- The definitions that the contracts cite.
-pub mod Calls
 pub mod Play
 pub mod Booked

@@ -5,10 +5,10 @@ ghost use lib.ListN.{length};
 ghost use Rattle.triplet_study.specs.Lent.{studyNow, studyIn};
 ghost use Rattle.sheet_step.specs.Lent.{sheetIn, sheetOut};
 ghost use Rattle.sheet_turn.specs.Turns.{sheetNow, commonNo, Prepared};
-ghost use Rattle.sheet_list.specs.Calls.{callsOf};
+ghost use Rattle.sheet_calls.specs.Calls.{callsOf};
 ghost use Rattle.sheet_list.specs.Play.{outcome, outcomeOf};
 use crate::asks;
-use crate::turns;
+use sheet_calls::kernel::one_turn;
 use triplet_study::Shape;
 use triplet_study::Sizes;
 
@@ -45,7 +45,7 @@ fn play_prepared(
     let mut runs = before;
     let mut i = 0;
     while i < answers.len() {
-        let turn = turns::one_turn(
+        let turn = one_turn(
             &mut frequencies,
             &mut channels,
             &mut places,

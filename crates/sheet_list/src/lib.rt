@@ -2,7 +2,7 @@
 ghost use lib.ListN.{length};
 ghost use Rattle.triplet_study.specs.Lent.{studyIn};
 ghost use Rattle.sheet_step.specs.Lent.{sheetIn, sheetOut};
-ghost use Rattle.sheet_list.specs.Calls.{callsOf};
+ghost use Rattle.sheet_calls.specs.Calls.{callsOf};
 ghost use Rattle.sheet_list.specs.Play.{listNo, outcome, DidPlay};
 pub use ask::Answer;
 pub use sheet_marks::SheetAnswer;
@@ -11,8 +11,6 @@ pub use triplet_study::Shape;
 
 mod along;
 mod asks;
-mod calls;
-mod turns;
 
 // Plays a list of calls, six numbers a call, on a sheet with any marks. The id lists of the averagings are parts of `ids`. Each call's
 // number, 0 where it is done, goes to its place in `answers`, the tally after it to its place in `tallies`. The list itself asks question

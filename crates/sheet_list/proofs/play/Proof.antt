@@ -1,7 +1,7 @@
 -- `sheet_list::play` meets its contract. Assumes nothing.
 use Rattle.sheet_list.proofs.ListLaws.{list-yes, play-done, play-refused}
 use Rattle.sheet_list.specs.Play.{listNo}
-use Rattle.sheet_list.specs.Calls.{callsOf}
+use Rattle.sheet_calls.specs.Calls.{callsOf}
 use Rattle.sheet_step.specs.Steps.{Sheet, Call, sheet}
 use Rattle.triplet_study.specs.Study.{Study, study}
 use lib.ListN.{length}

@@ -8,7 +8,7 @@ use Rattle.list_laws.specs.Lists.{fronted}
 use Rattle.sheet_fill.proofs.PieceLaws.{kept-none}
 use Rattle.sheet_fill.specs.Kept.{Kept}
 use Rattle.sheet_list.proofs.ListLaws.{after, after-none, common-after, number-next, numberAfter, outcome-end, sheet-next, tally-next, tallyAfter}
-use Rattle.sheet_list.specs.Calls.{callAt}
+use Rattle.sheet_calls.specs.Calls.{callAt}
 use Rattle.sheet_step.specs.Steps.{Call, Sheet, sheet}
 use Rattle.sheet_turn.specs.Turns.{commonNo}
 use Rattle.triplet_study.specs.Study.{Study, study}

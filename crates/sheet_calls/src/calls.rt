@@ -2,7 +2,7 @@
 ghost use mathlib.Core.Path.{_≡_};
 ghost use Prim.Native.Nat.{_+_, _*_, _<_};
 ghost use lib.ListN.{length};
-ghost use Rattle.sheet_list.specs.Calls.{numberAt, isPart, idsFrom};
+ghost use Rattle.sheet_calls.specs.Calls.{numberAt, isPart, idsFrom};
 
 // Number `k` of call `i`.
 pub fn number(list: &[i64], i: usize, k: usize) -> i64

@@ -12,7 +12,7 @@ use Rattle.list_laws.specs.Lists.{part}
 use Rattle.list_laws.specs.Signed.{isNat}
 use Rattle.list_laws.proofs.BoolLaws.{and-left, and-right}
 use Rattle.sheet_step.specs.Steps.{run, carry, average}
-use Rattle.sheet_list.specs.Calls.{numberAt, isPart, idsFrom, callOf, callAt}
+use Rattle.sheet_calls.specs.Calls.{numberAt, isPart, idsFrom, callOf, callAt}
 
 module _ (ids : List ℤ) (start end : ℤ) where
   -- a part lies within the ids

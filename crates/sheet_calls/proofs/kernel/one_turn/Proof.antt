@@ -1,4 +1,4 @@
--- `sheet_list::turns::one_turn` meets its contract. Assumes nothing.
+-- `sheet_calls::kernel::one_turn` meets its contract. Assumes nothing.
 use borrow.Author.Needs.{needs}
 use lib.IntN.{ℤ}
 use mathlib.Core.Path.{_∙_, _≡_, ap, sym}
@@ -6,10 +6,10 @@ use mir.Syntax.{w64}
 use mir.Val.{ofZ, toZ}
 use Rattle.list_laws.proofs.SignedLaws.{back}
 use Rattle.list_laws.specs.Signed.{isNat}
-use Rattle.sheet_list.proofs.CallLaws.{call-average, call-carry, call-run}
-use Rattle.sheet_list.specs.Calls.{idsFrom, numberAt}
-use Rattle.sheet_list.proofs.turns.one_turn.Statement.{statement}
-use Rattle.sheet_list.proofs.turns.one_turn.Tie as tie
+use Rattle.sheet_calls.proofs.CallLaws.{call-average, call-carry, call-run}
+use Rattle.sheet_calls.specs.Calls.{idsFrom, numberAt}
+use Rattle.sheet_calls.proofs.kernel.one_turn.Statement.{statement}
+use Rattle.sheet_calls.proofs.kernel.one_turn.Tie as tie
 
 -- the numbers of the call
 kind : (c : tie.After-number4) → let s = c .before .before .before .before .before .before .before .before .before in toZ w64 (ofZ w64 (c .before .before .before .number .result)) ≡ numberAt (s .args .list .now) (s .args .i) 0

@@ -1,10 +1,10 @@
--- `sheet_list::calls::part_ok` meets its contract. Assumes nothing.
+-- `sheet_calls::calls::part_ok` meets its contract. Assumes nothing.
 use borrow.Author.Needs.{needs}
 use mir.Syntax.{w64}
 use mir.ValLaws.{toZ-ofZ}
-use Rattle.sheet_list.specs.Calls.{isPart}
-use Rattle.sheet_list.proofs.calls.part_ok.Statement.{statement}
-use Rattle.sheet_list.proofs.calls.part_ok.Tie as tie
+use Rattle.sheet_calls.specs.Calls.{isPart}
+use Rattle.sheet_calls.proofs.calls.part_ok.Statement.{statement}
+use Rattle.sheet_calls.proofs.calls.part_ok.Tie as tie
 
 magnitude-requires : tie.Need-magnitude-requires
 magnitude-requires c κs = search needs

@@ -1,4 +1,4 @@
--- `sheet_list::calls::ids_from` meets its contract. Assumes nothing.
+-- `sheet_calls::calls::ids_from` meets its contract. Assumes nothing.
 use borrow.Author.Needs.{needs}
 use lib.Signed.{mag}
 use mathlib.Core.Bool.{true}
@@ -6,11 +6,11 @@ use mathlib.Core.Path.{_∙_, _≡_, ap, sym}
 use mir.Syntax.{w64}
 use mir.ValLaws.{toZ-ofZ}
 use native.Mathlib.Omega.{arith}
-use Rattle.sheet_list.proofs.CallLaws.{ids-none, ids-part, part-within}
-use Rattle.sheet_list.specs.Calls.{isPart}
+use Rattle.sheet_calls.proofs.CallLaws.{ids-none, ids-part, part-within}
+use Rattle.sheet_calls.specs.Calls.{isPart}
 use Rattle.list_laws.specs.Lists.{at}
-use Rattle.sheet_list.proofs.calls.ids_from.Statement.{statement}
-use Rattle.sheet_list.proofs.calls.ids_from.Tie as tie
+use Rattle.sheet_calls.proofs.calls.ids_from.Statement.{statement}
+use Rattle.sheet_calls.proofs.calls.ids_from.Tie as tie
 
 part-ok-requires : tie.Need-part-ok-requires
 part-ok-requires c κs = search needs

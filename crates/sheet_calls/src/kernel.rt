@@ -7,7 +7,7 @@ ghost use Rattle.sheet_step.specs.Lent.{sheetIn, sheetOut};
 ghost use Rattle.sheet_step.specs.Steps.{Called};
 ghost use Rattle.sheet_fill.specs.Kept.{Kept};
 ghost use Rattle.sheet_turn.specs.Turns.{sheetNow, commonNo, Prepared};
-ghost use Rattle.sheet_list.specs.Calls.{callAt};
+ghost use Rattle.sheet_calls.specs.Calls.{callAt};
 use crate::calls;
 use sheet_turn::Turn;
 use sheet_turn::kernel;
