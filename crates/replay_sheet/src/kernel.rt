@@ -2,6 +2,7 @@
 pub mod calls;
 pub mod counts;
 pub mod open;
+pub mod study;
 
 ghost use Prim.Native.Nat.{_≤_, min};
 ghost use mathlib.Core.Path.{_≡_};
