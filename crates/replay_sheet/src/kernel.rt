@@ -1,8 +1,6 @@
 // A sheet's content: read, and held to the stored one.
-pub mod calls;
 pub mod counts;
 pub mod open;
-pub mod study;
 
 ghost use Prim.Native.Nat.{_≤_, min};
 ghost use mathlib.Core.Path.{_≡_};

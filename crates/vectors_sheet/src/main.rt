@@ -16,15 +16,15 @@
 // can make and read no other.
 ghost use mathlib.Core.Path.{_≡_};
 ghost use lib.ListN.{length};
+use replay_calls::kernel::calls;
+use replay_calls::kernel::calls::Call;
+use replay_calls::kernel::study::numbers;
+use replay_calls::kernel::study::study_call;
 use replay_input::kernel as input;
 use replay_input::kernel::Cursor;
 use replay_sheet::kernel as content;
-use replay_sheet::kernel::calls;
-use replay_sheet::kernel::calls::Call;
 use replay_sheet::kernel::counts;
 use replay_sheet::kernel::open;
-use replay_sheet::kernel::study::numbers;
-use replay_sheet::kernel::study::study_call;
 use replay_study::kernel as records;
 use sheet::Answer;
 use sheet::SheetAnswer;

@@ -1,0 +1,3 @@
+// For the programs that replay lists of calls.
+pub mod calls;
+pub mod study;
