@@ -7,7 +7,8 @@ use Rattle.sheet_marks.specs.declared.SheetAnswer.{SheetAnswer}
 use Rattle.ask.specs.Answers.{answerNumber}
 use Rattle.ask.proofs.AnswerLaws.{number-is}
 use Rattle.sheet_step.specs.Steps.{Sheet, Call, verdict, step, Called, Did}
-use Rattle.sheet_list.specs.Play.{Outcome, numberIn, DidPlay}
+use Rattle.sheet_play.specs.Outcomes.{Outcome, numberIn}
+use Rattle.sheet_list.specs.Play.{DidPlay}
 use Rattle.pelmetsavory.specs.Sheets.{CalledPlay}
 
 -- `seen` is the call as the code below sees it, `call` as its caller names it

@@ -1,36 +1,12 @@
--- The questions of calls that ask one or two, in the form of a status, and what two numbers of a foreign caller name.
+-- What a call for weights and flags did, as a status and what it left.
 use mathlib.Core.Path.{_≡_}
-use mathlib.Core.Bool.{Bool, cond}
-use mathlib.Core.List.{List, [], _∷_}
 use Prim.Native.Nat.{ℕ}
 use denote.Ref.{now}
-use lib.Dec.{eqb}
 use lib.Ieee.{Float}
 use lib.IntN.{ℤ}
-use Rattle.ask.specs.Ask.{Question, asks}
-use Rattle.question_grids.specs.Grids.{isMesh}
-use Rattle.question_values.specs.TpTypes.{isTpType}
-use Rattle.tetrahedron_method.specs.declared.WeightFunction.{WeightFunction}
-use Rattle.tetrahedron_method.specs.declared.WeightFunction.the-variants.{I, J}
 use Rattle.triplet_study.specs.Study.{Study}
 use Rattle.triplet_study.specs.Lent.{Lent}
 use Rattle.triplet_iw.specs.Calls.{weightsNo, AreFilled}
-
--- the letter I (73) names I; any other byte names J, as the source has it: "non-'I' branch: piecewise J"
-unfoldable pub functionOf : ℕ → WeightFunction
-functionOf letter = cond (eqb letter 73) I J
-
--- 1 for yes, 0 for no
-abbrev pub oneOf : Bool → ℕ
-oneOf b = cond b 1 0
-
--- the grid index: "Is each mesh number .. (the grid index alone: 1 to 256, its address any)? No: 4."
-abbrev pub indexQuestions : List ℤ → List Question
-indexQuestions diag = asks 4 (isMesh 256 diag) ∷ []
-
--- "Is the type 2, 3 or 4? No: 8"
-abbrev pub typeQuestions : ℤ → List Question
-typeQuestions tp = asks 8 (isTpType tp) ∷ []
 
 -- what a call for weights and flags did: the status, and what it left
 abbrev pub CalledFill : Study → Lent Float → Lent ℤ → ℕ → Type 0

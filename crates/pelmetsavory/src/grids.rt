@@ -10,11 +10,10 @@ ghost use Rattle.ask.specs.Ask.{firstNo, afterCall};
 ghost use Rattle.bzgrid_lookup.specs.Neighbours.{gridOf};
 ghost use Rattle.bzgrid.specs.Lists.{neighboursOf, neighboursOfAll};
 ghost use Rattle.bzgrid.specs.Calls.{pointQuestions, manyQuestions};
-ghost use Rattle.pelmetsavory.specs.Calls.{indexQuestions};
+ghost use Rattle.statuses.specs.Statuses.{indexQuestions};
 use crate::Grid;
 use crate::Triple;
 use ask::kernel::number_of;
-use grgrid::IndexAnswer;
 
 // The neighbours of one grid point. Questions 3 to 7, 10, 12.
 #[no_mangle]
@@ -87,13 +86,7 @@ pub extern "C" fn pelmetsavory_grid_index_from_address(
 {
     let address = address.numbers;
     let d_diag = d_diag.numbers;
-    match grgrid::grid_index_from_address(address, d_diag) {
-        IndexAnswer::Index(g) => {
-            *index = g;
-            0
-        }
-        IndexAnswer::Refused(number) => number,
-    }
+    statuses::grids::grid_index_from_address(address, d_diag, index)
 }
 
 // A lattice times a whole vector, behind `product`. Questions 2, 7.
@@ -106,15 +99,6 @@ pub extern "C" fn pelmetsavory_matvec_di(
     ensures { λ r. ⌜ r ≡ firstNo (matvecQuestions (now (a .entry)) (b .numbers)) ⌝ }
     ensures { λ r. ⌜ now (product .exit) ≡ afterCall (firstNo (matvecQuestions (now (a .entry)) (b .numbers))) (matvecOf (now (a .entry)) (b .numbers)) (now (product .entry)) ⌝ }
 {
-    let matrix = *a;
     let vector = b.numbers;
-    let done = common::matvec_di(matrix, vector);
-    let answer = done.answer;
-    let no = number_of(answer);
-    if no != 0 {
-        return no;
-    }
-    let times = done.vector;
-    *product = times;
-    0
+    statuses::grids::matvec_di(a, vector, product)
 }

@@ -12,7 +12,6 @@ ghost use Rattle.sheet_marks.specs.OpenCount.{openQuestions, zerosFrom, cellsPe
 use crate::Piece;
 use ask::kernel::number_of;
 use sheet::Counts;
-use sheet::OpenAnswer;
 use sheet::Shape;
 use sheet::Tally;
 
@@ -164,13 +163,7 @@ pub extern "C" fn pelmetsavory_open_count(
     ensures { λ r. ⌜ now (count .exit) ≡ afterCall (firstNo (openQuestions counts (length (now (flags .entry))) triplet))
         (zerosFrom (now (flags .entry)) (mag triplet * cellsPerTriplet counts) (cellsPerTriplet counts)) (now (count .entry)) ⌝ }
 {
-    match sheet::open_count(counts, flags, triplet) {
-        OpenAnswer::Open(zeros) => {
-            *count = zeros;
-            0
-        }
-        OpenAnswer::Refused(number) => number,
-    }
+    statuses::sheets::open_count(counts, flags, triplet, count)
 }
 
 // Adds runs behind `tally`. Question 20.
@@ -179,11 +172,5 @@ pub extern "C" fn pelmetsavory_tally_add(tally: &mut u64, runs: u64) -> u64
     ensures { λ r. ⌜ r ≡ firstNo (tallyQuestions (now (tally .entry)) runs) ⌝ }
     ensures { λ r. ⌜ now (tally .exit) ≡ afterCall (firstNo (tallyQuestions (now (tally .entry)) runs)) (now (tally .entry) + runs) (now (tally .entry)) ⌝ }
 {
-    let before = *tally;
-    let counted = Tally { runs: before };
-    let added = counted.add(runs);
-    let sum = added.tally;
-    *tally = sum.runs;
-    let answer = added.answer;
-    number_of(answer)
+    statuses::sheets::tally_add(tally, runs)
 }

@@ -12,11 +12,9 @@ ghost use Rattle.ask.specs.Ask.{firstNo, afterCall};
 ghost use Rattle.bzgrid_lookup.specs.Neighbours.{gridOf};
 ghost use Rattle.grid_point_weights.specs.Weights.{study, weightsOfAll};
 ghost use Rattle.grid_point_weights.specs.Calls.{gridPointQuestions};
-ghost use Rattle.pelmetsavory.specs.Calls.{functionOf};
+ghost use Rattle.statuses.specs.Statuses.{functionOf};
 use crate::Grid;
-use crate::choice;
 use ask::kernel::number_of;
-use tetrahedron_method::WeightAnswer;
 
 // The weights of each band at each frequency point, for each grid point; `letter` 'I' (73) asks for the density's weight, any other byte for
 // that of the number of states, J. Questions 3 to 7, 9 to 12.
@@ -42,7 +40,7 @@ pub extern "C" fn pelmetsavory_integration_weights_at_grid_points(
 {
     let bz_grid_type = grid.bz_grid_type;
     let d_diag = grid.d_diag;
-    let function = choice::function_of(letter);
+    let function = statuses::choice::function_of(letter);
     let answer = grid_point_weights::integration_weights_at_grid_points(
         iw,
         frequency_points,
@@ -75,17 +73,7 @@ pub extern "C" fn pelmetsavory_relative_grid_address(
         (flat (tableOf (mainDiagonalOf (now («rec_lattice» .entry))))) (now (table .entry)) ⌝ }
     ensures { λ r. ⌜ now (index .exit) ≡ afterCall (firstNo (latticeQuestions (now («rec_lattice» .entry)))) (mainDiagonalOf (now («rec_lattice» .entry))) (now (index .entry)) ⌝ }
 {
-    let lattice = *rec_lattice;
-    let done = relative_grid_address::relative_grid_address(lattice);
-    let answer = done.answer;
-    let no = number_of(answer);
-    if no != 0 {
-        return no;
-    }
-    let chosen = done.table;
-    *table = chosen;
-    *index = done.index;
-    0
+    statuses::tetrahedra::relative_grid_address(rec_lattice, table, index)
 }
 
 // All four tables, one after the other.
@@ -109,12 +97,5 @@ pub extern "C" fn pelmetsavory_tetrahedra_integration_weight(
     ensures { λ r. ⌜ now (weight .exit) ≡ afterCall (firstNo (weightQuestions omega (now («tetrahedra_omegas» .entry))))
         (weightOf (functionOf letter) omega (now («tetrahedra_omegas» .entry)) (length (now («tetrahedra_omegas» .entry)) / 4)) (now (weight .entry)) ⌝ }
 {
-    let function = choice::function_of(letter);
-    match tetrahedron_method::integration_weight(omega, tetrahedra_omegas, function) {
-        WeightAnswer::Weight(w) => {
-            *weight = w;
-            0
-        }
-        WeightAnswer::Refused(number) => number,
-    }
+    statuses::tetrahedra::integration_weight(omega, tetrahedra_omegas, letter, weight)
 }

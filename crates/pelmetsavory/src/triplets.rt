@@ -7,14 +7,11 @@ ghost use Rattle.triplet_study.specs.Lent.{studyIn, studyOfOne};
 ghost use Rattle.averaging.specs.Answers.{averagingNo, weightsAfter, flagsAfter};
 ghost use Rattle.triplet_addresses.specs.Normal.{isNQuestions, isNormal};
 ghost use Rattle.triplet_addresses.specs.Copies.{copyQuestions, bothCopies};
-ghost use Rattle.pelmetsavory.specs.Calls.{CalledFill, oneOf, typeQuestions};
+ghost use Rattle.statuses.specs.Statuses.{oneOf, typeQuestions};
+ghost use Rattle.pelmetsavory.specs.Calls.{CalledFill};
 use crate::Triple;
-use crate::choice;
 use ask::kernel::number_of;
-use triplet_addresses::IsNAnswer;
 use triplet_study::Shape;
-use triplet_types::TpType;
-use triplet_types::TpTypeAnswer;
 
 // The weights and flags of all triplets. Questions 3 to 12.
 #[no_mangle]
@@ -123,13 +120,7 @@ pub extern "C" fn pelmetsavory_is_n(
         (oneOf (isNormal (triplet .numbers) (now («bz_grid_addresses» .entry)))) (now (normal .entry)) ⌝ }
 {
     let triplet = triplet.numbers;
-    match triplet_addresses::is_n(triplet, bz_grid_addresses) {
-        IsNAnswer::Normal(yes) => {
-            *normal = choice::one_of(yes);
-            0
-        }
-        IsNAnswer::Refused(number) => number,
-    }
+    statuses::triplets::is_n(triplet, bz_grid_addresses, normal)
 }
 
 // Both copies of the neighbour table, one after the other. Questions 7, 8, 12.
@@ -153,11 +144,5 @@ pub extern "C" fn pelmetsavory_num_channels(tp_type: i64, channels: &mut usize) 
     ensures { λ r. ⌜ r ≡ firstNo (typeQuestions «tp_type») ⌝ }
     ensures { λ r. ⌜ now (channels .exit) ≡ afterCall (firstNo (typeQuestions «tp_type»)) (channelCount (tpTypeOf «tp_type»)) (now (channels .entry)) ⌝ }
 {
-    match TpType::try_from_i64(tp_type) {
-        TpTypeAnswer::Known(tp) => {
-            *channels = tp.num_channels();
-            0
-        }
-        TpTypeAnswer::Refused(number) => number,
-    }
+    statuses::triplets::num_channels(tp_type, channels)
 }

@@ -1,32 +1,18 @@
 // The run sheet: run a named piece, carry on, average a triplet. Weights lie by channel, triplet, point, b1, b2; flags without
 // the channel; marks by triplet, b1, b2.
-ghost use mathlib.Core.Path.{_≡_};
 ghost use Rattle.triplet_study.specs.Lent.{studyIn};
 ghost use Rattle.sheet_step.specs.Lent.{sheetIn, sheetOut};
-ghost use Rattle.sheet_marks.specs.Tallies.{sheetAnswer};
-ghost use Rattle.sheet_step.specs.Steps.{run, carry, average, Did};
+ghost use Rattle.sheet_step.specs.Steps.{run, carry, Did};
 pub use ask::Answer;
+pub use sheet_averaging::average_triplet;
 pub use sheet_marks::Counts;
 pub use sheet_marks::OpenAnswer;
 pub use sheet_marks::SheetAnswer;
 pub use sheet_marks::Tally;
+use sheet_marks::kernel::answer_of;
 use sheet_marks::kernel::refused;
 pub use sheet_marks::open_count;
 pub use triplet_study::Shape;
-
-// The answer of a call by its number and the tally after it.
-fn answer_of(no: u64, runs: u64) -> SheetAnswer
-    ensures { λ r. ⌜ r ≡ sheetAnswer no runs ⌝ }
-{
-    let tally = Tally { runs };
-    if no != 0 {
-        return refused(no, tally);
-    }
-    SheetAnswer {
-        answer: Answer::Done,
-        tally,
-    }
-}
 
 // Runs the piece of a triplet and two bands: its entries at every point, in every channel, and its mark. Questions 3 to 15, 20.
 pub fn run_piece(
@@ -74,7 +60,6 @@ pub fn run_piece(
     let runs = tally.runs;
     let own = sheet_step::kernel::asks::run_first_no(z, marks, runs, triplet, b1, b2);
     if own != 0 {
-        // the sheet stays as it is
         return refused(own, tally);
     }
     let tp = z.tp;
@@ -181,68 +166,4 @@ pub fn carry_on(
         none,
     );
     answer_of(turn.no, turn.runs)
-}
-
-// Averages a triplet over the degenerate sets of two id lists: each channel, then the flags; its marks become 2. Questions 3 to 19.
-pub fn average_triplet(
-    shape: Shape,
-    addresses: &[i64],
-    gp_map: &[i64],
-    relative_grid_address: &[i64],
-    frequencies1: &[f64],
-    frequencies2: &[f64],
-    frequency_points: &[f64],
-    triplets: &[i64],
-    weights: &mut [f64],
-    flags: &mut [i8],
-    marks: &mut [u8],
-    tally: Tally,
-    triplet: i64,
-    degenerate_ids1: &[i64],
-    degenerate_ids2: &[i64],
-) -> SheetAnswer
-    ensures { λ r. ⌜ Did (studyIn shape addresses «gp_map» «relative_grid_address» frequencies1 frequencies2 «frequency_points» triplets)
-        (sheetIn weights flags marks (tally .runs)) (average triplet (now («degenerate_ids1» .entry)) (now («degenerate_ids2» .entry))) r (sheetOut weights flags marks (r .tally .runs)) ⌝ }
-{
-    let no = sheet_step::kernel::asks::common_first_no(
-        shape,
-        addresses,
-        gp_map,
-        relative_grid_address,
-        frequencies1,
-        frequencies2,
-        frequency_points,
-        triplets,
-        weights.len(),
-        flags.len(),
-        marks,
-    );
-    if no != 0 {
-        return refused(no, tally);
-    }
-    let z = triplet_study::kernel::sizes_of(
-        shape,
-        relative_grid_address.len() / 12,
-        frequency_points.len(),
-        triplets.len() / 3,
-    );
-    let runs = tally.runs;
-    let own = sheet_turn::kernel::average_asked(
-        weights,
-        flags,
-        marks,
-        z,
-        addresses,
-        gp_map,
-        relative_grid_address,
-        frequencies1,
-        frequencies2,
-        frequency_points,
-        triplets,
-        runs,
-        triplet,
-        degenerate_ids1,
-        degenerate_ids2,
-    );
-    answer_of(own, runs)
 }

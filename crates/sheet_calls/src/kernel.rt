@@ -98,7 +98,7 @@ pub fn one_turn(
     let e = calls::number(list, i, 5);
     let ids1 = calls::ids_from(ids, b, c);
     let ids2 = calls::ids_from(ids, d, e);
-    let no = kernel::average_asked(
+    let no = sheet_averaging::kernel::average_asked(
         weights,
         flags,
         marks,

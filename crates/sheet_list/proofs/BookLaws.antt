@@ -8,7 +8,7 @@ use Rattle.sheet_step.specs.Steps.{Sheet, Call, piecesOf, step}
 use Rattle.book_claim.specs.Book.{Book, opened, render, turn}
 use Rattle.book_claim.proofs.Demand3.{demand-3, same-step, opened-long, opened-is}
 use Rattle.book_claim.proofs.TurnLaws.{turn-long}
-use Rattle.sheet_list.specs.Play.{numberIn, tallies, outcome, outcomeOf}
+use Rattle.sheet_play.specs.Outcomes.{numberIn, tallies, outcome, outcomeOf}
 use Rattle.sheet_list.specs.Booked.{bookTallies, bookOutcome}
 
 module _ (g : Study) (start : Sheet) where

@@ -14,8 +14,8 @@ use Rattle.sheet_step.specs.Steps.{Sheet, Call}
 use Rattle.book_claim.specs.Lists.{played, answers}
 use Rattle.book_claim.proofs.CutLaws.{played-cut, answers-cut}
 use Rattle.sheet_calls.specs.Calls.{numberAt, callOf, callAt, callsOf}
-use Rattle.sheet_list.specs.Play.{numberIn, numbers, tallies}
-use Rattle.sheet_list.proofs.ListLaws.{tallies-cut}
+use Rattle.sheet_play.specs.Outcomes.{numberIn, numbers, tallies}
+use Rattle.sheet_play.proofs.OutcomeLaws.{tallies-cut}
 
 tabulate-cut : {A : Type 0} (n k : ℕ) (f : ℕ → A) → tabulate (n + k) f ≡ tabulate n f ++ tabulate k (λ i. f (n + i))
 unfolding tabulate

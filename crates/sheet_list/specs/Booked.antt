@@ -4,7 +4,7 @@ use Prim.Native.Nat.{ℕ}
 use Rattle.triplet_study.specs.Study.{Study}
 use Rattle.sheet_step.specs.Steps.{Sheet, Call}
 use Rattle.book_claim.specs.Book.{Book, opened, render, turn, booked, bookAnswers}
-use Rattle.sheet_list.specs.Play.{numberIn, Outcome, outcome}
+use Rattle.sheet_play.specs.Outcomes.{numberIn, Outcome, outcome}
 
 -- the book's tally after each of the calls
 abbrev pub bookTallies : Study → Sheet → Book → List Call → List ℕ

@@ -17,6 +17,9 @@ pub refused-is : (n tally : ℕ) → (n ≡ 0 → ⊥) → refusedWith n tally �
 refused-is zero tally h = absurd (h refl)
 refused-is (suc n) tally h = refl
 
+pub answer-done : (number runs : ℕ) → number ≡ 0 → sheetAnswer 0 runs ≡ sheetAnswer number runs
+answer-done number runs e = ap (λ (n : ℕ). sheetAnswer n runs) (sym e)
+
 done-zero : (n : ℕ) → answerOf n ≡ Done → n ≡ 0
 done-zero n e = sym (number-is n) ∙ ap answerNumber e
 

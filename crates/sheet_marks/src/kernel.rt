@@ -5,7 +5,7 @@ ghost use Prim.Native.Nat.{_+_, _*_, _≤_, _<_};
 ghost use lib.ListN.{length};
 ghost use Rattle.ask.specs.Ask.{firstNo};
 ghost use Rattle.sheet_marks.specs.OpenCount.{areSheetCounts, cellsPerTriplet, openQuestions, isZeroAt, zerosFrom};
-ghost use Rattle.sheet_marks.specs.Tallies.{refusedWith};
+ghost use Rattle.sheet_marks.specs.Tallies.{refusedWith, sheetAnswer};
 use crate::Counts;
 use crate::SheetAnswer;
 use crate::Tally;
@@ -21,6 +21,20 @@ pub fn refused(number: u64, tally: Tally) -> SheetAnswer
 {
     SheetAnswer {
         answer: Answer::Refused(number),
+        tally,
+    }
+}
+
+// The answer of a call by its number and the tally after it.
+pub fn answer_of(no: u64, runs: u64) -> SheetAnswer
+    ensures { λ r. ⌜ r ≡ sheetAnswer no runs ⌝ }
+{
+    let tally = Tally { runs };
+    if no != 0 {
+        return refused(no, tally);
+    }
+    SheetAnswer {
+        answer: Answer::Done,
         tally,
     }
 }

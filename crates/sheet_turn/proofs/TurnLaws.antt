@@ -2,7 +2,7 @@
 -- nothing.
 use mathlib.Core.Path.{_≡_, refl, sym, ap, _∙_}
 use mathlib.Core.List.{List, _++_}
-use Prim.Native.Nat.{ℕ, _+_, _*_, _≤_, _<_}
+use Prim.Native.Nat.{ℕ, _+_, _*_, _<_}
 use native.Mathlib.Omega.{arith}
 use lib.Dec.{eqb}
 use lib.Ieee.{Float}
@@ -16,21 +16,21 @@ use Rattle.triplet_study.specs.Study.{Study, sizesOf}
 use Rattle.triplet_study.specs.Tested.{Counted, Ready}
 use Rattle.triplet_piece.specs.Weights.{computedWeights, computedFlags, AreComputed}
 use Rattle.sheet_marks.specs.Tallies.{tallyQuestions}
-use Rattle.marks.specs.Bytes.{patchMarks, placesIn, Few, Holds}
-use Rattle.marks.specs.Marks.{isOpenAt, openPieces, carriedMarks, averagedMarks}
+use Rattle.marks.specs.Bytes.{patchMarks, placesIn, Holds}
+use Rattle.marks.specs.Marks.{isOpenAt, openPieces, carriedMarks}
 use Rattle.marks.proofs.BytesLaws.{place-in}
-use Rattle.sheet_step.specs.Steps.{Sheet, sheet, Call, run, carry, average, pieceQuestions, averageQuestions, pieceOf, tripletAveraged, tripletFlagsAveraged, piecesOf, verdict, effect, Called}
-use Rattle.sheet_step.proofs.CountLaws.{marks-place, pieces-few}
-use Rattle.sheet_step.proofs.StepLaws.{verdict-own, counts-yes, lengths-yes, ready-yes, run-yes, average-named, refused-sheet, done-sheet}
+use Rattle.sheet_step.specs.Steps.{Sheet, sheet, Call, run, carry, pieceQuestions, pieceOf, piecesOf, verdict, effect, Called}
+use Rattle.sheet_step.proofs.CountLaws.{pieces-few}
+use Rattle.sheet_step.proofs.StepLaws.{verdict-own, counts-yes, lengths-yes, ready-yes, run-yes, refused-sheet, done-sheet}
 use Rattle.sheet_turn.specs.Turns.{commonNo}
 
 -- ---- one call, refused or done
 
 module _ (g : Study) (s : Sheet) (c : Call) where
-  called-no : (n : ℕ) → verdict g s c ≡ n → (n ≡ 0 → ⊥) → Called g s c n s
+  pub called-no : (n : ℕ) → verdict g s c ≡ n → (n ≡ 0 → ⊥) → Called g s c n s
   called-no n e h = record { says = sym e; leaves = refused-sheet g s c n e h }
 
-  called-yes : (runs : ℕ) (w : List Float) (f : List ℤ) (m : List ℕ) → verdict g s c ≡ 0 → runs ≡ effect g s c .tally
+  pub called-yes : (runs : ℕ) (w : List Float) (f : List ℤ) (m : List ℕ) → verdict g s c ≡ 0 → runs ≡ effect g s c .tally
       → w ≡ effect g s c .weights → f ≡ effect g s c .flags → m ≡ effect g s c .marks → Called g s c 0 (sheet w f m runs)
   called-yes runs w f m e er ew ef em = record { says = sym e; leaves = (λ i. sheet (ew i) (ef i) (em i) (er i)) ∙ done-sheet g s c e }
 
@@ -45,36 +45,6 @@ module _ (g : Study) (s : Sheet) {z : Sizes} (y : commonNo g s ≡ 0) (ez : z �
 
   pub ready-made : Ready g z (length (s .weights)) (length (s .flags))
   ready-made = rw ez (ready-yes g s carry y)
-
-  -- ---- an averaging
-
-  module _ (t : ℤ) (ids1 ids2 : List ℤ) where
-    own-average : firstNo (averageQuestions z (s .weights) (s .marks) t ids1 ids2) ≡ verdict g s (average t ids1 ids2)
-    own-average = ap (λ (x : Sizes). firstNo (averageQuestions x (s .weights) (s .marks) t ids1 ids2)) ez ∙ sym (verdict-own g s (average t ids1 ids2) y)
-
-    pub average-first-no : {n : ℕ} → n ≡ firstNo (averageQuestions z (s .weights) (s .marks) t ids1 ids2) → (n ≡ 0 → ⊥)
-        → Called g s (average t ids1 ids2) n s
-    average-first-no {n} e h = called-no g s (average t ids1 ids2) n (sym (e ∙ own-average)) h
-
-    module _ (e : firstNo (averageQuestions z (s .weights) (s .marks) t ids1 ids2) ≡ 0) (nt : ℕ) (et : nt ≡ mag t) where
-      -- what the averages of weights and of flags require
-      pub average-on : (Counted z × ((nt < z .triplets) × (z .bands1 ≡ z .bands2))) × ((length ids1 ≡ z .bands1) × (length ids2 ≡ z .bands1))
-      average-on =
-          let n : _ = average-named z (s .weights) (s .marks) t ids1 ids2 e in
-          ((counted-yes, (rw et (n .0), n .1 .0)), n .1 .1)
-
-      pub average-place : Few (s .marks) × (nt * z .pairs + z .pairs ≤ placesIn (s .marks))
-      average-place = marks-place z counted-yes (s .marks) (long-yes .1 .1) nt (average-on .0 .1 .0)
-
-      pub average-done : {w : List Float} {f : List ℤ} {m : List ℕ} → w ≡ tripletAveraged z nt ids1 ids2 (s .weights)
-          → f ≡ tripletFlagsAveraged z nt ids1 ids2 (s .flags) → m ≡ averagedMarks (z .pairs) nt (s .marks)
-          → Called g s (average t ids1 ids2) 0 (sheet w f m (s .tally))
-      unfolding effect
-      average-done {w} {f} {m} ew ef em =
-          called-yes g s (average t ids1 ids2) (s .tally) w f m (sym own-average ∙ e) refl
-          (ew ∙ (λ i. tripletAveraged (ez i) (et i) ids1 ids2 (s .weights)))
-          (ef ∙ (λ i. tripletFlagsAveraged (ez i) (et i) ids1 ids2 (s .flags)))
-          (em ∙ (λ i. averagedMarks (ez i .pairs) (et i) (s .marks)))
 
   -- ---- a named piece
 

@@ -6,10 +6,9 @@ use native.Mathlib.Omega.{arith}
 use Rattle.sheet_fill.proofs.PieceLaws.{kept-none}
 use Rattle.sheet_step.proofs.StepLaws.{common-refused, study-yes}
 use Rattle.sheet_step.specs.Steps.{Sheet, sheet, carry}
-use Rattle.sheet_turn.proofs.EntryLaws.{called-shaped, prepared, shaped-yes}
+use Rattle.sheet_turn.proofs.EntryLaws.{called-shaped, did, prepared, shaped-yes}
 use Rattle.sheet_turn.proofs.TurnLaws.{ready-made}
 use Rattle.sheet_turn.specs.Turns.{commonNo}
-use Rattle.sheet.proofs.AnswerLaws.{did}
 use Rattle.triplet_corners.proofs.CornerLaws.{second-length, second-lent}
 use Rattle.triplet_corners.specs.Corners.{secondSteps}
 use Rattle.triplet_iw.proofs.TripletLaws.{steps-few}

@@ -12,10 +12,9 @@ use Rattle.sheet_marks.proofs.TallyLaws.{refused-is}
 use Rattle.sheet_marks.specs.Tallies.{tallyQuestions}
 use Rattle.sheet_step.proofs.StepLaws.{common-refused, study-yes}
 use Rattle.sheet_step.specs.Steps.{Sheet, sheet, run, pieceQuestions}
-use Rattle.sheet_turn.proofs.EntryLaws.{called-shaped, prepared, shaped-yes}
+use Rattle.sheet_turn.proofs.EntryLaws.{called-shaped, did, prepared, shaped-yes}
 use Rattle.sheet_turn.proofs.TurnLaws.{counted-yes, long-yes, ready-made, run-no}
 use Rattle.sheet_turn.specs.Turns.{commonNo}
-use Rattle.sheet.proofs.AnswerLaws.{did}
 use Rattle.triplet_corners.proofs.CornerLaws.{second-length, second-lent}
 use Rattle.triplet_corners.specs.Corners.{secondSteps}
 use Rattle.triplet_iw.proofs.TripletLaws.{steps-few}

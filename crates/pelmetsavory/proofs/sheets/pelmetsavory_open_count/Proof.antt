@@ -1,30 +1,17 @@
--- `pelmetsavory::sheets::pelmetsavory_open_count` meets its contract: the answer as status and count. Assumes nothing.
+-- `pelmetsavory::sheets::pelmetsavory_open_count` meets its contract: it hands on what its call ensures. Assumes nothing.
 use borrow.Author.Needs.{needs}
-use mathlib.Core.Path.{_∙_, ap, sym}
 use mir.Syntax.{w64}
 use mir.ValLaws.{toZ-ofZ}
-use Rattle.pelmetsavory.proofs.StatusLaws.{count-done, count-refused}
-use Rattle.sheet_marks.specs.OpenCount.{openCountAnswer}
 use Rattle.pelmetsavory.proofs.sheets.pelmetsavory_open_count.Statement.{statement}
 use Rattle.pelmetsavory.proofs.sheets.pelmetsavory_open_count.Tie as tie
 
 open-count-requires : tie.Need-open-count-requires
 open-count-requires c κs = search needs
 
-enum-known-zeros : tie.Need-enum-known-zeros
-enum-known-zeros c = search needs
-
-enum-known-number : tie.Need-enum-known-number
-enum-known-number c = search needs
-
 returns : tie.Need-returns
 returns c =
-    count-done _ _ _ _ (sym (c .before .zeros .given .1) ∙ (c .before .before .before .open-count .ensures ∙ ap (openCountAnswer (c .before .before .before .before .args .counts) (c .before .before .before .before .args .flags .now)) (toZ-ofZ w64 (c .before .before .before .before .args .triplet) (c .before .before .before .before .fits .triplet))))
-
-returns-2 : tie.Need-returns-2
-returns-2 c =
-    count-refused _ _ _ _ (sym (c .before .number .given .1) ∙ (c .before .before .before .open-count .ensures ∙ ap (openCountAnswer (c .before .before .before .before .args .counts) (c .before .before .before .before .args .flags .now)) (toZ-ofZ w64 (c .before .before .before .before .args .triplet) (c .before .before .before .before .fits .triplet))))
+    let s = c .before .before in
+    rw (toZ-ofZ w64 (s .args .triplet) (s .fits .triplet)) at (c .open-count .ensures)
 
 pub pelmetsavory-open-count-spec : {M : Type 1} → statement M
-pelmetsavory-open-count-spec =
-    tie.close (tie.spec open-count-requires enum-known-zeros enum-known-number returns returns-2)
+pelmetsavory-open-count-spec = tie.close (tie.spec open-count-requires returns)

@@ -1,6 +1,6 @@
 -- `sheet_list::along::play_all` meets its contract. Assumes nothing.
 use Rattle.sheet_list.proofs.ListLaws.{outcome-refused}
-use Rattle.sheet_list.specs.Play.{outcome}
+use Rattle.sheet_play.specs.Outcomes.{outcome}
 use Rattle.sheet_step.specs.Steps.{Sheet, sheet}
 use Rattle.triplet_study.specs.Study.{Study, study}
 use lib.ListN.{length, replicate}

@@ -4,7 +4,7 @@ use lib.ListN.{length, take}
 use mathlib.Core.Path.{_∙_, _≡_, ap, sym}
 use native.Mathlib.Omega.{arith}
 use Rattle.sheet_calls.specs.Calls.{callsOf}
-use Rattle.sheet_list.specs.Play.{outcomeOf}
+use Rattle.sheet_play.specs.Outcomes.{outcomeOf}
 use Rattle.sheet_step.proofs.StepLaws.{study-yes}
 use Rattle.sheet_step.specs.Steps.{Sheet, sheet, carry}
 use Rattle.sheet_turn.proofs.EntryLaws.{prepared, shaped-yes}

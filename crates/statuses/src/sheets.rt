@@ -1,0 +1,41 @@
+// The run sheet: the open count, the tally.
+ghost use mathlib.Core.Path.{_≡_};
+ghost use Prim.Native.Nat.{_*_, _+_};
+ghost use lib.ListN.{length};
+ghost use lib.Signed.{mag};
+ghost use Rattle.ask.specs.Ask.{firstNo, afterCall};
+ghost use Rattle.sheet_marks.specs.Tallies.{tallyQuestions};
+ghost use Rattle.sheet_marks.specs.OpenCount.{openQuestions, zerosFrom, cellsPerTriplet};
+use ask::kernel::number_of;
+use sheet_marks::Counts;
+use sheet_marks::OpenAnswer;
+use sheet_marks::Tally;
+
+// The open count of a triplet, behind `count`. Questions 9, 12, 14.
+pub fn open_count(counts: Counts, flags: &[i8], triplet: i64, count: &mut u64) -> u64
+    ensures { λ r. ⌜ r ≡ firstNo (openQuestions counts (length (now (flags .entry))) triplet) ⌝ }
+    ensures { λ r. ⌜ now (count .exit) ≡ afterCall (firstNo (openQuestions counts (length (now (flags .entry))) triplet))
+        (zerosFrom (now (flags .entry)) (mag triplet * cellsPerTriplet counts) (cellsPerTriplet counts)) (now (count .entry)) ⌝ }
+{
+    match sheet_marks::open_count(counts, flags, triplet) {
+        OpenAnswer::Open(zeros) => {
+            *count = zeros;
+            0
+        }
+        OpenAnswer::Refused(number) => number,
+    }
+}
+
+// Adds runs behind `tally`. Question 20.
+pub fn tally_add(tally: &mut u64, runs: u64) -> u64
+    ensures { λ r. ⌜ r ≡ firstNo (tallyQuestions (now (tally .entry)) runs) ⌝ }
+    ensures { λ r. ⌜ now (tally .exit) ≡ afterCall (firstNo (tallyQuestions (now (tally .entry)) runs)) (now (tally .entry) + runs) (now (tally .entry)) ⌝ }
+{
+    let before = *tally;
+    let counted = Tally { runs: before };
+    let added = counted.add(runs);
+    let sum = added.tally;
+    *tally = sum.runs;
+    let answer = added.answer;
+    number_of(answer)
+}
