@@ -1,5 +1,6 @@
 // All open pieces, in ascending order.
 ghost use mathlib.Core.Path.{_≡_};
+ghost use mathlib.Core.Bool.{true};
 ghost use Prim.Native.Nat.{_<_};
 ghost use lib.ListN.{length};
 ghost use Rattle.triplet_study.specs.Tested.{Ready};
@@ -7,7 +8,7 @@ ghost use Rattle.triplet_study.specs.Lent.{studyNow, studyIn};
 ghost use Rattle.triplet_corners.specs.Corners.{secondSteps};
 ghost use Rattle.triplet_piece.specs.Weights.{Computes};
 ghost use Rattle.marks.specs.Bytes.{Holds};
-ghost use Rattle.marks.specs.Marks.{isOpenAt, carriedMarks};
+ghost use Rattle.marks.specs.Marks.{isOpenMark, isOpenAt, carriedMarks};
 ghost use Rattle.sheet_step.specs.Steps.{piecesOf};
 ghost use Rattle.sheet_fill.specs.Kept.{Kept};
 ghost use Rattle.sheet_fill.specs.Piece.{isOpenPiece, closedPiece};
@@ -15,8 +16,8 @@ use crate::kernel::run;
 use marks::kernel as mark;
 use triplet_study::Sizes;
 
-// Piece `q`, if it is open: its entries are written, and its mark becomes 1. Gives the triplet whose corners are then kept.
-fn fill_if_open(
+// Piece `q`, which is open: its entries are written, and its mark becomes 1. Gives the triplet whose corners are then kept.
+fn fill_piece(
     frequencies: &mut [[f64; 384]; 2],
     channels: &mut [[f64; 384]; 3],
     places: &mut [[usize; 96]; 3],
@@ -37,15 +38,12 @@ fn fill_if_open(
     q: usize,
 ) -> usize
     requires { ⌜ Ready (studyNow (z .shape) addresses «gp_map» steps frequencies1 frequencies2 points triplets) z (length (now weights)) (length (now flags)) ⌝ }
-    requires { ⌜ (now second ≡ secondSteps (z .tp) (now steps)) × ((q < piecesOf z) × Holds (piecesOf z) (now marks)) ⌝ }
+    requires { ⌜ (now second ≡ secondSteps (z .tp) (now steps)) × ((q < piecesOf z) × (Holds (piecesOf z) (now marks) × (isOpenMark (now marks) q ≡ true))) ⌝ }
     requires { ⌜ Kept (studyNow (z .shape) addresses «gp_map» steps frequencies1 frequencies2 points triplets) (z .triplets) held (now frequencies) (now channels) (now places) (now numbers) ⌝ }
     ensures { λ r. ⌜ Kept (studyIn (z .shape) addresses «gp_map» steps frequencies1 frequencies2 points triplets) (z .triplets) r (now (frequencies .exit)) (now (channels .exit)) (now (places .exit)) (now (numbers .exit)) ⌝ }
     ensures { λ _. ⌜ Computes (studyIn (z .shape) addresses «gp_map» steps frequencies1 frequencies2 points triplets) (isOpenPiece (now (marks .entry)) q) weights flags ⌝ }
     ensures { λ _. ⌜ now (marks .exit) ≡ closedPiece (now (marks .entry)) q ⌝ }
 {
-    if mark::mark_at(marks, q) != mark::OPEN {
-        return held;
-    }
     let pairs = z.pairs;
     let bands2 = z.bands2;
     let t = q / pairs;
@@ -105,7 +103,10 @@ pub fn fill_open(
     let mut last = held;
     let pieces = z.triplets * z.pairs;
     for q in 0..pieces {
-        last = fill_if_open(
+        if mark::mark_at(marks, q) != mark::OPEN {
+            continue;
+        }
+        last = fill_piece(
             frequencies,
             channels,
             places,

@@ -1,14 +1,17 @@
 -- `sheet_fill::kernel::carry::fill_open` meets its contract. Assumes nothing.
 use borrow.Author.Needs.{needs}
+use borrow.Author.Tests.{eq-eqb, ne-eqb}
 use lib.ListN.{length}
+use mathlib.Core.Bool.{false, true}
 use mathlib.Core.List.{List}
-use mathlib.Core.Path.{_∙_, _≡_, ap}
+use mathlib.Core.Path.{_∙_, _≡_, ap, sym}
 use native.Mathlib.Omega.{arith}
 use Prim.Native.Nat.{ℕ, _+_, _-_, _≤_, zero-le}
-use Rattle.marks.proofs.BytesLaws.{held-few, holds-same}
+use Rattle.marks.proofs.BytesLaws.{held-few, holds-same, place-in}
 use Rattle.marks.proofs.MarkLaws.{length-carried}
-use Rattle.marks.specs.Marks.{isOpenAt, carriedMarks}
-use Rattle.sheet_fill.proofs.OpenLaws.{open-none, open-more, closed-none, closed-more}
+use Rattle.marks.specs.Bytes.{Holds}
+use Rattle.marks.specs.Marks.{isOpenMark, isOpenAt, carriedMarks}
+use Rattle.sheet_fill.proofs.OpenLaws.{open-none, open-more, shut-one, closed-none, closed-more, kept-one}
 use Rattle.sheet_fill.specs.Kept.{Kept}
 use Rattle.sheet_fill.specs.Piece.{isOpenPiece}
 use Rattle.sheet_step.specs.Steps.{piecesOf}
@@ -49,36 +52,69 @@ loop-holds c =
     let m = s .args .marks .now in
     (zero-le, closed-none m, computed-none (studied s) _ (open-none m) (s .args .weights .now) (s .args .flags .now), s .pre .1 .1)
 
-fill-if-open-requires : tie.Need-fill-if-open-requires Inv-loop μ-loop
-fill-if-open-requires c κs =
-    let s : _ = c .before .before .before .before .before .before .before .before .before .before .before .before .before .before .before in
-    let l = c .before .before .before .before .before .before .before .before .loop in
-    let v = l .inv in
-    let h = s .pre .1 .0 in
-    let long = computed-lengths (v .2) in (
-      rw (long .0, long .1) (s .pre .0),
-      (
-        (h .0, (omega (arith, c .before .before .before .before .before .before .before .loop-test .taken), holds-same (piecesOf (s .args .z)) (s .args .marks .now) (l .marks) (marks-long s (l .q) (l .marks) (v .1)) (h .1))),
-        v .3,
-      ),
-    )
+-- the marks of a turn are enough
+marks-hold : (s : tie.Start Inv-loop μ-loop) (q : ℕ) (m : List ℕ) → m ≡ carriedMarks q (s .args .marks .now) → Holds (piecesOf (s .args .z)) m
+marks-hold s q m e = holds-same (piecesOf (s .args .z)) (s .args .marks .now) m (marks-long s q m e) (s .pre .1 .0 .1)
+
+mark-at-requires : tie.Need-mark-at-requires Inv-loop μ-loop
+mark-at-requires c κs =
+    let s : _ = c .before .before .before .before .before .before .before .before .before in
+    let l = c .before .before .loop in
+    place-in (piecesOf (s .args .z)) (l .marks) (l .q) (marks-hold s (l .q) (l .marks) (l .inv .1)) (omega (arith, c .before .loop-test .taken))
 
 add-q : tie.Need-add-q Inv-loop μ-loop
 add-q c =
-    let s : _ = c .before .before .before .before .before .before .before .before .before .before .before .before .before .before .before .before .before .before .before .before .before in
-    omega (arith, c .before .before .before .before .before .before .before .before .before .before .before .before .before .loop-test .taken, held-few (piecesOf (s .args .z)) (s .args .marks .now) (s .pre .1 .0 .1))
+    let s : _ = c .before .before .before .before .before .before .before .before .before .before .before in
+    omega (arith, c .before .before .before .loop-test .taken, held-few (piecesOf (s .args .z)) (s .args .marks .now) (s .pre .1 .0 .1))
 
 loop-less : tie.Need-loop-less Inv-loop μ-loop
 loop-less c = search needs
 
 loop-again : tie.Need-loop-again Inv-loop μ-loop
+unfolding isOpenMark
 loop-again c =
-    let s : _ = c .before .before .before .before .before .before .before .before .before .before .before .before .before .before .before .before .before .before .before .before .before in
-    let l = c .before .before .before .before .before .before .before .before .before .before .before .before .before .before .loop in
+    let s : _ = c .before .before .before .before .before .before .before .before .before .before .before in
+    let l = c .before .before .before .before .loop in
     let v = l .inv in
     let m = s .args .marks .now in
-    let f = c .before .before .before .before .before .fill-if-open .ensures in (
-      omega (arith, c .before .before .before .before .before .before .before .before .before .before .before .before .before .loop-test .taken),
+    let o : isOpenMark (l .marks) (l .q) ≡ false = ne-eqb _ 0 (λ e. c .if1 .taken (c .before .mark-at .ensures ∙ e)) in (
+      omega (arith, c .before .before .before .loop-test .taken),
+      kept-one (l .marks) (l .q) o ∙ closed-more m (l .marks) (l .q) (v .1),
+      computed-join (studied s) (isOpenAt (l .q) m) (isOpenPiece (l .marks) (l .q)) (isOpenAt (l .q + 1) m) (open-more m (l .marks) (l .q) (v .1)) (v .2) (computed-none (studied s) _ (shut-one (l .marks) (l .q) o) (l .weights) (l .flags)),
+      v .3,
+    )
+
+fill-piece-requires : tie.Need-fill-piece-requires Inv-loop μ-loop
+unfolding isOpenMark
+fill-piece-requires c κs =
+    let s : _ = c .before .before .before .before .before .before .before .before .before .before .before .before .before .before .before .before .before .before in
+    let l = c .before .before .before .before .before .before .before .before .before .before .before .loop in
+    let v = l .inv in
+    let long = computed-lengths (v .2) in
+    let o : isOpenMark (l .marks) (l .q) ≡ true = eq-eqb _ 0 (sym (c .before .before .before .before .before .before .before .before .mark-at .ensures) ∙ c .before .before .before .before .before .before .before .if1 .left) in (
+      rw (long .0, long .1) (s .pre .0),
+      (
+        (s .pre .1 .0 .0, (omega (arith, c .before .before .before .before .before .before .before .before .before .before .loop-test .taken), (marks-hold s (l .q) (l .marks) (v .1), o))),
+        v .3,
+      ),
+    )
+
+add-q-2 : tie.Need-add-q-2 Inv-loop μ-loop
+add-q-2 c =
+    let s : _ = c .before .before .before .before .before .before .before .before .before .before .before .before .before .before .before .before .before .before .before .before .before .before .before .before in
+    omega (arith, c .before .before .before .before .before .before .before .before .before .before .before .before .before .before .before .before .loop-test .taken, held-few (piecesOf (s .args .z)) (s .args .marks .now) (s .pre .1 .0 .1))
+
+loop-less-2 : tie.Need-loop-less-2 Inv-loop μ-loop
+loop-less-2 c = search needs
+
+loop-again-2 : tie.Need-loop-again-2 Inv-loop μ-loop
+loop-again-2 c =
+    let s : _ = c .before .before .before .before .before .before .before .before .before .before .before .before .before .before .before .before .before .before .before .before .before .before .before .before in
+    let l = c .before .before .before .before .before .before .before .before .before .before .before .before .before .before .before .before .before .loop in
+    let v = l .inv in
+    let m = s .args .marks .now in
+    let f = c .before .before .before .before .before .fill-piece .ensures in (
+      omega (arith, c .before .before .before .before .before .before .before .before .before .before .before .before .before .before .before .before .loop-test .taken),
       f .1 .1 ∙ closed-more m (l .marks) (l .q) (v .1),
       computed-join (studied s) (isOpenAt (l .q) m) (isOpenPiece (l .marks) (l .q)) (isOpenAt (l .q + 1) m) (open-more m (l .marks) (l .q) (v .1)) (v .2) (f .1 .0),
       f .0,
@@ -108,10 +144,14 @@ fill-open-spec =
     μ-loop
     mul-pieces
     loop-holds
-    fill-if-open-requires
+    mark-at-requires
     add-q
     loop-less
     loop-again
+    fill-piece-requires
+    add-q-2
+    loop-less-2
+    loop-again-2
     same-length
     same-length-2
     same-length-3
