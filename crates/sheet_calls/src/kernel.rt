@@ -73,7 +73,7 @@ pub fn one_turn(
         );
     }
     if numbers::kernel::is_nat(kind, 1) {
-        return kernel::carry_asked(
+        return sheet_carry::kernel::carry_asked(
             frequencies,
             channels,
             places,

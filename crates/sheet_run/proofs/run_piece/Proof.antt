@@ -1,4 +1,4 @@
--- `sheet::run_piece` meets its contract. Assumes nothing.
+-- `sheet_run::run_piece` meets its contract. Assumes nothing.
 use borrow.Author.Needs.{needs}
 use lib.ListN.{length, take}
 use mathlib.Core.List.{_++_}
@@ -21,8 +21,8 @@ use Rattle.triplet_iw.proofs.TripletLaws.{steps-few}
 use Rattle.triplet_study.proofs.StudyLaws.{few-counts, tested}
 use Rattle.triplet_study.specs.Study.{Study, study}
 use Rattle.triplet_study.specs.Tested.{Ready}
-use Rattle.sheet.proofs.run_piece.Statement.{statement}
-use Rattle.sheet.proofs.run_piece.Tie as tie
+use Rattle.sheet_run.proofs.run_piece.Statement.{statement}
+use Rattle.sheet_run.proofs.run_piece.Tie as tie
 
 -- what the call takes
 abbrev asked : tie.Start → Study

@@ -1,4 +1,4 @@
--- `sheet::carry_on` meets its contract. Assumes nothing.
+-- `sheet_carry::carry_on` meets its contract. Assumes nothing.
 use borrow.Author.Needs.{needs}
 use lib.ListN.{length, take}
 use mathlib.Core.Path.{_∙_, _≡_, ap, sym}
@@ -15,8 +15,8 @@ use Rattle.triplet_iw.proofs.TripletLaws.{steps-few}
 use Rattle.triplet_study.proofs.StudyLaws.{few-counts, tested}
 use Rattle.triplet_study.specs.Study.{Study, study}
 use Rattle.triplet_study.specs.Tested.{Ready}
-use Rattle.sheet.proofs.carry_on.Statement.{statement}
-use Rattle.sheet.proofs.carry_on.Tie as tie
+use Rattle.sheet_carry.proofs.carry_on.Statement.{statement}
+use Rattle.sheet_carry.proofs.carry_on.Tie as tie
 
 -- what the call takes
 abbrev asked : tie.Start → Study

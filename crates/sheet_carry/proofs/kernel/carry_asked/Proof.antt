@@ -1,4 +1,4 @@
--- `sheet_turn::kernel::carry_asked` meets its contract. Assumes nothing.
+-- `sheet_carry::kernel::carry_asked` meets its contract. Assumes nothing.
 use borrow.Author.Needs.{needs}
 use mathlib.Core.Path.{_∙_, _≡_, ap, sym}
 use native.Mathlib.Omega.{arith}
@@ -6,10 +6,11 @@ use Rattle.marks.proofs.BytesLaws.{held-few}
 use Rattle.sheet_marks.specs.Tallies.{addedTo}
 use Rattle.sheet_step.proofs.StepLaws.{added-no, added-runs}
 use Rattle.sheet_step.specs.Steps.{Sheet, sheet, piecesOf}
-use Rattle.sheet_turn.proofs.TurnLaws.{carry-done, carry-full, long-yes, opens, ready-made}
+use Rattle.sheet_turn.proofs.TurnLaws.{long-yes, ready-made}
+use Rattle.sheet_carry.proofs.CarryLaws.{carry-done, carry-full, opens}
 use Rattle.triplet_study.specs.Study.{Study, study}
-use Rattle.sheet_turn.proofs.kernel.carry_asked.Statement.{statement}
-use Rattle.sheet_turn.proofs.kernel.carry_asked.Tie as tie
+use Rattle.sheet_carry.proofs.kernel.carry_asked.Statement.{statement}
+use Rattle.sheet_carry.proofs.kernel.carry_asked.Tie as tie
 
 -- what the call takes
 abbrev asked : tie.Start → Study

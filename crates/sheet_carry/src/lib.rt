@@ -1,0 +1,83 @@
+// The carry-on of the run sheet: all its open pieces.
+ghost use Rattle.triplet_study.specs.Lent.{studyIn};
+ghost use Rattle.sheet_step.specs.Lent.{sheetIn, sheetOut};
+ghost use Rattle.sheet_step.specs.Steps.{carry, Did};
+pub use sheet_marks::SheetAnswer;
+pub use sheet_marks::Tally;
+use sheet_marks::kernel::answer_of;
+use sheet_marks::kernel::refused;
+pub use triplet_study::Shape;
+
+pub mod kernel;
+
+// Runs all pieces marked 0, in ascending order. Questions 3 to 13, 20 for all runs of the call.
+pub fn carry_on(
+    shape: Shape,
+    addresses: &[i64],
+    gp_map: &[i64],
+    relative_grid_address: &[i64],
+    frequencies1: &[f64],
+    frequencies2: &[f64],
+    frequency_points: &[f64],
+    triplets: &[i64],
+    weights: &mut [f64],
+    flags: &mut [i8],
+    marks: &mut [u8],
+    tally: Tally,
+) -> SheetAnswer
+    ensures { λ r. ⌜ Did (studyIn shape addresses «gp_map» «relative_grid_address» frequencies1 frequencies2 «frequency_points» triplets)
+        (sheetIn weights flags marks (tally .runs)) carry r (sheetOut weights flags marks (r .tally .runs)) ⌝ }
+{
+    let no = sheet_step::kernel::asks::common_first_no(
+        shape,
+        addresses,
+        gp_map,
+        relative_grid_address,
+        frequencies1,
+        frequencies2,
+        frequency_points,
+        triplets,
+        weights.len(),
+        flags.len(),
+        marks,
+    );
+    if no != 0 {
+        return refused(no, tally);
+    }
+    let z = triplet_study::kernel::sizes_of(
+        shape,
+        relative_grid_address.len() / 12,
+        frequency_points.len(),
+        triplets.len() / 3,
+    );
+    let runs = tally.runs;
+    let tp = z.tp;
+    let second = triplet_corners::kernel::second_steps(tp, relative_grid_address);
+    let m = relative_grid_address.len();
+    let none = z.triplets;
+    let mut frequencies = [[0.0; 384]; 2];
+    let mut channels = [[0.0; 384]; 3];
+    let mut places = [[0usize; 96]; 3];
+    let mut numbers = [[0usize; 384]; 2];
+    let turn = kernel::carry_asked(
+        &mut frequencies,
+        &mut channels,
+        &mut places,
+        &mut numbers,
+        weights,
+        flags,
+        marks,
+        z,
+        addresses,
+        gp_map,
+        relative_grid_address,
+        &second[..m],
+        frequencies1,
+        frequencies2,
+        frequency_points,
+        triplets,
+        runs,
+        none,
+    );
+    answer_of(turn.no, turn.runs)
+}
