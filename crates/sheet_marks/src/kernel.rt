@@ -29,13 +29,13 @@ pub fn refused(number: u64, tally: Tally) -> SheetAnswer
 pub fn answer_of(no: u64, runs: u64) -> SheetAnswer
     ensures { λ r. ⌜ r ≡ sheetAnswer no runs ⌝ }
 {
-    let tally = Tally { runs };
+    let left = Tally { runs };
     if no != 0 {
-        return refused(no, tally);
+        return refused(no, left);
     }
     SheetAnswer {
         answer: Answer::Done,
-        tally,
+        tally: left,
     }
 }
 
