@@ -41,7 +41,9 @@ yes-9 : (c : tie.Else2) → let args = c .before .before .before .before .before
 yes-9 c = yes-of (told-9 (c .before)) (c .if2 .left)
 
 few : (c : tie.Else2) → let args = c .before .before .before .before .before .args in (mag (args .num-band) ≤ 64) × (mag (args .num-band0) ≤ 1024)
-few c = counts-le (c .before .before .before .before .before .args .num-band0) (c .before .before .before .before .before .args .num-band) (yes-9 c)
+few c =
+    let args = c .before .before .before .before .before .args in
+    counts-le (args .num-band0) (args .num-band) (yes-9 c)
 
 bands-are : (c : tie.After-magnitude) → c .magnitude .result ≡ mag (c .before .before .before .before .before .before .args .num-band)
 bands-are c = c .magnitude .ensures ∙ ap mag (toZ-ofZ w64 (c .before .before .before .before .before .before .args .num-band) (c .before .before .before .before .before .before .fits .num-band))

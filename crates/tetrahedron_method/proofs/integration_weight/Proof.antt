@@ -36,7 +36,8 @@ returns-3 c =
 
 get-integration-weight-requires : tie.Need-get-integration-weight-requires
 get-integration-weight-requires c κs =
-    let h : (rows : ℕ) × ((rows ≤ 96) × (length (c .before .before .before .before .before .before .before .args .tetrahedra-omegas .now) ≡ rows * 4)) = rows-in 4 (length (c .before .before .before .before .before .before .before .args .tetrahedra-omegas .now)) (yes-of (c .before .before .before .before .before .vertices-ok .ensures) (c .before .before .before .before .if1 .left)) in (omega (arith, h .1 .0, h .1 .1), omega (arith, h .1 .1))
+    let args = c .before .before .before .before .before .before .before .args in
+    let h : (rows : ℕ) × ((rows ≤ 96) × (length (args .tetrahedra-omegas .now) ≡ rows * 4)) = rows-in 4 (length (args .tetrahedra-omegas .now)) (yes-of (c .before .before .before .before .before .vertices-ok .ensures) (c .before .before .before .before .if1 .left)) in (omega (arith, h .1 .0, h .1 .1), omega (arith, h .1 .1))
 
 returns-4 : tie.Need-returns-4
 unfolding firstNo

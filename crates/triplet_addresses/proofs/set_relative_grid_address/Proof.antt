@@ -24,7 +24,7 @@ copy-first-no-requires c κs = search needs
 returns : tie.Need-returns
 returns c =
     let s : _ = c .before .before in
-    let b : _ = toZ-ofZ w64 (c .before .before .args .tp-type) (c .before .before .fits .tp-type) in
+    let b : _ = toZ-ofZ w64 (s .args .tp-type) (s .fits .tp-type) in
     let n : c .before .copy-first-no .result ≡ firstNo (asked s) = rw b at (c .before .copy-first-no .ensures) in
     (refused-is _ _ (sym n) (c .if1 .taken), kept _ _ _ _ (sym n) (c .if1 .taken))
 
@@ -36,9 +36,10 @@ is-negated-requires c κs = search needs
 
 fill-copies-requires : tie.Need-fill-copies-requires
 fill-copies-requires c κs =
+    let copy-first-no = c .before .before .before .before .copy-first-no in
     let s : _ = c .before .before .before .before .before in
     let b : _ = toZ-ofZ w64 (s .args .tp-type) (s .fits .tp-type) in
-    let n : c .before .before .before .before .copy-first-no .result ≡ firstNo (asked s) = rw b at (c .before .before .before .before .copy-first-no .ensures) in
+    let n : copy-first-no .result ≡ firstNo (asked s) = rw b at (copy-first-no .ensures) in
     let y : AllYes (asked s) = all-yes (asked s) (omega arith, (omega arith, (omega arith, tt))) (sym n ∙ c .before .before .before .if1 .left) in
     (table-triples (s .args .relative-grid-address .now) (y .0), product-yes 2 (length (s .args .relative-grid-address .now)) (length (s .args .out .now)) (y .1 .1 .0))
 
@@ -47,9 +48,10 @@ same-length c = search needs
 
 returns-2 : tie.Need-returns-2
 returns-2 c =
+    let copy-first-no = c .before .before .before .before .before .before .copy-first-no in
     let s : _ = c .before .before .before .before .before .before .before in
     let b : _ = toZ-ofZ w64 (s .args .tp-type) (s .fits .tp-type) in
-    let n : c .before .before .before .before .before .before .copy-first-no .result ≡ firstNo (asked s) = rw b at (c .before .before .before .before .before .before .copy-first-no .ensures) in
+    let n : copy-first-no .result ≡ firstNo (asked s) = rw b at (copy-first-no .ensures) in
     let e : firstNo (asked s) ≡ 0 = sym n ∙ c .before .before .before .before .before .if1 .left in
     (done-is _ e, rw (c .before .before .is-negated .ensures, rw b at (c .before .before .before .before .tp-type-of .ensures)) at (c .before .fill-copies .ensures) ∙ after-done _ _ _ e)
 

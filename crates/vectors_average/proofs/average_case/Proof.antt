@@ -28,13 +28,17 @@ array-borrow-prefix-w : tie.Need-array-borrow-prefix-w
 array-borrow-prefix-w c = search needs
 
 slice-aggregate-call-agrees : tie.Need-slice-aggregate-call-agrees
-slice-aggregate-call-agrees c = sym (length-take-le (c .before .before .before .before .before .weights-part .result .room) (c .before .before .weights-buffer .result) (omega (arith, c .before .before .before .before .before .weights-part .ensures, c .before .before .weights-buffer .ensures)))
+slice-aggregate-call-agrees c =
+    let weights-part = c .before .before .before .before .before .weights-part in
+    sym (length-take-le (weights-part .result .room) (c .before .before .weights-buffer .result) (omega (arith, weights-part .ensures, c .before .before .weights-buffer .ensures)))
 
 array-borrow-prefix-z : tie.Need-array-borrow-prefix-z
 array-borrow-prefix-z c = search needs
 
 slice-aggregate-call-agrees-2 : tie.Need-slice-aggregate-call-agrees-2
-slice-aggregate-call-agrees-2 c = sym (length-take-le (c .before .before .before .before .before .flags-part .result .room) (c .before .before .flags-buffer .result) (omega (arith, c .before .before .before .before .before .flags-part .ensures, c .before .before .flags-buffer .ensures)))
+slice-aggregate-call-agrees-2 c =
+    let flags-part = c .before .before .before .before .before .flags-part in
+    sym (length-take-le (flags-part .result .room) (c .before .before .flags-buffer .result) (omega (arith, flags-part .ensures, c .before .before .flags-buffer .ensures)))
 
 call-agrees-requires : tie.Need-call-agrees-requires
 call-agrees-requires c κs = search needs

@@ -53,7 +53,9 @@ slice-aggregate-many-agrees : tie.Need-slice-aggregate-many-agrees
 slice-aggregate-many-agrees c = search needs
 
 array-share-prefix-points : tie.Need-array-share-prefix-points
-array-share-prefix-points c = omega (arith, c .before .before .before .before .before .before .before .before .before .before .before .before .before .before .before .fill-wholes .ensures .0 .0, c .before .before .before .before .before .before .before .before .before .before .before .before .before .before .before .fill-wholes .kept, c .before .before .before .before .before .before .before .before .before .before .before .before .before .before .before .before .before .numbers .ensures)
+array-share-prefix-points c =
+    let fill-wholes = c .before .before .before .before .before .before .before .before .before .before .before .before .before .before .before .fill-wholes in
+    omega (arith, fill-wholes .ensures .0 .0, fill-wholes .kept, c .before .before .before .before .before .before .before .before .before .before .before .before .before .before .before .before .before .numbers .ensures)
 
 slice-aggregate-many-agrees-2 : tie.Need-slice-aggregate-many-agrees-2
 slice-aggregate-many-agrees-2 c = c .before .before .before .before .before .before .before .before .before .before .before .before .before .before .before .before .fill-wholes .ensures .0 .1

@@ -10,7 +10,8 @@ weight-count-ok-requires c κs = search needs
 
 returns : tie.Need-returns
 returns c =
-    c .weight-count-ok .ensures ∙ rw ((back (c .before .before .before .before .args .shape .«tp_type») (c .before .before .before .struct-told .given .1 .1 .0 .1)), (back (c .before .before .before .before .args .shape .«num_band1») (c .before .before .struct-told2 .given .1 .1 .1 .0 .1)), (back (c .before .before .before .before .args .shape .«num_band2») (c .before .struct-told3 .given .1 .1 .1 .1 .0 .1)))
+    let args = c .before .before .before .before .args in
+    c .weight-count-ok .ensures ∙ rw ((back (args .shape .«tp_type») (c .before .before .before .struct-told .given .1 .1 .0 .1)), (back (args .shape .«num_band1») (c .before .before .struct-told2 .given .1 .1 .1 .0 .1)), (back (args .shape .«num_band2») (c .before .struct-told3 .given .1 .1 .1 .1 .0 .1)))
 
 pub few-weights-spec : {M : Type 1} → statement M
 few-weights-spec = tie.close (tie.spec weight-count-ok-requires returns)

@@ -18,7 +18,8 @@ slice-aggregate-copy-table c = search needs
 
 copy-table-requires : tie.Need-copy-table-requires
 copy-table-requires c κs =
-    (omega (arith, c .before .magnitude .ensures, ap mag (back (c .before .before .before .args .head .diag) (c .before .before .struct-told .given .1 .1 .1 .1 .0 .1)), diagonal-lt (c .before .before .before .args .head .diag) (c .before .before .before .pre)), refl)
+    let args = c .before .before .before .args in
+    (omega (arith, c .before .magnitude .ensures, ap mag (back (args .head .diag) (c .before .before .struct-told .given .1 .1 .1 .1 .0 .1)), diagonal-lt (args .head .diag) (c .before .before .before .pre)), refl)
 
 returns : tie.Need-returns
 returns c =

@@ -53,7 +53,8 @@ loop-less c =
 
 loop-again : tie.Need-loop-again Inv-loop μ-loop
 loop-again c =
-    (length-set (c .before .before .before .loop .out) (c .before .before .before .loop .k) _ ∙ c .before .before .before .loop .inv .0, omega arith, fill-next (λ k. ofBits binary64 (getD (c .before .before .before .before .before .before .args .patterns .now) k 0)) (c .before .before .before .loop .out) (c .before .before .before .loop .k) _ (omega arith) (c .before .before .before .loop .inv .2) (c .float-of .ensures))
+    let loop = c .before .before .before .loop in
+    (length-set (loop .out) (loop .k) _ ∙ loop .inv .0, omega arith, fill-next (λ k. ofBits binary64 (getD (c .before .before .before .before .before .before .args .patterns .now) k 0)) (loop .out) (loop .k) _ (omega arith) (loop .inv .2) (c .float-of .ensures))
 
 same-length : tie.Need-same-length Inv-loop μ-loop
 same-length c =
@@ -62,7 +63,8 @@ same-length c =
 returns : tie.Need-returns Inv-loop μ-loop
 unfolding floatsOf
 returns c =
-    let e : c .before .loop .k ≡ length (c .before .before .before .before .args .patterns .now) = omega arith in ap (λ (n : ℕ). take n (c .before .loop .out)) (sym e) ∙ (c .before .loop .inv .2 ∙ ap (λ (n : ℕ). tabulate n (λ k. ofBits binary64 (getD (c .before .before .before .before .args .patterns .now) k 0))) e)
+    let args = c .before .before .before .before .args in
+    let e : c .before .loop .k ≡ length (args .patterns .now) = omega arith in ap (λ (n : ℕ). take n (c .before .loop .out)) (sym e) ∙ (c .before .loop .inv .2 ∙ ap (λ (n : ℕ). tabulate n (λ k. ofBits binary64 (getD (args .patterns .now) k 0))) e)
 
 pub fill-floats-spec : {M : Type 1} → statement M
 fill-floats-spec =

@@ -41,21 +41,24 @@ array-share-prefix-frequencies1 c = search needs
 
 slice-aggregate-put-answer : tie.Need-slice-aggregate-put-answer
 slice-aggregate-put-answer c =
-    let s : _ = c .before .before .before .before .before .before .before .before .before .before .before .before .before .before .before .before .before in sym (length-take-le (length (s .args .f1 .now)) (c .before .before .before .before .before .before .before .before .before .fill-floats .last .1 .0) (omega (arith, s .pre .1 .0, c .before .before .before .before .before .before .before .before .before .fill-floats .kept)))
+    let fill-floats = c .before .before .before .before .before .before .before .before .before .fill-floats in
+    let s : _ = c .before .before .before .before .before .before .before .before .before .before .before .before .before .before .before .before .before in sym (length-take-le (length (s .args .f1 .now)) (fill-floats .last .1 .0) (omega (arith, s .pre .1 .0, fill-floats .kept)))
 
 array-share-prefix-frequencies2 : tie.Need-array-share-prefix-frequencies2
 array-share-prefix-frequencies2 c = search needs
 
 slice-aggregate-put-answer-2 : tie.Need-slice-aggregate-put-answer-2
 slice-aggregate-put-answer-2 c =
-    let s : _ = c .before .before .before .before .before .before .before .before .before .before .before .before .before .before .before .before .before .before in sym (length-take-le (length (s .args .f2 .now)) (c .before .before .before .before .before .before .before .fill-floats2 .last .1 .0) (omega (arith, s .pre .1 .1 .0, c .before .before .before .before .before .before .before .fill-floats2 .kept)))
+    let fill-floats2 = c .before .before .before .before .before .before .before .fill-floats2 in
+    let s : _ = c .before .before .before .before .before .before .before .before .before .before .before .before .before .before .before .before .before .before in sym (length-take-le (length (s .args .f2 .now)) (fill-floats2 .last .1 .0) (omega (arith, s .pre .1 .1 .0, fill-floats2 .kept)))
 
 array-share-prefix-frequency-points : tie.Need-array-share-prefix-frequency-points
 array-share-prefix-frequency-points c = search needs
 
 slice-aggregate-put-answer-3 : tie.Need-slice-aggregate-put-answer-3
 slice-aggregate-put-answer-3 c =
-    let s : _ = c .before .before .before .before .before .before .before .before .before .before .before .before .before .before .before .before .before .before .before in sym (length-take-le (length (s .args .points .now)) (c .before .before .before .before .before .fill-floats3 .last .1 .0) (omega (arith, s .pre .1 .1 .1 .0, c .before .before .before .before .before .fill-floats3 .kept)))
+    let fill-floats3 = c .before .before .before .before .before .fill-floats3 in
+    let s : _ = c .before .before .before .before .before .before .before .before .before .before .before .before .before .before .before .before .before .before .before in sym (length-take-le (length (s .args .points .now)) (fill-floats3 .last .1 .0) (omega (arith, s .pre .1 .1 .1 .0, fill-floats3 .kept)))
 
 put-answer-requires : tie.Need-put-answer-requires
 put-answer-requires c κs =

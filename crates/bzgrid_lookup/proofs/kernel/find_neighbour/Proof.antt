@@ -12,14 +12,17 @@ enum-told c = search needs
 
 sparse-neighbour-requires : tie.Need-sparse-neighbour-requires
 sparse-neighbour-requires c κs =
-    (c .before .before .before .pre .mesh, sparse-length (countOf (c .before .before .before .args .grid .mesh)) (triplesIn (c .before .before .before .args .addresses .now)) (c .before .before .before .args .gp-map .now) (rw (c .enum-told .given .1) at (c .before .before .before .pre .mapped)))
+    let pre = c .before .before .before .pre in
+    let args = c .before .before .before .args in
+    (pre .mesh, sparse-length (countOf (args .grid .mesh)) (triplesIn (args .addresses .now)) (args .gp-map .now) (rw (c .enum-told .given .1) at (pre .mapped)))
 
 enum-told-2 : tie.Need-enum-told-2
 enum-told-2 c = search needs
 
 dense-neighbour-requires : tie.Need-dense-neighbour-requires
 dense-neighbour-requires c κs =
-    (c .before .before .before .pre .mesh, rw (c .enum-told2 .given .1) at (c .before .before .before .pre .mapped))
+    let pre = c .before .before .before .pre in
+    (pre .mesh, rw (c .enum-told2 .given .1) at (pre .mapped))
 
 returns : tie.Need-returns
 unfolding neighbourOf

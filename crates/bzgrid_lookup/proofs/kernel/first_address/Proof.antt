@@ -34,7 +34,8 @@ loop-less c =
 
 loop-again : tie.Need-loop-again Inv-loop μ-loop
 loop-again c =
-    c .before .before .before .loop .inv ∙ first-miss _ (c .before .before .before .loop .k) (c .before .before .before .before .args .hi) _ (omega arith) (sym (c .before .same-address .ensures) ∙ c .if2 .left)
+    let loop = c .before .before .before .loop in
+    loop .inv ∙ first-miss _ (loop .k) (c .before .before .before .before .args .hi) _ (omega arith) (sym (c .before .same-address .ensures) ∙ c .if2 .left)
 
 returns : tie.Need-returns Inv-loop μ-loop
 returns c =
@@ -42,7 +43,9 @@ returns c =
 
 returns-2 : tie.Need-returns-2 Inv-loop μ-loop
 returns-2 c =
-    sym (c .before .before .before .loop .inv ∙ first-hit _ (c .before .before .before .loop .k) (c .before .before .before .before .args .hi) (c .before .before .before .before .args .lo) (omega arith) (sym (c .before .same-address .ensures) ∙ c .if2 .taken))
+    let args = c .before .before .before .before .args in
+    let loop = c .before .before .before .loop in
+    sym (loop .inv ∙ first-hit _ (loop .k) (args .hi) (args .lo) (omega arith) (sym (c .before .same-address .ensures) ∙ c .if2 .taken))
 
 pub first-address-spec : {M : Type 1} → statement M
 first-address-spec =

@@ -32,7 +32,8 @@ equal-at-requires-3 c κs = search needs
 returns : tie.Need-returns
 unfolding isAddress
 returns c =
-    cc (back (c .before .before .before .before .before .before .args .w .x) (c .before .before .before .before .before .struct-told .given .0 .1), back (c .before .before .before .before .before .before .args .w .y) (c .before .before .before .struct-told2 .given .1 .0 .1), back (c .before .before .before .before .before .before .args .w .z) (c .before .struct-told3 .given .1 .1 .0 .1))
+    let args = c .before .before .before .before .before .before .args in
+    cc (back (args .w .x) (c .before .before .before .before .before .struct-told .given .0 .1), back (args .w .y) (c .before .before .before .struct-told2 .given .1 .0 .1), back (args .w .z) (c .before .struct-told3 .given .1 .1 .0 .1))
 
 pub same-address-spec : {M : Type 1} → statement M
 same-address-spec =

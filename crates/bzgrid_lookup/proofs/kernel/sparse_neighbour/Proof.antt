@@ -25,7 +25,8 @@ grid-index-requires c κs =
 
 magnitude-at-requires : tie.Need-magnitude-at-requires
 magnitude-at-requires c κs =
-    omega (arith, c .grid-index .ensures, doubled-below (c .before .before .before .before .pre .0) (c .before .before .before .before .args .w), c .before .before .before .before .pre .1)
+    let pre = c .before .before .before .before .pre in
+    omega (arith, c .grid-index .ensures, doubled-below (pre .0) (c .before .before .before .before .args .w), pre .1)
 
 mesh-count-requires : tie.Need-mesh-count-requires
 mesh-count-requires c κs =

@@ -28,7 +28,8 @@ is-within-requires-3 c κs = search needs
 returns : tie.Need-returns
 unfolding isVector
 returns c =
-    cc (back (getD (c .before .before .before .before .before .before .args .t1) 0 (pos 0)) (c .before .before .before .before .before .is-within-arg .given), back (getD (c .before .before .before .before .before .before .args .t1) 1 (pos 0)) (c .before .before .before .is-within-arg2 .given), back (getD (c .before .before .before .before .before .before .args .t1) 2 (pos 0)) (c .before .is-within-arg3 .given))
+    let args = c .before .before .before .before .before .before .args in
+    cc (back (getD (args .t1) 0 (pos 0)) (c .before .before .before .before .before .is-within-arg .given), back (getD (args .t1) 1 (pos 0)) (c .before .before .before .is-within-arg2 .given), back (getD (args .t1) 2 (pos 0)) (c .before .is-within-arg3 .given))
 
 pub vector-ok-spec : {M : Type 1} → statement M
 vector-ok-spec =

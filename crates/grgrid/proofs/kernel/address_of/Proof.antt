@@ -19,7 +19,8 @@ array-copy-out-t11 c = search needs
 returns : tie.Need-returns
 unfolding addressOf
 returns c =
-    rw (back (getD (c .before .before .before .args .t1) 0 (pos 0)) (c .before .before .t5 .given), back (getD (c .before .before .before .args .t1) 1 (pos 0)) (c .before .t8 .given), back (getD (c .before .before .before .args .t1) 2 (pos 0)) (c .t11 .given))
+    let args = c .before .before .before .args in
+    rw (back (getD (args .t1) 0 (pos 0)) (c .before .before .t5 .given), back (getD (args .t1) 1 (pos 0)) (c .before .t8 .given), back (getD (args .t1) 2 (pos 0)) (c .t11 .given))
 
 pub address-of-spec : {M : Type 1} → statement M
 address-of-spec =

@@ -55,19 +55,23 @@ sorted-weight-requires c κs =
 
 mul-iw : tie.Need-mul-iw Inv-loop μ-loop
 mul-iw c =
-    let s : _ = c .before .before .before .before .before .before .before .before .before .before .before .before .before in let room : c .before .before .before .before .before .loop .x * s .args .bands + s .args .band < length (c .before .before .before .before .before .loop .iw) = omega (arith, c .before .before .before .before .before .loop .inv .1 .same-length, s .pre .1 .1 .1, digit-lt (c .before .before .before .before .before .loop .x) (length (s .args .points .now)) (s .args .band) (s .args .bands) (c .before .before .before .before .loop-test .taken) (s .pre .1 .0)) in omega arith
+    let loop = c .before .before .before .before .before .loop in
+    let s : _ = c .before .before .before .before .before .before .before .before .before .before .before .before .before in let room : loop .x * s .args .bands + s .args .band < length (loop .iw) = omega (arith, loop .inv .1 .same-length, s .pre .1 .1 .1, digit-lt (loop .x) (length (s .args .points .now)) (s .args .band) (s .args .bands) (c .before .before .before .before .loop-test .taken) (s .pre .1 .0)) in omega arith
 
 add-iw : tie.Need-add-iw Inv-loop μ-loop
 add-iw c =
-    let s : _ = c .before .before .before .before .before .before .before .before .before .before .before .before .before in let room : c .before .before .before .before .before .loop .x * s .args .bands + s .args .band < length (c .before .before .before .before .before .loop .iw) = omega (arith, c .before .before .before .before .before .loop .inv .1 .same-length, s .pre .1 .1 .1, digit-lt (c .before .before .before .before .before .loop .x) (length (s .args .points .now)) (s .args .band) (s .args .bands) (c .before .before .before .before .loop-test .taken) (s .pre .1 .0)) in omega arith
+    let loop = c .before .before .before .before .before .loop in
+    let s : _ = c .before .before .before .before .before .before .before .before .before .before .before .before .before in let room : loop .x * s .args .bands + s .args .band < length (loop .iw) = omega (arith, loop .inv .1 .same-length, s .pre .1 .1 .1, digit-lt (loop .x) (length (s .args .points .now)) (s .args .band) (s .args .bands) (c .before .before .before .before .loop-test .taken) (s .pre .1 .0)) in omega arith
 
 mul-iw-2 : tie.Need-mul-iw-2 Inv-loop μ-loop
 mul-iw-2 c =
-    let s : _ = c .before .before .before .before .before .before .before .before .before .before .before .before .before in let room : c .before .before .before .before .before .loop .x * s .args .bands + s .args .band < length (c .before .before .before .before .before .loop .iw) = omega (arith, c .before .before .before .before .before .loop .inv .1 .same-length, s .pre .1 .1 .1, digit-lt (c .before .before .before .before .before .loop .x) (length (s .args .points .now)) (s .args .band) (s .args .bands) (c .before .before .before .before .loop-test .taken) (s .pre .1 .0)) in omega arith
+    let loop = c .before .before .before .before .before .loop in
+    let s : _ = c .before .before .before .before .before .before .before .before .before .before .before .before .before in let room : loop .x * s .args .bands + s .args .band < length (loop .iw) = omega (arith, loop .inv .1 .same-length, s .pre .1 .1 .1, digit-lt (loop .x) (length (s .args .points .now)) (s .args .band) (s .args .bands) (c .before .before .before .before .loop-test .taken) (s .pre .1 .0)) in omega arith
 
 slice-write-iw : tie.Need-slice-write-iw Inv-loop μ-loop
 slice-write-iw c =
-    let s : _ = c .before .before .before .before .before .before .before .before .before .before .before .before .before in let room : c .before .before .before .before .before .loop .x * s .args .bands + s .args .band < length (c .before .before .before .before .before .loop .iw) = omega (arith, c .before .before .before .before .before .loop .inv .1 .same-length, s .pre .1 .1 .1, digit-lt (c .before .before .before .before .before .loop .x) (length (s .args .points .now)) (s .args .band) (s .args .bands) (c .before .before .before .before .loop-test .taken) (s .pre .1 .0)) in omega arith
+    let loop = c .before .before .before .before .before .loop in
+    let s : _ = c .before .before .before .before .before .before .before .before .before .before .before .before .before in let room : loop .x * s .args .bands + s .args .band < length (loop .iw) = omega (arith, loop .inv .1 .same-length, s .pre .1 .1 .1, digit-lt (loop .x) (length (s .args .points .now)) (s .args .band) (s .args .bands) (c .before .before .before .before .loop-test .taken) (s .pre .1 .0)) in omega arith
 
 add-x : tie.Need-add-x Inv-loop μ-loop
 add-x c =
@@ -80,7 +84,8 @@ loop-less c =
 loop-again : tie.Need-loop-again Inv-loop μ-loop
 unfolding cornerWeight
 loop-again c =
-    let s : _ = c .before .before .before .before .before .before .before .before .before .before .before .before .before in let room : c .before .before .before .before .before .loop .x * s .args .bands + s .args .band < length (c .before .before .before .before .before .loop .iw) = omega (arith, c .before .before .before .before .before .loop .inv .1 .same-length, s .pre .1 .1 .1, digit-lt (c .before .before .before .before .before .loop .x) (length (s .args .points .now)) (s .args .band) (s .args .bands) (c .before .before .before .before .loop-test .taken) (s .pre .1 .0)) in (omega arith, column-next nan (s .args .bands) (s .args .band) (λ x b. cornerWeight (s .args .corners .now) (s .args .rows) (s .args .frequencies .now) (s .args .bands) (s .args .points .now) (s .args .function) x b) (s .args .iw .now) (c .before .before .before .before .before .loop .x) (c .before .before .before .before .before .loop .iw) _ (s .pre .1 .0) room (c .sorted-weight .ensures ∙ weight-is _ _ _ _ _ _ (c .before .before .before .before .before .before .sort-rows .ensures .sorted) ∙ ap (λ (a : List Float). weightOf (s .args .function) (getD (s .args .points .now) (c .before .before .before .before .before .loop .x) nan) a (s .args .rows)) (c .before .before .before .before .before .before .before .before .before .vertex-frequencies .ensures)) (c .before .before .before .before .before .loop .inv .1))
+    let loop = c .before .before .before .before .before .loop in
+    let s : _ = c .before .before .before .before .before .before .before .before .before .before .before .before .before in let room : loop .x * s .args .bands + s .args .band < length (loop .iw) = omega (arith, loop .inv .1 .same-length, s .pre .1 .1 .1, digit-lt (loop .x) (length (s .args .points .now)) (s .args .band) (s .args .bands) (c .before .before .before .before .loop-test .taken) (s .pre .1 .0)) in (omega arith, column-next nan (s .args .bands) (s .args .band) (λ x b. cornerWeight (s .args .corners .now) (s .args .rows) (s .args .frequencies .now) (s .args .bands) (s .args .points .now) (s .args .function) x b) (s .args .iw .now) (loop .x) (loop .iw) _ (s .pre .1 .0) room (c .sorted-weight .ensures ∙ weight-is _ _ _ _ _ _ (c .before .before .before .before .before .before .sort-rows .ensures .sorted) ∙ ap (λ (a : List Float). weightOf (s .args .function) (getD (s .args .points .now) (loop .x) nan) a (s .args .rows)) (c .before .before .before .before .before .before .before .before .before .vertex-frequencies .ensures)) (loop .inv .1))
 
 same-length : tie.Need-same-length Inv-loop μ-loop
 same-length c =

@@ -52,7 +52,8 @@ mul-vertices-4 c =
 
 array-write-vertices : tie.Need-array-write-vertices Inv-loop μ-loop
 array-write-vertices c =
-    let s : _ = c .before .before .before .before in omega (arith, ap length (c .before .before .before .loop .inv .1) ∙ length-area 384 (cornerFrequency (s .args .corners .now) (s .args .frequencies .now) (s .args .bands) (s .args .band)) (ofBits binary64 0) (c .before .before .before .loop .j) (omega arith))
+    let loop = c .before .before .before .loop in
+    let s : _ = c .before .before .before .before in omega (arith, ap length (loop .inv .1) ∙ length-area 384 (cornerFrequency (s .args .corners .now) (s .args .frequencies .now) (s .args .bands) (s .args .band)) (ofBits binary64 0) (loop .j) (omega arith))
 
 add-j : tie.Need-add-j Inv-loop μ-loop
 add-j c =
@@ -64,7 +65,8 @@ loop-less c =
 
 loop-again : tie.Need-loop-again Inv-loop μ-loop
 loop-again c =
-    let s : _ = c .before .before .before .before in (omega arith, rw (c .before .before .before .loop .inv .1) (area-next 384 (cornerFrequency (s .args .corners .now) (s .args .frequencies .now) (s .args .bands) (s .args .band)) (ofBits binary64 0) (c .before .before .before .loop .j) _ (omega arith) refl))
+    let loop = c .before .before .before .loop in
+    let s : _ = c .before .before .before .before in (omega arith, rw (loop .inv .1) (area-next 384 (cornerFrequency (s .args .corners .now) (s .args .frequencies .now) (s .args .bands) (s .args .band)) (ofBits binary64 0) (loop .j) _ (omega arith) refl))
 
 returns : tie.Need-returns Inv-loop μ-loop
 returns c =

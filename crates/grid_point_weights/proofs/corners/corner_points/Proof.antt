@@ -39,7 +39,8 @@ mul-corners c =
 
 array-write-corners : tie.Need-array-write-corners Inv-loop μ-loop
 array-write-corners c =
-    let s : _ = c .before .before .before .before in omega (arith, ap length (c .before .before .before .loop .inv .1) ∙ length-area 384 (cornerOf (s .args .grid) (s .args .addresses .now) (s .args .gp-map .now) (s .args .table .now) (s .args .gp2irgp-map .now) (s .args .gp)) 0 (c .before .before .before .loop .j) (omega arith))
+    let loop = c .before .before .before .loop in
+    let s : _ = c .before .before .before .before in omega (arith, ap length (loop .inv .1) ∙ length-area 384 (cornerOf (s .args .grid) (s .args .addresses .now) (s .args .gp-map .now) (s .args .table .now) (s .args .gp2irgp-map .now) (s .args .gp)) 0 (loop .j) (omega arith))
 
 add-j : tie.Need-add-j Inv-loop μ-loop
 add-j c =
@@ -51,7 +52,8 @@ loop-less c =
 
 loop-again : tie.Need-loop-again Inv-loop μ-loop
 loop-again c =
-    let s : _ = c .before .before .before .before in (omega arith, rw (c .before .before .before .loop .inv .1) (area-next 384 (cornerOf (s .args .grid) (s .args .addresses .now) (s .args .gp-map .now) (s .args .table .now) (s .args .gp2irgp-map .now) (s .args .gp)) 0 (c .before .before .before .loop .j) _ (omega arith) (c .magnitude-at .ensures ∙ ap (λ (k : ℕ). mag (at (s .args .gp2irgp-map .now) k)) (c .before .neighbour .ensures))))
+    let loop = c .before .before .before .loop in
+    let s : _ = c .before .before .before .before in (omega arith, rw (loop .inv .1) (area-next 384 (cornerOf (s .args .grid) (s .args .addresses .now) (s .args .gp-map .now) (s .args .table .now) (s .args .gp2irgp-map .now) (s .args .gp)) 0 (loop .j) _ (omega arith) (c .magnitude-at .ensures ∙ ap (λ (k : ℕ). mag (at (s .args .gp2irgp-map .now) k)) (c .before .neighbour .ensures))))
 
 returns : tie.Need-returns Inv-loop μ-loop
 returns c =

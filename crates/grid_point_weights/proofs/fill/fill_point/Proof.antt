@@ -33,7 +33,8 @@ loop-holds c =
 
 fill-band-requires : tie.Need-fill-band-requires Inv-loop μ-loop
 fill-band-requires c κs =
-    let s : _ = c .before .before .before .before .before .before .before .before in (rows-most (s .args .table .now) (s .pre .0 .tabled), (c .before .before .loop-test .taken, (rw (c .before .before .before .before .corner-points .ensures) (corners-held (study (s .args .grid) (s .args .addresses .now) (s .args .gp-map .now) (s .args .table .now) (s .args .gp2irgp-map .now) (s .args .frequencies .now) (s .args .bands) (s .args .points .now) (s .args .function)) (s .pre .0) (s .args .gp) (c .before .before .before .loop .band) (c .before .before .loop-test .taken)), c .before .before .before .loop .inv .1 .same-length ∙ s .pre .1 .1)))
+    let loop = c .before .before .before .loop in
+    let s : _ = c .before .before .before .before .before .before .before .before in (rows-most (s .args .table .now) (s .pre .0 .tabled), (c .before .before .loop-test .taken, (rw (c .before .before .before .before .corner-points .ensures) (corners-held (study (s .args .grid) (s .args .addresses .now) (s .args .gp-map .now) (s .args .table .now) (s .args .gp2irgp-map .now) (s .args .frequencies .now) (s .args .bands) (s .args .points .now) (s .args .function)) (s .pre .0) (s .args .gp) (loop .band) (c .before .before .loop-test .taken)), loop .inv .1 .same-length ∙ s .pre .1 .1)))
 
 add-band : tie.Need-add-band Inv-loop μ-loop
 add-band c =
@@ -45,7 +46,8 @@ loop-less c =
 
 loop-again : tie.Need-loop-again Inv-loop μ-loop
 loop-again c =
-    let s : _ = c .before .before .before .before .before .before .before .before .before .before .before in (omega arith, columns-next nan (length (s .args .points .now)) (s .args .bands) (λ x b. cornerWeight (c .before .before .before .before .before .before .before .corner-points .result) (rowsIn (s .args .table .now)) (s .args .frequencies .now) (s .args .bands) (s .args .points .now) (s .args .function) x b) (c .before .before .before .before .before .before .loop .band) (s .args .iw .now) (c .before .before .before .before .before .before .loop .iw) _ (c .before .before .before .before .before .before .loop .inv .1) (c .before .before .fill-band .ensures))
+    let loop = c .before .before .before .before .before .before .loop in
+    let s : _ = c .before .before .before .before .before .before .before .before .before .before .before in (omega arith, columns-next nan (length (s .args .points .now)) (s .args .bands) (λ x b. cornerWeight (c .before .before .before .before .before .before .before .corner-points .result) (rowsIn (s .args .table .now)) (s .args .frequencies .now) (s .args .bands) (s .args .points .now) (s .args .function) x b) (loop .band) (s .args .iw .now) (loop .iw) _ (loop .inv .1) (c .before .before .fill-band .ensures))
 
 same-length : tie.Need-same-length Inv-loop μ-loop
 same-length c =

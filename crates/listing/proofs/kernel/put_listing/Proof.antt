@@ -12,7 +12,8 @@ slice-aggregate-put-slice c = search needs
 
 put-slice-requires : tie.Need-put-slice-requires
 put-slice-requires c κs =
-    omega (arith, listing-length (c .before .before .before .before .args .points) (c .before .before .before .before .args .bands1) (c .before .before .before .before .args .bands2) (c .before .before .before .before .args .channels) (c .before .before .before .before .args .weights .now) (c .before .before .before .before .args .flags .now), c .before .before .before .before .pre .1)
+    let args = c .before .before .before .before .args in
+    omega (arith, listing-length (args .points) (args .bands1) (args .bands2) (args .channels) (args .weights .now) (args .flags .now), c .before .before .before .before .pre .1)
 
 put-lines-requires : tie.Need-put-lines-requires
 put-lines-requires c κs =

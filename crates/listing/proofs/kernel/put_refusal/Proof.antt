@@ -16,7 +16,8 @@ put-slice-requires c κs =
 
 put-decimal-requires : tie.Need-put-decimal-requires
 put-decimal-requires c κs =
-    omega (arith, refusal-length (c .before .before .before .before .before .before .before .args .number), c .before .before .before .before .before .before .before .pre, c .before .before .before .put-slice .ensures .0, c .before .before .before .put-slice .kept .0)
+    let put-slice = c .before .before .before .put-slice in
+    omega (arith, refusal-length (c .before .before .before .before .before .before .before .args .number), c .before .before .before .before .before .before .before .pre, put-slice .ensures .0, put-slice .kept .0)
 
 same-length : tie.Need-same-length
 same-length c = search needs
@@ -24,7 +25,9 @@ same-length c = search needs
 returns : tie.Need-returns
 unfolding refusalOf
 returns c =
-    wrote-both (c .before .before .before .before .before .before .before .before .before .before .args .at) _ (number (c .before .before .before .before .before .before .before .before .before .before .args .number) 10) (c .before .before .before .before .before .before .before .before .before .before .args .out .now) _ _ _ _ (c .before .before .before .before .before .before .put-slice .ensures .0) (c .before .before .before .before .before .before .put-slice .ensures .1) (c .before .before .put-decimal .ensures .0) (c .before .before .put-decimal .ensures .1) (c .before .before .before .before .before .before .before .before .before .before .pre)
+    let args = c .before .before .before .before .before .before .before .before .before .before .args in
+    let put-slice = c .before .before .before .before .before .before .put-slice in
+    wrote-both (args .at) _ (number (args .number) 10) (args .out .now) _ _ _ _ (put-slice .ensures .0) (put-slice .ensures .1) (c .before .before .put-decimal .ensures .0) (c .before .before .put-decimal .ensures .1) (c .before .before .before .before .before .before .before .before .before .before .pre)
 
 pub put-refusal-spec : {M : Type 1} → statement M
 put-refusal-spec =

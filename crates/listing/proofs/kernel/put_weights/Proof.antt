@@ -37,19 +37,27 @@ loop-holds c =
 
 mul-bits-of : tie.Need-mul-bits-of Inv-loop μ-loop
 mul-bits-of c =
-    omega (arith, weight-below (c .before .loop .c) (c .before .before .before .before .args .channels) (c .before .before .before .before .args .total) (c .before .before .before .before .args .e) (c .loop-test .taken) (c .before .before .before .before .pre .0), c .before .before .before .before .pre .1)
+    let args = c .before .before .before .before .args in
+    let pre = c .before .before .before .before .pre in
+    omega (arith, weight-below (c .before .loop .c) (args .channels) (args .total) (args .e) (c .loop-test .taken) (pre .0), pre .1)
 
 add-bits-of : tie.Need-add-bits-of Inv-loop μ-loop
 add-bits-of c =
-    omega (arith, weight-below (c .before .loop .c) (c .before .before .before .before .args .channels) (c .before .before .before .before .args .total) (c .before .before .before .before .args .e) (c .loop-test .taken) (c .before .before .before .before .pre .0), c .before .before .before .before .pre .1)
+    let args = c .before .before .before .before .args in
+    let pre = c .before .before .before .before .pre in
+    omega (arith, weight-below (c .before .loop .c) (args .channels) (args .total) (args .e) (c .loop-test .taken) (pre .0), pre .1)
 
 mul-bits-of-2 : tie.Need-mul-bits-of-2 Inv-loop μ-loop
 mul-bits-of-2 c =
-    omega (arith, weight-below (c .before .loop .c) (c .before .before .before .before .args .channels) (c .before .before .before .before .args .total) (c .before .before .before .before .args .e) (c .loop-test .taken) (c .before .before .before .before .pre .0), c .before .before .before .before .pre .1)
+    let args = c .before .before .before .before .args in
+    let pre = c .before .before .before .before .pre in
+    omega (arith, weight-below (c .before .loop .c) (args .channels) (args .total) (args .e) (c .loop-test .taken) (pre .0), pre .1)
 
 shared-slice-read-bits-of : tie.Need-shared-slice-read-bits-of Inv-loop μ-loop
 shared-slice-read-bits-of c =
-    omega (arith, weight-below (c .before .before .loop .c) (c .before .before .before .before .before .args .channels) (c .before .before .before .before .before .args .total) (c .before .before .before .before .before .args .e) (c .before .loop-test .taken) (c .before .before .before .before .before .pre .0), c .before .before .before .before .before .pre .1)
+    let args = c .before .before .before .before .before .args in
+    let pre = c .before .before .before .before .before .pre in
+    omega (arith, weight-below (c .before .before .loop .c) (args .channels) (args .total) (args .e) (c .before .loop-test .taken) (pre .0), pre .1)
 
 bits-of-requires : tie.Need-bits-of-requires Inv-loop μ-loop
 bits-of-requires c κs =

@@ -26,7 +26,8 @@ loop-holds c =
 
 add-mark-at : tie.Need-add-mark-at Inv-loop μ-loop
 add-mark-at c =
-    omega (arith, c .before .before .before .pre .0, c .before .before .before .pre .1)
+    let pre = c .before .before .before .pre in
+    omega (arith, pre .0, pre .1)
 
 mark-at-requires : tie.Need-mark-at-requires Inv-loop μ-loop
 mark-at-requires c κs =
@@ -43,7 +44,8 @@ loop-less c =
 loop-again : tie.Need-loop-again Inv-loop μ-loop
 unfolding isComputedAt
 loop-again c =
-    (omega arith, below-next (c .before .before .loop .k) (λ j. isComputedAt (c .before .before .before .before .args .marks .now) (c .before .before .before .before .args .t * c .before .before .before .before .args .pairs + j)) (c .before .before .loop .inv .1) (rw (c .mark-at .ensures)))
+    let args = c .before .before .before .before .args in
+    (omega arith, below-next (c .before .before .loop .k) (λ j. isComputedAt (args .marks .now) (args .t * args .pairs + j)) (c .before .before .loop .inv .1) (rw (c .mark-at .ensures)))
 
 returns : tie.Need-returns Inv-loop μ-loop
 unfolding areComputed

@@ -26,7 +26,8 @@ loop-holds c =
 
 add-set-mark : tie.Need-add-set-mark Inv-loop μ-loop
 add-set-mark c =
-    omega (arith, c .before .before .before .before .pre .1 .0, c .before .before .before .before .pre .1 .1)
+    let pre = c .before .before .before .before .pre in
+    omega (arith, pre .1 .0, pre .1 .1)
 
 set-mark-requires : tie.Need-set-mark-requires Inv-loop μ-loop
 set-mark-requires c κs =
@@ -45,15 +46,19 @@ loop-less c =
 
 loop-again : tie.Need-loop-again Inv-loop μ-loop
 loop-again c =
-    (omega arith, c .before .before .set-mark .ensures ∙ rw (c .before .before .before .before .before .loop .inv .1) (averaged-more (c .before .before .before .before .before .before .before .args .pairs) (c .before .before .before .before .before .before .before .args .t) (c .before .before .before .before .before .before .before .args .marks .now) (c .before .before .before .before .before .loop .k) (omega arith)))
+    let args = c .before .before .before .before .before .before .before .args in
+    let loop = c .before .before .before .before .before .loop in
+    (omega arith, c .before .before .set-mark .ensures ∙ rw (loop .inv .1) (averaged-more (args .pairs) (args .t) (args .marks .now) (loop .k) (omega arith)))
 
 same-length : tie.Need-same-length Inv-loop μ-loop
 same-length c =
-    rw (c .before .loop .inv .1) (averaged-length (c .before .before .before .args .pairs) (c .before .before .before .args .t) (c .before .before .before .args .marks .now) (c .before .loop .k))
+    let args = c .before .before .before .args in
+    rw (c .before .loop .inv .1) (averaged-length (args .pairs) (args .t) (args .marks .now) (c .before .loop .k))
 
 returns : tie.Need-returns Inv-loop μ-loop
 returns c =
-    c .before .loop .inv .1 ∙ averaged-all (c .before .before .before .args .pairs) (c .before .before .before .args .t) (c .before .before .before .args .marks .now) (c .before .loop .k) (omega arith) (c .before .before .before .pre .0)
+    let args = c .before .before .before .args in
+    c .before .loop .inv .1 ∙ averaged-all (args .pairs) (args .t) (args .marks .now) (c .before .loop .k) (omega arith) (c .before .before .before .pre .0)
 
 pub average-marks-spec : {M : Type 1} → statement M
 average-marks-spec =

@@ -36,7 +36,8 @@ one-if-requires c κs =
 add-count : tie.Need-add-count Inv-loop μ-loop
 unfolding isOpenMark
 add-count c =
-    omega (arith, count-next (c .before .before .before .loop .q) (c .before .before .before .loop .count) (isOpenMark (c .before .before .before .before .before .args .marks .now)) (c .before .before .before .loop .inv .1) (c .one-if .result) (c .one-if .ensures ∙ rw (c .before .mark-at .ensures)) .0)
+    let loop = c .before .before .before .loop in
+    omega (arith, count-next (loop .q) (loop .count) (isOpenMark (c .before .before .before .before .before .args .marks .now)) (loop .inv .1) (c .one-if .result) (c .one-if .ensures ∙ rw (c .before .mark-at .ensures)) .0)
 
 add-q : tie.Need-add-q Inv-loop μ-loop
 add-q c =
@@ -49,7 +50,8 @@ loop-less c =
 loop-again : tie.Need-loop-again Inv-loop μ-loop
 unfolding isOpenMark
 loop-again c =
-    (omega arith, rw add-one (count-next (c .before .before .before .loop .q) (c .before .before .before .loop .count) (isOpenMark (c .before .before .before .before .before .args .marks .now)) (c .before .before .before .loop .inv .1) (c .one-if .result) (c .one-if .ensures ∙ rw (c .before .mark-at .ensures)) .1))
+    let loop = c .before .before .before .loop in
+    (omega arith, rw add-one (count-next (loop .q) (loop .count) (isOpenMark (c .before .before .before .before .before .args .marks .now)) (loop .inv .1) (c .one-if .result) (c .one-if .ensures ∙ rw (c .before .mark-at .ensures)) .1))
 
 returns : tie.Need-returns Inv-loop μ-loop
 unfolding openPieces

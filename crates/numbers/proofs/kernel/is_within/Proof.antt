@@ -15,11 +15,13 @@ nonneg-requires c κs = search needs
 
 returns : tie.Need-returns
 returns c =
-    let b : _ = toZ-ofZ w64 (c .before .before .before .args .z) (c .before .before .before .fits .z) in rw (rw b at (c .before .before .magnitude .ensures)) (within-pos (c .before .before .before .args .n) (c .before .before .before .args .z) (sym (rw b at (c .before .nonneg .ensures)) ∙ c .if1 .taken))
+    let args = c .before .before .before .args in
+    let b : _ = toZ-ofZ w64 (args .z) (c .before .before .before .fits .z) in rw (rw b at (c .before .before .magnitude .ensures)) (within-pos (args .n) (args .z) (sym (rw b at (c .before .nonneg .ensures)) ∙ c .if1 .taken))
 
 returns-2 : tie.Need-returns-2
 returns-2 c =
-    let b : _ = toZ-ofZ w64 (c .before .before .before .args .z) (c .before .before .before .fits .z) in rw (rw b at (c .before .before .magnitude .ensures)) (within-neg (c .before .before .before .args .n) (c .before .before .before .args .z) (sym (rw b at (c .before .nonneg .ensures)) ∙ c .if1 .left))
+    let args = c .before .before .before .args in
+    let b : _ = toZ-ofZ w64 (args .z) (c .before .before .before .fits .z) in rw (rw b at (c .before .before .magnitude .ensures)) (within-neg (args .n) (args .z) (sym (rw b at (c .before .nonneg .ensures)) ∙ c .if1 .left))
 
 pub is-within-spec : {M : Type 1} → statement M
 is-within-spec = tie.close (tie.spec magnitude-requires nonneg-requires returns returns-2)

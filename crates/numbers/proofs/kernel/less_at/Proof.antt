@@ -27,7 +27,8 @@ is-less-requires c κs = search needs
 
 returns : tie.Need-returns
 returns c =
-    cc (back (getD (c .before .before .before .args .xs .now) (c .before .before .before .args .k) (pos 0)) (c .before .before .is-less-arg .given), back (getD (c .before .before .before .args .xs .now) (c .before .before .before .args .k + 1) (pos 0)) (c .before .is-less-arg2 .given))
+    let args = c .before .before .before .args in
+    cc (back (getD (args .xs .now) (args .k) (pos 0)) (c .before .before .is-less-arg .given), back (getD (args .xs .now) (args .k + 1) (pos 0)) (c .before .is-less-arg2 .given))
 
 pub less-at-spec : {M : Type 1} → statement M
 less-at-spec =

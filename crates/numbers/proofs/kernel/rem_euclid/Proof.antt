@@ -30,11 +30,13 @@ sub-result-2 c =
 
 returns : tie.Need-returns
 returns c =
-    let b : _ = toZ-ofZ w64 (c .before .before .before .args .a) (c .before .before .before .fits .a) in rw (rw b at (c .before .before .magnitude .ensures)) (rem-pos (c .before .before .before .args .a) (c .before .before .before .args .m) (sym (rw b at (c .before .nonneg .ensures)) ∙ c .if1 .taken))
+    let args = c .before .before .before .args in
+    let b : _ = toZ-ofZ w64 (args .a) (c .before .before .before .fits .a) in rw (rw b at (c .before .before .magnitude .ensures)) (rem-pos (args .a) (args .m) (sym (rw b at (c .before .nonneg .ensures)) ∙ c .if1 .taken))
 
 returns-2 : tie.Need-returns-2
 returns-2 c =
-    let b : _ = toZ-ofZ w64 (c .before .before .before .args .a) (c .before .before .before .fits .a) in rw (rw b at (c .before .before .magnitude .ensures)) (rem-neg (c .before .before .before .args .a) (c .before .before .before .args .m) (sym (rw b at (c .before .nonneg .ensures)) ∙ c .if1 .left))
+    let args = c .before .before .before .args in
+    let b : _ = toZ-ofZ w64 (args .a) (c .before .before .before .fits .a) in rw (rw b at (c .before .before .magnitude .ensures)) (rem-neg (args .a) (args .m) (sym (rw b at (c .before .nonneg .ensures)) ∙ c .if1 .left))
 
 pub rem-euclid-spec : {M : Type 1} → statement M
 rem-euclid-spec =

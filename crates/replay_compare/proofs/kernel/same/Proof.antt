@@ -42,11 +42,16 @@ loop-less : tie.Need-loop-less Inv-loop μ-loop
 loop-less c = search needs
 
 loop-again : tie.Need-loop-again Inv-loop μ-loop
-loop-again c = (omega arith, omega arith, below-next (c .before .before .before .loop .i) _ (c .before .before .before .loop .inv .2) (c .equal-at .ensures ∙ ap (eqZ (at (c .before .before .before .before .before .args .a .now) (c .before .before .before .loop .i))) (back (at (c .before .before .before .before .before .args .b .now) (c .before .before .before .loop .i)) (c .before .z .given))))
+loop-again c =
+    let args = c .before .before .before .before .before .args in
+    let loop = c .before .before .before .loop in
+    (omega arith, omega arith, below-next (loop .i) _ (loop .inv .2) (c .equal-at .ensures ∙ ap (eqZ (at (args .a .now) (loop .i))) (back (at (args .b .now) (loop .i)) (c .before .z .given))))
 
 returns-2 : tie.Need-returns-2 Inv-loop μ-loop
 unfolding sameNumbers
-returns-2 c = simp (eq-eqb (length (c .before .before .before .args .a .now)) (length (c .before .before .before .args .b .now)) (omega arith)) (below-end _ (c .before .loop .inv .2) (omega arith))
+returns-2 c =
+    let args = c .before .before .before .args in
+    simp (eq-eqb (length (args .a .now)) (length (args .b .now)) (omega arith)) (below-end _ (c .before .loop .inv .2) (omega arith))
 
 pub same-spec : {M : Type 1} → statement M
 same-spec =

@@ -46,7 +46,11 @@ loop-less : tie.Need-loop-less Inv-loop μ-loop
 loop-less c = search needs
 
 loop-again : tie.Need-loop-again Inv-loop μ-loop
-loop-again c = (simp length-set (omega arith), omega arith, omega arith, list-next (c .before .before .before .before .before .before .before .before .before .args .out .now) (realFrom (c .before .before .before .before .before .before .before .before .before .args .text .now) (c .before .before .before .before .before .before .next-count .result .next .at)) (c .before .before .before .loop .i) (omega arith) (c .before .before .before .loop .inv .3) (real-next (c .before .before .before .before .before .before .before .before .before .args .text .now) (c .before .before .before .before .before .before .next-count .result .next .at) (c .before .before .before .loop .i) (c .before .before .before .loop .inv .4) (c .before .next-real .ensures .0)), place-next (afterBits (c .before .before .before .before .before .before .before .before .before .args .text .now)) (c .before .before .before .before .before .before .next-count .result .next .at) (c .before .before .before .loop .i) (c .before .before .before .loop .inv .4) (c .before .next-real .ensures .1))
+loop-again c =
+    let args = c .before .before .before .before .before .before .before .before .before .args in
+    let next-count = c .before .before .before .before .before .before .next-count in
+    let loop = c .before .before .before .loop in
+    (simp length-set (omega arith), omega arith, omega arith, list-next (args .out .now) (realFrom (args .text .now) (next-count .result .next .at)) (loop .i) (omega arith) (loop .inv .3) (real-next (args .text .now) (next-count .result .next .at) (loop .i) (loop .inv .4) (c .before .next-real .ensures .0)), place-next (afterBits (args .text .now)) (next-count .result .next .at) (loop .i) (loop .inv .4) (c .before .next-real .ensures .1))
 
 same-length : tie.Need-same-length Inv-loop μ-loop
 same-length c = search needs

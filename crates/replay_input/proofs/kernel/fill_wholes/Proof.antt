@@ -48,7 +48,11 @@ loop-less : tie.Need-loop-less Inv-loop μ-loop
 loop-less c = search needs
 
 loop-again : tie.Need-loop-again Inv-loop μ-loop
-loop-again c = (simp length-set (omega arith), omega arith, omega arith, list-next (c .before .before .before .before .before .before .before .before .before .args .out .now) (wholeFrom (c .before .before .before .before .before .before .before .before .before .args .text .now) (c .before .before .before .before .before .before .before .next-count .result .next .at)) (c .before .before .before .before .loop .i) (omega arith) (c .before .before .before .before .loop .inv .3) (whole-next (c .before .before .before .before .before .before .before .before .before .args .text .now) (c .before .before .before .before .before .before .before .next-count .result .next .at) (c .before .before .before .before .loop .i) (c .before .before .before .before .loop .inv .4) (toZ-ofZ {w = w64} {z = c .before .before .next-whole .result .value} (search needs) ∙ c .before .before .next-whole .ensures .0)), place-next (afterWhole (c .before .before .before .before .before .before .before .before .before .args .text .now)) (c .before .before .before .before .before .before .before .next-count .result .next .at) (c .before .before .before .before .loop .i) (c .before .before .before .before .loop .inv .4) (c .before .before .next-whole .ensures .1))
+loop-again c =
+    let args = c .before .before .before .before .before .before .before .before .before .args in
+    let next-count = c .before .before .before .before .before .before .before .next-count in
+    let loop = c .before .before .before .before .loop in
+    (simp length-set (omega arith), omega arith, omega arith, list-next (args .out .now) (wholeFrom (args .text .now) (next-count .result .next .at)) (loop .i) (omega arith) (loop .inv .3) (whole-next (args .text .now) (next-count .result .next .at) (loop .i) (loop .inv .4) (toZ-ofZ {w = w64} {z = c .before .before .next-whole .result .value} (search needs) ∙ c .before .before .next-whole .ensures .0)), place-next (afterWhole (args .text .now)) (next-count .result .next .at) (loop .i) (loop .inv .4) (c .before .before .next-whole .ensures .1))
 
 same-length : tie.Need-same-length Inv-loop μ-loop
 same-length c = search needs

@@ -37,15 +37,23 @@ loop-less : tie.Need-loop-less Inv-loop μ-loop
 loop-less c = search needs
 
 loop-again : tie.Need-loop-again Inv-loop μ-loop
-loop-again c = (sym (spelled-step 16 1152921504606846976 (c .before .before .before .before .before .before .args .text .now) (c .before .before .before .before .loop .i) (c .before .before .before .before .loop .n) (c .before .digit-of .result) (omega arith) (c .before .digit-of .ensures .0) (omega arith)) ∙ c .before .before .before .before .loop .inv .0, sym (passed-step 16 1152921504606846976 (c .before .before .before .before .before .before .args .text .now) (c .before .before .before .before .loop .i) (c .before .before .before .before .loop .n) (c .before .digit-of .result) (omega arith) (c .before .digit-of .ensures .0) (omega arith)) ∙ c .before .before .before .before .loop .inv .1)
+loop-again c =
+    let args = c .before .before .before .before .before .before .args in
+    let loop = c .before .before .before .before .loop in
+    (sym (spelled-step 16 1152921504606846976 (args .text .now) (loop .i) (loop .n) (c .before .digit-of .result) (omega arith) (c .before .digit-of .ensures .0) (omega arith)) ∙ loop .inv .0, sym (passed-step 16 1152921504606846976 (args .text .now) (loop .i) (loop .n) (c .before .digit-of .result) (omega arith) (c .before .digit-of .ensures .0) (omega arith)) ∙ loop .inv .1)
 
 returns : tie.Need-returns Inv-loop μ-loop
 unfolding bitsAt afterBits
-returns c = (sym (spelled-end 16 1152921504606846976 (c .before .before .before .args .text .now) (c .before .loop .i) (c .before .loop .n) (omega arith)) ∙ c .before .loop .inv .0, sym (passed-end 16 1152921504606846976 (c .before .before .before .args .text .now) (c .before .loop .i) (c .before .loop .n) (omega arith)) ∙ c .before .loop .inv .1)
+returns c =
+    let args = c .before .before .before .args in
+    (sym (spelled-end 16 1152921504606846976 (args .text .now) (c .before .loop .i) (c .before .loop .n) (omega arith)) ∙ c .before .loop .inv .0, sym (passed-end 16 1152921504606846976 (args .text .now) (c .before .loop .i) (c .before .loop .n) (omega arith)) ∙ c .before .loop .inv .1)
 
 returns-2 : tie.Need-returns-2 Inv-loop μ-loop
 unfolding bitsAt afterBits
-returns-2 c = (sym (spelled-stop 16 1152921504606846976 (c .before .before .before .before .before .before .args .text .now) (c .before .before .before .before .loop .i) (c .before .before .before .before .loop .n) (c .before .digit-of .result) (omega arith) (c .before .digit-of .ensures .0) (omega arith)) ∙ c .before .before .before .before .loop .inv .0, sym (passed-stop 16 1152921504606846976 (c .before .before .before .before .before .before .args .text .now) (c .before .before .before .before .loop .i) (c .before .before .before .before .loop .n) (c .before .digit-of .result) (omega arith) (c .before .digit-of .ensures .0) (omega arith)) ∙ c .before .before .before .before .loop .inv .1)
+returns-2 c =
+    let args = c .before .before .before .before .before .before .args in
+    let loop = c .before .before .before .before .loop in
+    (sym (spelled-stop 16 1152921504606846976 (args .text .now) (loop .i) (loop .n) (c .before .digit-of .result) (omega arith) (c .before .digit-of .ensures .0) (omega arith)) ∙ loop .inv .0, sym (passed-stop 16 1152921504606846976 (args .text .now) (loop .i) (loop .n) (c .before .digit-of .result) (omega arith) (c .before .digit-of .ensures .0) (omega arith)) ∙ loop .inv .1)
 
 pub next-bits-spec : {M : Type 1} → statement M
 next-bits-spec =

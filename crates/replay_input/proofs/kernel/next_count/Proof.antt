@@ -37,15 +37,23 @@ loop-less : tie.Need-loop-less Inv-loop μ-loop
 loop-less c = search needs
 
 loop-again : tie.Need-loop-again Inv-loop μ-loop
-loop-again c = (sym (spelled-step 10 1844674407370955161 (c .before .before .before .before .before .before .args .text .now) (c .before .before .before .before .loop .i) (c .before .before .before .before .loop .n) (c .before .digit-of .result) (omega arith) (c .before .digit-of .ensures .0) (omega arith)) ∙ c .before .before .before .before .loop .inv .0, sym (passed-step 10 1844674407370955161 (c .before .before .before .before .before .before .args .text .now) (c .before .before .before .before .loop .i) (c .before .before .before .before .loop .n) (c .before .digit-of .result) (omega arith) (c .before .digit-of .ensures .0) (omega arith)) ∙ c .before .before .before .before .loop .inv .1)
+loop-again c =
+    let args = c .before .before .before .before .before .before .args in
+    let loop = c .before .before .before .before .loop in
+    (sym (spelled-step 10 1844674407370955161 (args .text .now) (loop .i) (loop .n) (c .before .digit-of .result) (omega arith) (c .before .digit-of .ensures .0) (omega arith)) ∙ loop .inv .0, sym (passed-step 10 1844674407370955161 (args .text .now) (loop .i) (loop .n) (c .before .digit-of .result) (omega arith) (c .before .digit-of .ensures .0) (omega arith)) ∙ loop .inv .1)
 
 returns : tie.Need-returns Inv-loop μ-loop
 unfolding countAt afterCount
-returns c = (sym (spelled-end 10 1844674407370955161 (c .before .before .before .args .text .now) (c .before .loop .i) (c .before .loop .n) (omega arith)) ∙ c .before .loop .inv .0, sym (passed-end 10 1844674407370955161 (c .before .before .before .args .text .now) (c .before .loop .i) (c .before .loop .n) (omega arith)) ∙ c .before .loop .inv .1)
+returns c =
+    let args = c .before .before .before .args in
+    (sym (spelled-end 10 1844674407370955161 (args .text .now) (c .before .loop .i) (c .before .loop .n) (omega arith)) ∙ c .before .loop .inv .0, sym (passed-end 10 1844674407370955161 (args .text .now) (c .before .loop .i) (c .before .loop .n) (omega arith)) ∙ c .before .loop .inv .1)
 
 returns-2 : tie.Need-returns-2 Inv-loop μ-loop
 unfolding countAt afterCount
-returns-2 c = (sym (spelled-stop 10 1844674407370955161 (c .before .before .before .before .before .before .args .text .now) (c .before .before .before .before .loop .i) (c .before .before .before .before .loop .n) (c .before .digit-of .result) (omega arith) (c .before .digit-of .ensures .0) (omega arith)) ∙ c .before .before .before .before .loop .inv .0, sym (passed-stop 10 1844674407370955161 (c .before .before .before .before .before .before .args .text .now) (c .before .before .before .before .loop .i) (c .before .before .before .before .loop .n) (c .before .digit-of .result) (omega arith) (c .before .digit-of .ensures .0) (omega arith)) ∙ c .before .before .before .before .loop .inv .1)
+returns-2 c =
+    let args = c .before .before .before .before .before .before .args in
+    let loop = c .before .before .before .before .loop in
+    (sym (spelled-stop 10 1844674407370955161 (args .text .now) (loop .i) (loop .n) (c .before .digit-of .result) (omega arith) (c .before .digit-of .ensures .0) (omega arith)) ∙ loop .inv .0, sym (passed-stop 10 1844674407370955161 (args .text .now) (loop .i) (loop .n) (c .before .digit-of .result) (omega arith) (c .before .digit-of .ensures .0) (omega arith)) ∙ loop .inv .1)
 
 pub next-count-spec : {M : Type 1} → statement M
 next-count-spec =

@@ -17,7 +17,12 @@ next-whole-requires-3 : tie.Need-next-whole-requires-3
 next-whole-requires-3 c κs = search needs
 
 returns : tie.Need-returns
-returns c = three-wholes (c .before .before .before .before .before .before .before .before .args .text .now) (c .before .before .before .before .before .before .before .before .args .c .at) (toZ-ofZ {w = w64} {z = c .before .before .before .before .before .before .next-whole .result .value} (search needs) ∙ c .before .before .before .before .before .before .next-whole .ensures .0) (c .before .before .before .before .before .before .next-whole .ensures .1) (toZ-ofZ {w = w64} {z = c .before .before .before .before .before .next-whole2 .result .value} (search needs) ∙ c .before .before .before .before .before .next-whole2 .ensures .0) (c .before .before .before .before .before .next-whole2 .ensures .1) (toZ-ofZ {w = w64} {z = c .before .before .before .before .next-whole3 .result .value} (search needs) ∙ c .before .before .before .before .next-whole3 .ensures .0) (c .before .before .before .before .next-whole3 .ensures .1)
+returns c =
+    let args = c .before .before .before .before .before .before .before .before .args in
+    let next-whole = c .before .before .before .before .before .before .next-whole in
+    let next-whole2 = c .before .before .before .before .before .next-whole2 in
+    let next-whole3 = c .before .before .before .before .next-whole3 in
+    three-wholes (args .text .now) (args .c .at) (toZ-ofZ {w = w64} {z = next-whole .result .value} (search needs) ∙ next-whole .ensures .0) (next-whole .ensures .1) (toZ-ofZ {w = w64} {z = next-whole2 .result .value} (search needs) ∙ next-whole2 .ensures .0) (next-whole2 .ensures .1) (toZ-ofZ {w = w64} {z = next-whole3 .result .value} (search needs) ∙ next-whole3 .ensures .0) (next-whole3 .ensures .1)
 
 pub next-three-spec : {M : Type 1} → statement M
 next-three-spec =

@@ -23,7 +23,9 @@ negative-requires : tie.Need-negative-requires
 negative-requires c κs = search needs
 
 returns : tie.Need-returns
-returns c = let w : _ = whole-minus (c .before .before .before .before .before .before .before .args .text .now) (c .before .before .before .before .before .before .before .args .c .at) (omega arith) in
+returns c =
+    let args = c .before .before .before .before .before .before .before .args in
+    let w : _ = whole-minus (args .text .now) (args .c .at) (omega arith) in
     (toZ-ofZ {w = w64} {z = c .negative .result} (search needs) ∙ c .negative .ensures ∙ ap negated (c .before .before .next-count .ensures .0) ∙ sym (w .0), c .before .before .next-count .ensures .1 ∙ sym (w .1))
 
 next-count-requires-2 : tie.Need-next-count-requires-2
@@ -33,7 +35,9 @@ positive-requires : tie.Need-positive-requires
 positive-requires c κs = search needs
 
 returns-2 : tie.Need-returns-2
-returns-2 c = let w : (wholeAt (c .before .before .before .before .before .args .text .now) (c .before .before .before .before .before .args .c .at) ≡ plain (countAt (c .before .before .before .before .before .args .text .now) (c .before .before .before .before .before .args .c .at))) × (afterWhole (c .before .before .before .before .before .args .text .now) (c .before .before .before .before .before .args .c .at) ≡ afterCount (c .before .before .before .before .before .args .text .now) (c .before .before .before .before .before .args .c .at)) = ⊎-elim (λ h. whole-plain (c .before .before .before .before .before .args .text .now) (c .before .before .before .before .before .args .c .at) (λ e. h .2 .left e)) (λ h. whole-past (c .before .before .before .before .before .args .text .now) (c .before .before .before .before .before .args .c .at) (omega arith)) (c .before .before .before .if1 .came) in
+returns-2 c =
+    let args = c .before .before .before .before .before .args in
+    let w : (wholeAt (args .text .now) (args .c .at) ≡ plain (countAt (args .text .now) (args .c .at))) × (afterWhole (args .text .now) (args .c .at) ≡ afterCount (args .text .now) (args .c .at)) = ⊎-elim (λ h. whole-plain (args .text .now) (args .c .at) (λ e. h .2 .left e)) (λ h. whole-past (args .text .now) (args .c .at) (omega arith)) (c .before .before .before .if1 .came) in
     (toZ-ofZ {w = w64} {z = c .positive .result} (search needs) ∙ c .positive .ensures ∙ ap plain (c .before .before .next-count2 .ensures .0) ∙ sym (w .0), c .before .before .next-count2 .ensures .1 ∙ sym (w .1))
 
 pub next-whole-spec : {M : Type 1} → statement M

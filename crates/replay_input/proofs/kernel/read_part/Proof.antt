@@ -17,7 +17,9 @@ slice-relend-prefix-read-full : tie.Need-slice-relend-prefix-read-full
 slice-relend-prefix-read-full c = search needs
 
 slice-aggregate-read-full : tie.Need-slice-aggregate-read-full
-slice-aggregate-read-full c = sym (length-take-le (c .before .before .before .args .n) (c .before .before .before .args .buf .now) (omega arith))
+slice-aggregate-read-full c =
+    let args = c .before .before .before .args in
+    sym (length-take-le (args .n) (args .buf .now) (omega arith))
 
 read-full-requires : tie.Need-read-full-requires
 read-full-requires c κs = search needs

@@ -37,7 +37,9 @@ one-more-requires-3 : tie.Need-one-more-requires-3
 one-more-requires-3 c κs = search needs
 
 returns-2 : tie.Need-returns-2
-returns-2 c = ((c .before .before .before .before .before .before .before .before .before .before .one-more .ensures, c .before .before .before .before .before .before .before .before .refused-more .ensures), (rw (c .before .before .before .before .before .before .before .if1 .left), rw (c .before .before .before .before .before .before .before .if1 .left) (c .one-more3 .ensures)))
+returns-2 c =
+    let if1 = c .before .before .before .before .before .before .before .if1 in
+    ((c .before .before .before .before .before .before .before .before .before .before .one-more .ensures, c .before .before .before .before .before .before .before .before .refused-more .ensures), (rw (if1 .left), rw (if1 .left) (c .one-more3 .ensures)))
 
 pub counted-spec : {M : Type 1} → statement M
 counted-spec =

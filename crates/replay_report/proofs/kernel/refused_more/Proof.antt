@@ -23,7 +23,9 @@ array-write-all c = search needs
 
 returns : tie.Need-returns
 unfolding refusedMore
-returns c = rw (c .one-more .ensures) (simp (lt-ltb 0 (c .before .before .before .args .number) (omega arith), lt-ltb (c .before .before .before .args .number) 21 (omega arith)))
+returns c =
+    let args = c .before .before .before .args in
+    rw (c .one-more .ensures) (simp (lt-ltb 0 (args .number) (omega arith), lt-ltb (args .number) 21 (omega arith)))
 
 returns-2 : tie.Need-returns-2
 unfolding refusedMore

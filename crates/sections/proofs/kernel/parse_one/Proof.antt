@@ -12,7 +12,8 @@ use Rattle.sections.proofs.kernel.parse_one.Tie as tie
 
 returns : tie.Need-returns
 returns c =
-    once-none wholeField (c .before .before .before .args .text .now) (c .before .before .before .args .from) (c .before .before .before .args .tag .now) (c .before .before .before .args .n) (omega arith)
+    let args = c .before .before .before .args in
+    once-none wholeField (args .text .now) (args .from) (args .tag .now) (args .n) (omega arith)
 
 cut-requires : tie.Need-cut-requires
 cut-requires c κs = search needs
@@ -46,21 +47,30 @@ same-length c = search needs
 
 returns-2 : tie.Need-returns-2
 returns-2 c =
-    once-row wholeField (c .before .before .before .before .before .before .before .before .before .before .args .text .now) (c .before .before .before .before .before .before .before .before .before .before .args .from) (c .before .before .before .before .before .before .before .before .before .before .args .tag .now) (c .before .before .before .before .before .before .before .before .before .before .args .n) (omega arith) (c .before .before .before .before .before .before .cut .result) (c .before .before .before .before .before .before .cut .ensures .0) (take (c .before .before .before .before .before .before .before .before .before .before .args .n) (c .before .before .before .parse-line .last .1 .1 .1 .0)) (c .before .before .before .parse-line .ensures .0 ∙ ap (λ (r : Line). toldLine r (take (c .before .before .before .before .before .before .before .before .before .before .args .n) (c .before .before .before .parse-line .last .1 .1 .1 .0))) (c .enum-told .given .1))
+    let args = c .before .before .before .before .before .before .before .before .before .before .args in
+    let cut = c .before .before .before .before .before .before .cut in
+    let parse-line = c .before .before .before .parse-line in
+    once-row wholeField (args .text .now) (args .from) (args .tag .now) (args .n) (omega arith) (cut .result) (cut .ensures .0) (take (args .n) (parse-line .last .1 .1 .1 .0)) (parse-line .ensures .0 ∙ ap (λ (r : Line). toldLine r (take (args .n) (parse-line .last .1 .1 .1 .0))) (c .enum-told .given .1))
 
 same-length-2 : tie.Need-same-length-2
 same-length-2 c = search needs
 
 returns-3 : tie.Need-returns-3
 returns-3 c =
-    once-wrong wholeField (c .before .before .before .before .before .before .before .before .before .before .args .text .now) (c .before .before .before .before .before .before .before .before .before .before .args .from) (c .before .before .before .before .before .before .before .before .before .before .args .tag .now) (c .before .before .before .before .before .before .before .before .before .before .args .n) (omega arith) (c .before .before .before .before .before .before .cut .result) (c .before .before .before .before .before .before .cut .ensures .0) (inl (c .before .before .before .parse-line .ensures .0 ∙ ap (λ (r : Line). toldLine r (take (c .before .before .before .before .before .before .before .before .before .before .args .n) (c .before .before .before .parse-line .last .1 .1 .1 .0))) (c .enum-told2 .given .1)))
+    let args = c .before .before .before .before .before .before .before .before .before .before .args in
+    let cut = c .before .before .before .before .before .before .cut in
+    let parse-line = c .before .before .before .parse-line in
+    once-wrong wholeField (args .text .now) (args .from) (args .tag .now) (args .n) (omega arith) (cut .result) (cut .ensures .0) (inl (parse-line .ensures .0 ∙ ap (λ (r : Line). toldLine r (take (args .n) (parse-line .last .1 .1 .1 .0))) (c .enum-told2 .given .1)))
 
 same-length-3 : tie.Need-same-length-3
 same-length-3 c = search needs
 
 returns-4 : tie.Need-returns-4
 returns-4 c =
-    once-wrong wholeField (c .before .before .before .before .before .before .before .before .before .before .args .text .now) (c .before .before .before .before .before .before .before .before .before .before .args .from) (c .before .before .before .before .before .before .before .before .before .before .args .tag .now) (c .before .before .before .before .before .before .before .before .before .before .args .n) (omega arith) (c .before .before .before .before .before .before .cut .result) (c .before .before .before .before .before .before .cut .ensures .0) (inr (c .before .before .before .parse-line .ensures .0 ∙ ap (λ (r : Line). toldLine r (take (c .before .before .before .before .before .before .before .before .before .before .args .n) (c .before .before .before .parse-line .last .1 .1 .1 .0))) (c .enum-told3 .given .1)))
+    let args = c .before .before .before .before .before .before .before .before .before .before .args in
+    let cut = c .before .before .before .before .before .before .cut in
+    let parse-line = c .before .before .before .parse-line in
+    once-wrong wholeField (args .text .now) (args .from) (args .tag .now) (args .n) (omega arith) (cut .result) (cut .ensures .0) (inr (parse-line .ensures .0 ∙ ap (λ (r : Line). toldLine r (take (args .n) (parse-line .last .1 .1 .1 .0))) (c .enum-told3 .given .1)))
 
 pub parse-one-spec : {M : Type 1} → statement M
 parse-one-spec =

@@ -91,7 +91,9 @@ same-length-2 : tie.Need-same-length-2 Inv-loop μ-loop
 same-length-2 c = search needs
 
 returns-2 : tie.Need-returns-2 Inv-loop μ-loop
-returns-2 c = rows-end wholeField (c .before .before .before .before .args .text .now) (c .before .before .before .before .args .from) (c .before .before .before .before .args .tag .now) (c .before .before .before .before .args .n) (c .before .loop .out) (c .before .loop .at) (c .before .loop .k) (c .before .loop .inv .2) (omega arith)
+returns-2 c =
+    let args = c .before .before .before .before .args in
+    rows-end wholeField (args .text .now) (args .from) (args .tag .now) (args .n) (c .before .loop .out) (c .before .loop .at) (c .before .loop .k) (c .before .loop .inv .2) (omega arith)
 
 same-length-3 : tie.Need-same-length-3 Inv-loop μ-loop
 same-length-3 c = search needs

@@ -33,7 +33,9 @@ same-length : tie.Need-same-length Inv-loop μ-loop
 same-length c = search needs
 
 returns : tie.Need-returns Inv-loop μ-loop
-returns c = (row-short wholeField (c .before .before .before .before .args .line .now) (c .before .before .before .before .args .p) (c .before .before .before .before .args .count) (c .before .before .loop .out) (c .before .before .before .before .args .at) (c .before .before .loop .from) (c .before .before .loop .i) (c .before .before .loop .inv .3) (omega arith) (omega arith), c .before .before .loop .inv .2)
+returns c =
+    let args = c .before .before .before .before .args in
+    (row-short wholeField (args .line .now) (args .p) (args .count) (c .before .before .loop .out) (args .at) (c .before .before .loop .from) (c .before .before .loop .i) (c .before .before .loop .inv .3) (omega arith) (omega arith), c .before .before .loop .inv .2)
 
 cut-requires : tie.Need-cut-requires Inv-loop μ-loop
 cut-requires c κs = search needs
@@ -69,7 +71,11 @@ same-length-2 : tie.Need-same-length-2 Inv-loop μ-loop
 same-length-2 c = search needs
 
 returns-2 : tie.Need-returns-2 Inv-loop μ-loop
-returns-2 c = (row-bad wholeField (c .before .before .before .before .before .before .before .before .before .args .line .now) (c .before .before .before .before .before .before .before .before .before .args .p) (c .before .before .before .before .before .before .before .before .before .args .count) (c .before .before .before .before .before .before .before .loop .out) (c .before .before .before .before .before .before .before .before .before .args .at) (c .before .before .before .before .before .before .before .loop .from) (c .before .before .before .before .before .before .before .loop .i) (c .before .before .before .before .before .before .before .loop .inv .3) (omega arith) (omega arith) (c .before .before .before .before .cut .result) (c .before .before .before .before .cut .ensures .0) (ap wholeGot (sym (c .enum-told .given .1) ∙ c .before .before .parse-whole .ensures)), c .before .before .before .before .before .before .before .loop .inv .2)
+returns-2 c =
+    let args = c .before .before .before .before .before .before .before .before .before .args in
+    let loop = c .before .before .before .before .before .before .before .loop in
+    let cut = c .before .before .before .before .cut in
+    (row-bad wholeField (args .line .now) (args .p) (args .count) (loop .out) (args .at) (loop .from) (loop .i) (loop .inv .3) (omega arith) (omega arith) (cut .result) (cut .ensures .0) (ap wholeGot (sym (c .enum-told .given .1) ∙ c .before .before .parse-whole .ensures)), loop .inv .2)
 
 add-from : tie.Need-add-from Inv-loop μ-loop
 add-from c = search needs
@@ -98,7 +104,9 @@ same-length-3 : tie.Need-same-length-3 Inv-loop μ-loop
 same-length-3 c = search needs
 
 returns-3 : tie.Need-returns-3 Inv-loop μ-loop
-returns-3 c = (row-end wholeField (c .before .before .before .args .line .now) (c .before .before .before .args .p) (c .before .before .before .args .count) (c .before .loop .out) (c .before .before .before .args .at) (c .before .loop .from) (c .before .loop .i) (c .before .loop .inv .3) (omega arith), c .before .loop .inv .2)
+returns-3 c =
+    let args = c .before .before .before .args in
+    (row-end wholeField (args .line .now) (args .p) (args .count) (c .before .loop .out) (args .at) (c .before .loop .from) (c .before .loop .i) (c .before .loop .inv .3) (omega arith), c .before .loop .inv .2)
 
 pub parse-wholes-spec : {M : Type 1} → statement M
 parse-wholes-spec =

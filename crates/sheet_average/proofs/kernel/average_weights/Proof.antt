@@ -39,8 +39,9 @@ loop-less c =
 
 loop-again : tie.Need-loop-again Inv-loop μ-loop
 loop-again c =
+    let loop = c .before .before .before .before .before .loop in
     let s : _ = c .before .before .before .before .before .before .before in
-    (search needs, c .before .before .average-channel .ensures ∙ channel-turn (s .args .z) (s .pre .0 .0) (s .args .degenerate-ids1 .now) (s .args .degenerate-ids2 .now) (s .pre .0 .1 .1) (s .args .t) (c .before .before .before .before .before .loop .c) (s .args .weights .now) (c .before .before .before .before .before .loop .weights) (s .pre .0 .1 .0) (s .pre .1 .0) (c .before .before .before .before .before .loop .inv .1))
+    (search needs, c .before .before .average-channel .ensures ∙ channel-turn (s .args .z) (s .pre .0 .0) (s .args .degenerate-ids1 .now) (s .args .degenerate-ids2 .now) (s .pre .0 .1 .1) (s .args .t) (loop .c) (s .args .weights .now) (loop .weights) (s .pre .0 .1 .0) (s .pre .1 .0) (loop .inv .1))
 
 same-length : tie.Need-same-length Inv-loop μ-loop
 same-length c =

@@ -59,27 +59,29 @@ average-weights-requires c κs =
 
 average-flags-requires : tie.Need-average-flags-requires
 average-flags-requires c κs =
+    let magnitude = c .before .before .before .before .before .magnitude in
     let s : _ = c .before .before .before .before .before .before .before .before .before .before .before .before .before .before .before in
     let y = s .pre .0 in
     let p = s .pre .1 in
     let o = rw (toZ-ofZ w64 (s .args .triplet) (s .fits .triplet)) at (c .before .before .before .before .before .before .before .average-first-no .ensures) in
     let e = sym o ∙ c .before .before .before .before .before .before .if1 .left in
-    let nt = c .before .before .before .before .before .magnitude .ensures ∙ ap mag (toZ-ofZ w64 (s .args .triplet) (s .fits .triplet)) in
-    let n = average-on (asked s) (start s) y p (s .args .triplet) (s .args .ids1 .now) (s .args .ids2 .now) e (c .before .before .before .before .before .magnitude .result) nt in
+    let nt = magnitude .ensures ∙ ap mag (toZ-ofZ w64 (s .args .triplet) (s .fits .triplet)) in
+    let n = average-on (asked s) (start s) y p (s .args .triplet) (s .args .ids1 .now) (s .args .ids2 .now) e (magnitude .result) nt in
     let l = long-yes (asked s) (start s) y p in
     (n .0, (l .1 .0, n .1))
 
 average-marks-requires : tie.Need-average-marks-requires
 average-marks-requires c κs =
+    let magnitude = c .before .before .before .before .before .before .before .before .magnitude in
     let s : _ = c .before .before .before .before .before .before .before .before .before .before .before .before .before .before .before .before .before .before in
     let y = s .pre .0 in
     let p = s .pre .1 in
     let o = rw (toZ-ofZ w64 (s .args .triplet) (s .fits .triplet)) at (c .before .before .before .before .before .before .before .before .before .before .average-first-no .ensures) in
     let e = sym o ∙ c .before .before .before .before .before .before .before .before .before .if1 .left in
-    let nt = c .before .before .before .before .before .before .before .before .magnitude .ensures ∙ ap mag (toZ-ofZ w64 (s .args .triplet) (s .fits .triplet)) in
-    let n = average-on (asked s) (start s) y p (s .args .triplet) (s .args .ids1 .now) (s .args .ids2 .now) e (c .before .before .before .before .before .before .before .before .magnitude .result) nt in
+    let nt = magnitude .ensures ∙ ap mag (toZ-ofZ w64 (s .args .triplet) (s .fits .triplet)) in
+    let n = average-on (asked s) (start s) y p (s .args .triplet) (s .args .ids1 .now) (s .args .ids2 .now) e (magnitude .result) nt in
     let l = long-yes (asked s) (start s) y p in
-    (n .0 .0 .pairs-some, average-place (asked s) (start s) y p (s .args .triplet) (s .args .ids1 .now) (s .args .ids2 .now) e (c .before .before .before .before .before .before .before .before .magnitude .result) nt)
+    (n .0 .0 .pairs-some, average-place (asked s) (start s) y p (s .args .triplet) (s .args .ids1 .now) (s .args .ids2 .now) e (magnitude .result) nt)
 
 same-length-3 : tie.Need-same-length-3
 same-length-3 c = search needs
@@ -92,13 +94,14 @@ same-length-5 c = search needs
 
 returns-2 : tie.Need-returns-2
 returns-2 c =
+    let magnitude = c .before .before .before .before .before .before .before .before .before .before .before .magnitude in
     let s : _ = c .before .before .before .before .before .before .before .before .before .before .before .before .before .before .before .before .before .before .before .before .before in
     let y = s .pre .0 in
     let p = s .pre .1 in
     let o = rw (toZ-ofZ w64 (s .args .triplet) (s .fits .triplet)) at (c .before .before .before .before .before .before .before .before .before .before .before .before .before .average-first-no .ensures) in
     let e = sym o ∙ c .before .before .before .before .before .before .before .before .before .before .before .before .if1 .left in
-    let nt = c .before .before .before .before .before .before .before .before .before .before .before .magnitude .ensures ∙ ap mag (toZ-ofZ w64 (s .args .triplet) (s .fits .triplet)) in
-    average-done (asked s) (start s) y p (s .args .triplet) (s .args .ids1 .now) (s .args .ids2 .now) e (c .before .before .before .before .before .before .before .before .before .before .before .magnitude .result) nt (c .before .before .before .before .before .before .before .before .before .average-weights .ensures) (c .before .before .before .before .before .average-flags .ensures) (c .before .before .average-marks .ensures)
+    let nt = magnitude .ensures ∙ ap mag (toZ-ofZ w64 (s .args .triplet) (s .fits .triplet)) in
+    average-done (asked s) (start s) y p (s .args .triplet) (s .args .ids1 .now) (s .args .ids2 .now) e (magnitude .result) nt (c .before .before .before .before .before .before .before .before .before .average-weights .ensures) (c .before .before .before .before .before .average-flags .ensures) (c .before .before .average-marks .ensures)
 
 pub average-asked-spec : {M : Type 1} → statement M
 average-asked-spec =

@@ -13,7 +13,9 @@ use Rattle.sheet_calls.proofs.kernel.one_turn.Tie as tie
 
 -- the numbers of the call
 kind : (c : tie.After-number4) → let s = c .before .before .before .before .before .before .before .before .before in toZ w64 (ofZ w64 (c .before .before .before .number .result)) ≡ numberAt (s .args .list .now) (s .args .i) 0
-kind c = back (c .before .before .before .number .result) (c .before .before .before .number .ok) ∙ c .before .before .before .number .ensures
+kind c =
+    let number = c .before .before .before .number in
+    back (number .result) (number .ok) ∙ number .ensures
 
 arg1 : (c : tie.After-number4) → let s = c .before .before .before .before .before .before .before .before .before in toZ w64 (ofZ w64 (c .before .before .number2 .result)) ≡ numberAt (s .args .list .now) (s .args .i) 1
 arg1 c = back (c .before .before .number2 .result) (c .before .before .number2 .ok) ∙ c .before .before .number2 .ensures
@@ -105,7 +107,9 @@ ids-from-requires-2 : tie.Need-ids-from-requires-2
 ids-from-requires-2 c κs = search needs
 
 average-asked-requires : tie.Need-average-asked-requires
-average-asked-requires c κs = (c .before .before .before .before .before .before .before .before .before .before .before .before .before .before .before .before .before .before .before .before .pre .1 .0 .0, c .before .before .before .before .before .before .before .before .before .before .before .before .before .before .before .before .before .before .before .before .pre .1 .0 .1 .counts)
+average-asked-requires c κs =
+    let pre = c .before .before .before .before .before .before .before .before .before .before .before .before .before .before .before .before .before .before .before .before .pre in
+    (pre .1 .0 .0, pre .1 .0 .1 .counts)
 
 same-length-7 : tie.Need-same-length-7
 same-length-7 c = search needs
@@ -118,11 +122,13 @@ same-length-9 c = search needs
 
 returns-3 : tie.Need-returns-3
 returns-3 c =
+    let ids-from = c .before .before .before .before .before .before .before .before .before .before .ids-from in
+    let ids-from2 = c .before .before .before .before .before .before .before .before .before .ids-from2 in
     let s : _ = c .before .before .before .before .before .before .before .before .before .before .before .before .before .before .before .before .before .before .before .before .before .before .before .before .before .before in
     let n : _ = (c .before .before .before .before .before .before .before .before .before .before .before .before .before .before .before .before .before) in
     let m : _ = (c .before .before .before .before .before .before .before .before .before .before .before) in
-    let i1 : c .before .before .before .before .before .before .before .before .before .before .ids-from .result .now ≡ idsFrom (s .args .ids .now) (numberAt (s .args .list .now) (s .args .i) 2) (numberAt (s .args .list .now) (s .args .i) 3) = c .before .before .before .before .before .before .before .before .before .before .ids-from .ensures ∙ (λ k. idsFrom (s .args .ids .now) (arg2 n k) (arg3 n k)) in
-    let i2 : c .before .before .before .before .before .before .before .before .before .ids-from2 .result .now ≡ idsFrom (s .args .ids .now) (numberAt (s .args .list .now) (s .args .i) 4) (numberAt (s .args .list .now) (s .args .i) 5) = c .before .before .before .before .before .before .before .before .before .ids-from2 .ensures ∙ (λ k. idsFrom (s .args .ids .now) (arg4 m k) (arg5 m k)) in
+    let i1 : ids-from .result .now ≡ idsFrom (s .args .ids .now) (numberAt (s .args .list .now) (s .args .i) 2) (numberAt (s .args .list .now) (s .args .i) 3) = ids-from .ensures ∙ (λ k. idsFrom (s .args .ids .now) (arg2 n k) (arg3 n k)) in
+    let i2 : ids-from2 .result .now ≡ idsFrom (s .args .ids .now) (numberAt (s .args .list .now) (s .args .i) 4) (numberAt (s .args .list .now) (s .args .i) 5) = ids-from2 .ensures ∙ (λ k. idsFrom (s .args .ids .now) (arg4 m k) (arg5 m k)) in
     (rw (call-average (s .args .list .now) (s .args .ids .now) (s .args .i) (sym (is-run (c .before .before .before .before .before .before .before .before .before .before .before .before .before .before .before .before)) ∙ c .before .before .before .before .before .before .before .before .before .before .before .before .before .before .before .if1 .left) (sym (is-carry (c .before .before .before .before .before .before .before .before .before .before .before .before .before .before)) ∙ c .before .before .before .before .before .before .before .before .before .before .before .before .before .if2 .left)) (rw (arg1 n, i1, i2) at (c .before .before .before .before .before .average-asked .ensures)), s .pre .1 .1)
 
 pub one-turn-spec : {M : Type 1} → statement M

@@ -38,10 +38,11 @@ same-length-3 c = search needs
 
 returns : tie.Need-returns
 returns c =
+    let common-first-no = c .before .before .before .before .before .before .before .before .before .common-first-no in
     let s : _ = c .before .before .before .before .before .before .before .before .before .before .before .before .before .before .before .before .before .before in
-    let n = c .before .before .before .before .before .before .before .before .before .common-first-no .result in
+    let n = common-first-no .result in
     let t = c .before .before .fill-with2 .ensures ∙ ap (λ (k : ℕ). replicate k (s .args .before)) (s .pre .1) in
-    (λ i. outcome (start s) (c .before .before .before .before .before .before .fill-with .ensures i) (t i)) ∙ outcome-refused (asked s) (start s) (s .args .list .now) (s .args .ids .now) (length (s .args .answers .now)) (s .pre .0) n (c .before .before .before .before .before .before .before .before .before .common-first-no .ensures) (c .before .before .before .before .before .before .before .before .if1 .taken)
+    (λ i. outcome (start s) (c .before .before .before .before .before .before .fill-with .ensures i) (t i)) ∙ outcome-refused (asked s) (start s) (s .args .list .now) (s .args .ids .now) (length (s .args .answers .now)) (s .pre .0) n (common-first-no .ensures) (c .before .before .before .before .before .before .before .before .if1 .taken)
 
 play-asked-requires : tie.Need-play-asked-requires
 play-asked-requires c κs =

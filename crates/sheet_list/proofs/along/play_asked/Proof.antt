@@ -75,8 +75,9 @@ same-length-5 c = search needs
 
 returns : tie.Need-returns
 returns c =
+    let sizes-of = c .before .before .before .before .before .before .before .before .before .before .before .before .before .before .before .before .before .sizes-of in
     let s : _ = c .before .before .before .before .before .before .before .before .before .before .before .before .before .before .before .before .before .before .before .before .before .before .before .before .before in
-    c .before .before .before .before .before .before .before .before .before .play-prepared .ensures ∙ ap (λ (g : Study). outcomeOf g (start s) (callsOf (s .args .list .now) (s .args .ids .now))) (study-shaped (asked s) (c .before .before .before .before .before .before .before .before .before .before .before .before .before .before .before .before .before .sizes-of .result) (c .before .before .before .before .before .before .before .before .before .before .before .before .before .before .before .before .before .sizes-of .ensures))
+    c .before .before .before .before .before .before .before .before .before .play-prepared .ensures ∙ ap (λ (g : Study). outcomeOf g (start s) (callsOf (s .args .list .now) (s .args .ids .now))) (study-shaped (asked s) (sizes-of .result) (sizes-of .ensures))
 
 pub play-asked-spec : {M : Type 1} → statement M
 play-asked-spec =

@@ -37,7 +37,9 @@ one-if-requires c κs =
 
 add-count : tie.Need-add-count Inv-loop μ-loop
 add-count c =
-    omega (arith, count-next (c .before .before .before .loop .i) (c .before .before .before .loop .count) (λ k. isZeroAt (c .before .before .before .before .args .flags .now) (c .before .before .before .before .args .start + k)) (c .before .before .before .loop .inv .1) (c .one-if .result) (c .one-if .ensures ∙ rw (c .before .is-zero-at .ensures)) .0)
+    let args = c .before .before .before .before .args in
+    let loop = c .before .before .before .loop in
+    omega (arith, count-next (loop .i) (loop .count) (λ k. isZeroAt (args .flags .now) (args .start + k)) (loop .inv .1) (c .one-if .result) (c .one-if .ensures ∙ rw (c .before .is-zero-at .ensures)) .0)
 
 add-i : tie.Need-add-i Inv-loop μ-loop
 add-i c =
@@ -49,7 +51,9 @@ loop-less c =
 
 loop-again : tie.Need-loop-again Inv-loop μ-loop
 loop-again c =
-    (omega arith, rw add-one (count-next (c .before .before .before .loop .i) (c .before .before .before .loop .count) (λ k. isZeroAt (c .before .before .before .before .args .flags .now) (c .before .before .before .before .args .start + k)) (c .before .before .before .loop .inv .1) (c .one-if .result) (c .one-if .ensures ∙ rw (c .before .is-zero-at .ensures)) .1))
+    let args = c .before .before .before .before .args in
+    let loop = c .before .before .before .loop in
+    (omega arith, rw add-one (count-next (loop .i) (loop .count) (λ k. isZeroAt (args .flags .now) (args .start + k)) (loop .inv .1) (c .one-if .result) (c .one-if .ensures ∙ rw (c .before .is-zero-at .ensures)) .1))
 
 returns : tie.Need-returns Inv-loop μ-loop
 unfolding zerosFrom

@@ -113,13 +113,14 @@ loop-less c =
 
 loop-again : tie.Need-loop-again Inv-loop μ-loop
 loop-again c =
+    let one-turn = c .before .before .before .before .before .one-turn in
     let s : _ = c .before .before .before .before .before .before .before .before .before .before .before .before .before .before .before .before .before .before .before .before .before .before in
     let l = c .before .before .before .before .before .before .before .before .before .before .before .before .before .before .loop in
     let v = l .inv in
     let at-i : l .i < length (s .args .answers .now) = omega (arith, v .4, c .before .before .before .before .before .before .before .before .before .before .before .before .before .loop-test .taken) in
     let x : Sheet = sheet (l .weights) (l .flags) (l .marks) (l .runs) in
-    let d = c .before .before .before .before .before .one-turn .ensures in
-    let k = c .before .before .before .before .before .one-turn .kept .1 .1 .1 .1 in (
+    let d = one-turn .ensures in
+    let k = one-turn .kept .1 .1 .1 .1 in (
       omega (arith, at-i),
       k .0 ∙ v .1,
       k .1 .0 ∙ v .2,
@@ -127,8 +128,8 @@ loop-again c =
       simp length-set (v .4),
       simp length-set (v .5),
       sheet-next (asked s) (start s) (call s) (l .i) x (v .6) (d .0),
-      rw (v .7) (front-next (numberAfter (asked s) (start s) (call s)) (s .args .answers .now) (l .i) (c .before .before .before .before .before .one-turn .result .no) at-i (number-next (asked s) (start s) (call s) (l .i) x (v .6) (d .0))),
-      rw (v .8) (front-next (tallyAfter (asked s) (start s) (call s)) (s .args .tallies .now) (l .i) (c .before .before .before .before .before .one-turn .result .runs) (omega (arith, at-i, s .pre .1 .1)) (tally-next (asked s) (start s) (call s) (l .i) x (v .6) (d .0))),
+      rw (v .7) (front-next (numberAfter (asked s) (start s) (call s)) (s .args .answers .now) (l .i) (one-turn .result .no) at-i (number-next (asked s) (start s) (call s) (l .i) x (v .6) (d .0))),
+      rw (v .8) (front-next (tallyAfter (asked s) (start s) (call s)) (s .args .tallies .now) (l .i) (one-turn .result .runs) (omega (arith, at-i, s .pre .1 .1)) (tally-next (asked s) (start s) (call s) (l .i) x (v .6) (d .0))),
       d .1,
     )
 

@@ -19,11 +19,13 @@ enum-known-number c = search needs
 
 returns : tie.Need-returns
 returns c =
-    count-done _ _ _ _ (sym (c .before .zeros .given .1) ∙ (c .before .before .before .open-count .ensures ∙ ap (openCountAnswer (c .before .before .before .before .args .counts) (c .before .before .before .before .args .flags .now)) (toZ-ofZ w64 (c .before .before .before .before .args .triplet) (c .before .before .before .before .fits .triplet))))
+    let args = c .before .before .before .before .args in
+    count-done _ _ _ _ (sym (c .before .zeros .given .1) ∙ (c .before .before .before .open-count .ensures ∙ ap (openCountAnswer (args .counts) (args .flags .now)) (toZ-ofZ w64 (args .triplet) (c .before .before .before .before .fits .triplet))))
 
 returns-2 : tie.Need-returns-2
 returns-2 c =
-    count-refused _ _ _ _ (sym (c .before .number .given .1) ∙ (c .before .before .before .open-count .ensures ∙ ap (openCountAnswer (c .before .before .before .before .args .counts) (c .before .before .before .before .args .flags .now)) (toZ-ofZ w64 (c .before .before .before .before .args .triplet) (c .before .before .before .before .fits .triplet))))
+    let args = c .before .before .before .before .args in
+    count-refused _ _ _ _ (sym (c .before .number .given .1) ∙ (c .before .before .before .open-count .ensures ∙ ap (openCountAnswer (args .counts) (args .flags .now)) (toZ-ofZ w64 (args .triplet) (c .before .before .before .before .fits .triplet))))
 
 pub open-count-spec : {M : Type 1} → statement M
 open-count-spec =

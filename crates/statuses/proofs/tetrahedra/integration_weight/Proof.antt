@@ -21,11 +21,13 @@ enum-known-number c = search needs
 
 returns : tie.Need-returns
 returns c =
-    weight-done _ _ _ _ (sym (c .before .w .given .1) ∙ c .before .before .before .integration-weight .ensures ∙ ap (λ (u : WeightFunction). integrationWeightAnswer (c .before .before .before .before .before .before .args .omega) (c .before .before .before .before .before .before .args .tetrahedra-omegas .now) u) (c .before .before .before .before .function-of .ensures))
+    let args = c .before .before .before .before .before .before .args in
+    weight-done _ _ _ _ (sym (c .before .w .given .1) ∙ c .before .before .before .integration-weight .ensures ∙ ap (λ (u : WeightFunction). integrationWeightAnswer (args .omega) (args .tetrahedra-omegas .now) u) (c .before .before .before .before .function-of .ensures))
 
 returns-2 : tie.Need-returns-2
 returns-2 c =
-    weight-refused _ _ _ _ (sym (c .before .number .given .1) ∙ c .before .before .before .integration-weight .ensures ∙ ap (λ (u : WeightFunction). integrationWeightAnswer (c .before .before .before .before .before .before .args .omega) (c .before .before .before .before .before .before .args .tetrahedra-omegas .now) u) (c .before .before .before .before .function-of .ensures))
+    let args = c .before .before .before .before .before .before .args in
+    weight-refused _ _ _ _ (sym (c .before .number .given .1) ∙ c .before .before .before .integration-weight .ensures ∙ ap (λ (u : WeightFunction). integrationWeightAnswer (args .omega) (args .tetrahedra-omegas .now) u) (c .before .before .before .before .function-of .ensures))
 
 pub integration-weight-spec : {M : Type 1} → statement M
 integration-weight-spec =

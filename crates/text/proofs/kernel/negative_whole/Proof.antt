@@ -21,16 +21,22 @@ cast-t8 : tie.Need-cast-t8
 cast-t8 c = search needs
 
 sub-t9 : tie.Need-sub-t9
-sub-t9 c = minus-fits (c .before .before .before .before .before .args .m) (c .before .before .before .m .given .0 .0) (c .before .before .before .m .given .1) (omega arith)
+sub-t9 c =
+    let m = c .before .before .before .m in
+    minus-fits (c .before .before .before .before .before .args .m) (m .given .0 .0) (m .given .1) (omega arith)
 
 enum-told : tie.Need-enum-told
 enum-told c = search needs
 
 returns-2 : tie.Need-returns-2
-returns-2 c = negative-in (c .before .before .before .before .before .args .m) (c .before .before .before .m .given .0 .0) (c .before .before .before .m .given .1) (c .before .if1 .left) (omega arith)
+returns-2 c =
+    let m = c .before .before .before .m in
+    negative-in (c .before .before .before .before .before .args .m) (m .given .0 .0) (m .given .1) (c .before .if1 .left) (omega arith)
 
 returns-3 : tie.Need-returns-3
-returns-3 c = negative-out (c .before .before .before .before .before .args .m) (c .before .before .before .m .given .0 .0) (c .before .before .before .m .given .1) (omega arith)
+returns-3 c =
+    let m = c .before .before .before .m in
+    negative-out (c .before .before .before .before .before .args .m) (m .given .0 .0) (m .given .1) (omega arith)
 
 returns-4 : tie.Need-returns-4
 returns-4 c = negative-bad (c .before .before .args .m) (c .enum-told .given .1)

@@ -25,7 +25,10 @@ digit-of-requires : tie.Need-digit-of-requires Inv-loop μ-loop
 digit-of-requires c κs = search needs
 
 returns : tie.Need-returns Inv-loop μ-loop
-returns c = sym (sym (c .before .before .before .before .loop .inv .2) ∙ value-bad (c .before .before .before .before .before .before .args .base) (c .before .before .before .before .before .before .args .limit) (c .before .before .before .before .before .before .args .s .now) (c .before .before .before .before .loop .i) (c .before .before .before .before .loop .n) (c .before .digit-of .result) (omega arith) (c .before .digit-of .ensures .0) (omega arith))
+returns c =
+    let args = c .before .before .before .before .before .before .args in
+    let loop = c .before .before .before .before .loop in
+    sym (sym (loop .inv .2) ∙ value-bad (args .base) (args .limit) (args .s .now) (loop .i) (loop .n) (c .before .digit-of .result) (omega arith) (c .before .digit-of .ensures .0) (omega arith))
 
 sub-most : tie.Need-sub-most Inv-loop μ-loop
 sub-most c = search needs
@@ -34,13 +37,20 @@ div-most : tie.Need-div-most Inv-loop μ-loop
 div-most c = search needs
 
 returns-2 : tie.Need-returns-2 Inv-loop μ-loop
-returns-2 c = sym (sym (c .before .before .before .before .before .loop .inv .2) ∙ value-over (c .before .before .before .before .before .before .before .args .base) (c .before .before .before .before .before .before .before .args .limit) (c .before .before .before .before .before .before .before .args .s .now) (c .before .before .before .before .before .loop .i) (c .before .before .before .before .before .loop .n) (c .before .before .digit-of .result) (omega arith) (c .before .before .digit-of .ensures .0) (omega arith) (omega arith) (omega arith))
+returns-2 c =
+    let args = c .before .before .before .before .before .before .before .args in
+    let loop = c .before .before .before .before .before .loop in
+    sym (sym (loop .inv .2) ∙ value-over (args .base) (args .limit) (args .s .now) (loop .i) (loop .n) (c .before .before .digit-of .result) (omega arith) (c .before .before .digit-of .ensures .0) (omega arith) (omega arith) (omega arith))
 
 mul-n : tie.Need-mul-n Inv-loop μ-loop
-mul-n c = record { fits = omega (arith, within (c .before .before .before .before .before .before .before .args .base) (c .before .before .before .before .before .before .before .args .limit) (c .before .before .before .before .before .loop .n) (c .before .before .digit-of .result) (omega arith) (omega arith) (omega arith)) }
+mul-n c =
+    let args = c .before .before .before .before .before .before .before .args in
+    record { fits = omega (arith, within (args .base) (args .limit) (c .before .before .before .before .before .loop .n) (c .before .before .digit-of .result) (omega arith) (omega arith) (omega arith)) }
 
 add-n : tie.Need-add-n Inv-loop μ-loop
-add-n c = record { fits = omega (arith, within (c .before .before .before .before .before .before .before .args .base) (c .before .before .before .before .before .before .before .args .limit) (c .before .before .before .before .before .loop .n) (c .before .before .digit-of .result) (omega arith) (omega arith) (omega arith)) }
+add-n c =
+    let args = c .before .before .before .before .before .before .before .args in
+    record { fits = omega (arith, within (args .base) (args .limit) (c .before .before .before .before .before .loop .n) (c .before .before .digit-of .result) (omega arith) (omega arith) (omega arith)) }
 
 add-i : tie.Need-add-i Inv-loop μ-loop
 add-i c = search needs
@@ -49,10 +59,15 @@ loop-less : tie.Need-loop-less Inv-loop μ-loop
 loop-less c = search needs
 
 loop-again : tie.Need-loop-again Inv-loop μ-loop
-loop-again c = (omega arith, within (c .before .before .before .before .before .before .before .args .base) (c .before .before .before .before .before .before .before .args .limit) (c .before .before .before .before .before .loop .n) (c .before .before .digit-of .result) (omega arith) (omega arith) (omega arith), sym (value-step (c .before .before .before .before .before .before .before .args .base) (c .before .before .before .before .before .before .before .args .limit) (c .before .before .before .before .before .before .before .args .s .now) (c .before .before .before .before .before .loop .i) (c .before .before .before .before .before .loop .n) (c .before .before .digit-of .result) (omega arith) (c .before .before .digit-of .ensures .0) (omega arith)) ∙ c .before .before .before .before .before .loop .inv .2)
+loop-again c =
+    let args = c .before .before .before .before .before .before .before .args in
+    let loop = c .before .before .before .before .before .loop in
+    (omega arith, within (args .base) (args .limit) (loop .n) (c .before .before .digit-of .result) (omega arith) (omega arith) (omega arith), sym (value-step (args .base) (args .limit) (args .s .now) (loop .i) (loop .n) (c .before .before .digit-of .result) (omega arith) (c .before .before .digit-of .ensures .0) (omega arith)) ∙ loop .inv .2)
 
 returns-3 : tie.Need-returns-3 Inv-loop μ-loop
-returns-3 c = value-end (c .before .before .before .args .base) (c .before .before .before .args .limit) (c .before .before .before .args .s .now) (c .before .loop .i) (c .before .loop .n) (omega arith) (omega arith) ∙ c .before .loop .inv .2
+returns-3 c =
+    let args = c .before .before .before .args in
+    value-end (args .base) (args .limit) (args .s .now) (c .before .loop .i) (c .before .loop .n) (omega arith) (omega arith) ∙ c .before .loop .inv .2
 
 pub parse-digits-spec : {M : Type 1} → statement M
 parse-digits-spec =

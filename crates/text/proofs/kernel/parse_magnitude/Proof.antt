@@ -21,9 +21,10 @@ parse-digits-requires c κs = search needs
 
 returns-3 : tie.Need-returns-3
 returns-3 c =
+    let args = c .before .before .before .before .args in
     c .parse-digits .ensures
-    ∙ ⊎-elim (λ w. magnitude-more (c .before .before .before .before .args .s .now) (omega arith) (w .2 .left))
-    (λ w. magnitude-one (c .before .before .before .before .args .s .now) (c .before .before .if1 .left) (omega arith))
+    ∙ ⊎-elim (λ w. magnitude-more (args .s .now) (omega arith) (w .2 .left))
+    (λ w. magnitude-one (args .s .now) (c .before .before .if1 .left) (omega arith))
     (c .before .if2 .came)
 
 pub parse-magnitude-spec : {M : Type 1} → statement M

@@ -28,7 +28,9 @@ negative-whole-requires : tie.Need-negative-whole-requires
 negative-whole-requires c κs = search needs
 
 returns-2 : tie.Need-returns-2
-returns-2 c = c .negative-whole .ensures ∙ (ap negative (c .before .parse-magnitude .ensures ∙ ap (magnitude) (part-from (c .before .before .before .before .before .before .before .args .s .now) 1)) ∙ whole-negative (c .before .before .before .before .before .before .before .args .s .now) (c .before .before .before .if2 .taken))
+returns-2 c =
+    let args = c .before .before .before .before .before .before .before .args in
+    c .negative-whole .ensures ∙ (ap negative (c .before .parse-magnitude .ensures ∙ ap (magnitude) (part-from (args .s .now) 1)) ∙ whole-negative (args .s .now) (c .before .before .before .if2 .taken))
 
 parse-magnitude-requires-2 : tie.Need-parse-magnitude-requires-2
 parse-magnitude-requires-2 c κs = search needs

@@ -27,7 +27,9 @@ returns-2 c =
 
 length-ok-requires : tie.Need-length-ok-requires
 length-ok-requires c κs =
-    omega (arith, rows-whole (c .before .before .before .before .args .relative-grid-address .now) (yes-of (c .before .before .before .table-ok .ensures) (c .before .before .if1 .left)), table-some (c .before .before .before .before .args .relative-grid-address .now) (yes-of (c .before .before .before .table-ok .ensures) (c .before .before .if1 .left)))
+    let args = c .before .before .before .before .args in
+    let table-ok = c .before .before .before .table-ok in
+    omega (arith, rows-whole (args .relative-grid-address .now) (yes-of (table-ok .ensures) (c .before .before .if1 .left)), table-some (args .relative-grid-address .now) (yes-of (table-ok .ensures) (c .before .before .if1 .left)))
 
 returns-3 : tie.Need-returns-3
 unfolding firstNo

@@ -36,7 +36,8 @@ same-length c = search needs
 
 returns : tie.Need-returns
 returns c =
-    let s : _ = c .before .before .before .before .before .before in copies-are (s .args .table .now) (s .args .out .now) (s .args .negated) (c .before .before .before .before .fill-copy .last .0) (c .before .fill-copy2 .last .0) (s .pre .1) (c .before .before .before .before .fill-copy .ensures) (c .before .fill-copy2 .ensures)
+    let fill-copy = c .before .before .before .before .fill-copy in
+    let s : _ = c .before .before .before .before .before .before in copies-are (s .args .table .now) (s .args .out .now) (s .args .negated) (fill-copy .last .0) (c .before .fill-copy2 .last .0) (s .pre .1) (fill-copy .ensures) (c .before .fill-copy2 .ensures)
 
 pub fill-copies-spec : {M : Type 1} → statement M
 fill-copies-spec =

@@ -38,7 +38,8 @@ mul-a c = search needs
 
 array-write-a : tie.Need-array-write-a Inv-loop μ-loop
 array-write-a c =
-    let l : _ = c .before .before .loop in omega (arith, ap length (l .inv .1) ∙ length-area 384 (entry (c .before .before .before .args .grid) (c .before .before .before .args .addresses .now) (c .before .before .before .args .gp-map .now) (c .before .before .before .args .steps .now) (c .before .before .before .args .g)) 0 (l .j) (omega arith), c .before .before .before .pre .1 .1 .1)
+    let args = c .before .before .before .args in
+    let l : _ = c .before .before .loop in omega (arith, ap length (l .inv .1) ∙ length-area 384 (entry (args .grid) (args .addresses .now) (args .gp-map .now) (args .steps .now) (args .g)) 0 (l .j) (omega arith), c .before .before .before .pre .1 .1 .1)
 
 add-j : tie.Need-add-j Inv-loop μ-loop
 add-j c = search needs
@@ -48,7 +49,8 @@ loop-less c = search needs
 
 loop-again : tie.Need-loop-again Inv-loop μ-loop
 loop-again c =
-    let l : _ = c .before .before .loop in (search needs, rw (l .inv .1) (area-next 384 (entry (c .before .before .before .args .grid) (c .before .before .before .args .addresses .now) (c .before .before .before .args .gp-map .now) (c .before .before .before .args .steps .now) (c .before .before .before .args .g)) 0 (l .j) _ (omega (arith, c .before .before .before .pre .1 .1 .1)) (c .neighbour .ensures)))
+    let args = c .before .before .before .args in
+    let l : _ = c .before .before .loop in (search needs, rw (l .inv .1) (area-next 384 (entry (args .grid) (args .addresses .now) (args .gp-map .now) (args .steps .now) (args .g)) 0 (l .j) _ (omega (arith, c .before .before .before .pre .1 .1 .1)) (c .neighbour .ensures)))
 
 returns : tie.Need-returns Inv-loop μ-loop
 unfolding cornerNumbers

@@ -45,20 +45,23 @@ lengths-ok-requires c κs =
 
 returns-2 : tie.Need-returns-2
 returns-2 c =
+    let study-first-no = c .before .before .before .before .study-first-no in
     let s : _ = c .before .before .before .before .before .before .before .before .before in
     let w : ℕ = length (s .args .weights .now) in
     let f : ℕ = length (s .args .flags .now) in
     let a : Study = asked s in
-    let e : _ = refused-length a w f (c .before .before .before .before .study-first-no .result) (c .before .before .before .before .study-first-no .ensures) (c .before .before .before .if1 .left) (c .before .before .sizes-of .result) (c .before .before .sizes-of .ensures) (no-of (c .before .lengths-ok .ensures) (c .if2 .taken)) in
+    let e : _ = refused-length a w f (study-first-no .result) (study-first-no .ensures) (c .before .before .before .if1 .left) (c .before .before .sizes-of .result) (c .before .before .sizes-of .ensures) (no-of (c .before .lengths-ok .ensures) (c .if2 .taken)) in
     (refused-is _ _ e length-some, (kept _ _ _ _ e length-some, kept _ _ _ _ e length-some))
 
 fill-triplets-requires : tie.Need-fill-triplets-requires
 fill-triplets-requires c κs =
+    let study-first-no = c .before .before .before .before .before .before .study-first-no in
+    let sizes-of = c .before .before .before .before .sizes-of in
     let s : _ = c .before .before .before .before .before .before .before .before .before .before .before in
     let w : ℕ = length (s .args .weights .now) in
     let f : ℕ = length (s .args .flags .now) in
     let a : Study = asked s in
-    study-ready a w f (c .before .before .before .before .before .before .study-first-no .result) (c .before .before .before .before .before .before .study-first-no .ensures) (c .before .before .before .before .before .if1 .left) (c .before .before .before .before .sizes-of .result) (c .before .before .before .before .sizes-of .ensures) (yes-of (c .before .before .before .lengths-ok .ensures) (c .before .before .if2 .left))
+    study-ready a w f (study-first-no .result) (study-first-no .ensures) (c .before .before .before .before .before .if1 .left) (sizes-of .result) (sizes-of .ensures) (yes-of (c .before .before .before .lengths-ok .ensures) (c .before .before .if2 .left))
 
 same-length : tie.Need-same-length
 same-length c = search needs
@@ -68,13 +71,16 @@ same-length-2 c = search needs
 
 returns-3 : tie.Need-returns-3
 returns-3 c =
+    let study-first-no = c .before .before .before .before .before .before .before .before .before .before .study-first-no in
+    let sizes-of = c .before .before .before .before .before .before .before .before .sizes-of in
+    let fill-triplets = c .before .before .before .fill-triplets in
     let s : _ = c .before .before .before .before .before .before .before .before .before .before .before .before .before .before .before in
     let w : ℕ = length (s .args .weights .now) in
     let f : ℕ = length (s .args .flags .now) in
     let a : Study = asked s in
-    let e : _ = all-yes-12 a w f (c .before .before .before .before .before .before .before .before .before .before .study-first-no .result) (c .before .before .before .before .before .before .before .before .before .before .study-first-no .ensures) (c .before .before .before .before .before .before .before .before .before .if1 .left) (c .before .before .before .before .before .before .before .before .sizes-of .result) (c .before .before .before .before .before .before .before .before .sizes-of .ensures) (yes-of (c .before .before .before .before .before .before .before .lengths-ok .ensures) (c .before .before .before .before .before .before .if2 .left)) in
-    let g : _ = study-shaped a (c .before .before .before .before .before .before .before .before .sizes-of .result) (c .before .before .before .before .before .before .before .before .sizes-of .ensures) in
-    (done-is _ e, (c .before .before .before .fill-triplets .ensures .0 ∙ ap allWeights g ∙ after-done _ _ _ e, c .before .before .before .fill-triplets .ensures .1 ∙ ap allFlags g ∙ after-done _ _ _ e))
+    let e : _ = all-yes-12 a w f (study-first-no .result) (study-first-no .ensures) (c .before .before .before .before .before .before .before .before .before .if1 .left) (sizes-of .result) (sizes-of .ensures) (yes-of (c .before .before .before .before .before .before .before .lengths-ok .ensures) (c .before .before .before .before .before .before .if2 .left)) in
+    let g : _ = study-shaped a (sizes-of .result) (sizes-of .ensures) in
+    (done-is _ e, (fill-triplets .ensures .0 ∙ ap allWeights g ∙ after-done _ _ _ e, fill-triplets .ensures .1 ∙ ap allFlags g ∙ after-done _ _ _ e))
 
 pub fill-study-spec : {M : Type 1} → statement M
 fill-study-spec = tie.close (tie.spec study-first-no-requires returns sizes-of-requires lengths-ok-requires returns-2 fill-triplets-requires same-length same-length-2 returns-3)

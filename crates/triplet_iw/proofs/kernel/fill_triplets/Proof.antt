@@ -44,8 +44,9 @@ array-share-prefix-second c =
 
 slice-aggregate-fill-triplet : tie.Need-slice-aggregate-fill-triplet Inv-loop μ-loop
 slice-aggregate-fill-triplet c =
+    let second-steps = c .before .before .before .before .before .second-steps in
     let s : _ = c .before .before .before .before .before .before .before .before .before .before in
-    sym (ap length (second-lent (s .args .z .tp) (s .args .steps .now) (c .before .before .before .before .before .second-steps .result) (c .before .before .before .before .before .second-steps .ensures)) ∙ second-length (s .args .z .tp) (s .args .steps .now))
+    sym (ap length (second-lent (s .args .z .tp) (s .args .steps .now) (second-steps .result) (second-steps .ensures)) ∙ second-length (s .args .z .tp) (s .args .steps .now))
 
 fill-triplet-requires : tie.Need-fill-triplet-requires Inv-loop μ-loop
 fill-triplet-requires c κs =
@@ -63,8 +64,9 @@ loop-less c = search needs
 
 loop-again : tie.Need-loop-again Inv-loop μ-loop
 loop-again c =
+    let loop = c .before .before .before .before .before .before .before .before .loop in
     let s : _ = c .before .before .before .before .before .before .before .before .before .before .before .before .before .before in
-    (search needs, triplets-more (studied s) (s .args .z .pairs) (c .before .before .before .before .before .before .before .before .loop .t) (c .before .before .before .before .before .before .before .before .loop .inv .1) (c .before .before .before .fill-triplet .ensures))
+    (search needs, triplets-more (studied s) (s .args .z .pairs) (loop .t) (loop .inv .1) (c .before .before .before .fill-triplet .ensures))
 
 same-length : tie.Need-same-length Inv-loop μ-loop
 same-length c =

@@ -30,17 +30,20 @@ enum-told-3 c = search needs
 returns : tie.Need-returns
 unfolding outputsBy
 returns c =
-    rw (toZ-ofZ w8 (c .before .before .before .before .before .flag-of .result) (record { sfits = c .before .before .before .before .before .flag-of .ok })) (simp (c .enum-told .given .1, c .before .before .before .before .before .flag-of .ensures, c .before .before .before .before .value-of .ensures, c .before .before .before .value-of2 .ensures, c .before .before .value-of3 .ensures))
+    let flag-of = c .before .before .before .before .before .flag-of in
+    rw (toZ-ofZ w8 (flag-of .result) (record { sfits = flag-of .ok })) (simp (c .enum-told .given .1, flag-of .ensures, c .before .before .before .before .value-of .ensures, c .before .before .before .value-of2 .ensures, c .before .before .value-of3 .ensures))
 
 returns-2 : tie.Need-returns-2
 unfolding outputsBy
 returns-2 c =
-    rw (toZ-ofZ w8 (c .before .before .before .before .before .flag-of .result) (record { sfits = c .before .before .before .before .before .flag-of .ok })) (simp (c .enum-told2 .given .1, c .before .before .before .before .before .flag-of .ensures, c .before .before .before .before .value-of .ensures, c .before .before .before .value-of2 .ensures, c .before .before .value-of3 .ensures))
+    let flag-of = c .before .before .before .before .before .flag-of in
+    rw (toZ-ofZ w8 (flag-of .result) (record { sfits = flag-of .ok })) (simp (c .enum-told2 .given .1, flag-of .ensures, c .before .before .before .before .value-of .ensures, c .before .before .before .value-of2 .ensures, c .before .before .value-of3 .ensures))
 
 returns-3 : tie.Need-returns-3
 unfolding outputsBy
 returns-3 c =
-    rw (toZ-ofZ w8 (c .before .before .before .before .before .flag-of .result) (record { sfits = c .before .before .before .before .before .flag-of .ok })) (simp (c .enum-told3 .given .1, c .before .before .before .before .before .flag-of .ensures, c .before .before .before .before .value-of .ensures, c .before .before .before .value-of2 .ensures, c .before .before .value-of3 .ensures))
+    let flag-of = c .before .before .before .before .before .flag-of in
+    rw (toZ-ofZ w8 (flag-of .result) (record { sfits = flag-of .ok })) (simp (c .enum-told3 .given .1, flag-of .ensures, c .before .before .before .before .value-of .ensures, c .before .before .before .value-of2 .ensures, c .before .before .value-of3 .ensures))
 
 pub combine-outputs-spec : {M : Type 1} → statement M
 combine-outputs-spec =

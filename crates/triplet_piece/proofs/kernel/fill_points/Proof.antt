@@ -109,29 +109,32 @@ outputs-at-requires c κs =
 
 put-weights-requires : tie.Need-put-weights-requires Inv-loop μ-loop
 put-weights-requires c κs =
+    let loop = c .before .before .before .before .before .before .before .before .before .before .loop in
     let s : _ = c .before .before .before .before .before .before .before .before .before .before .before .before .before in
-    let hx : c .before .before .before .before .before .before .before .before .before .before .loop .x < s .args .z .points = omega arith in
-    let ci : _ = cell-in (s .args .z) (s .pre .0) (s .args .t) (s .args .pair) (c .before .before .before .before .before .before .before .before .before .before .loop .x) (s .pre .1 .1 .0) (s .pre .1 .1 .1) hx in
-    let ri : _ = row-in (s .args .z) (s .pre .0) (s .args .t) (s .args .pair) (c .before .before .before .before .before .before .before .before .before .before .loop .x) (s .pre .1 .1 .0) (s .pre .1 .1 .1) hx in
-    let lw : length (c .before .before .before .before .before .before .before .before .before .before .loop .weights) ≡ length (s .args .weights .now) = ap length (c .before .before .before .before .before .before .before .before .before .before .loop .inv .1 .0) ∙ length-some (s .args .z) (s .args .t * s .args .z .pairs + s .args .pair) (outs s) (c .before .before .before .before .before .before .before .before .before .before .loop .x) (s .args .weights .now) in
+    let hx : loop .x < s .args .z .points = omega arith in
+    let ci : _ = cell-in (s .args .z) (s .pre .0) (s .args .t) (s .args .pair) (loop .x) (s .pre .1 .1 .0) (s .pre .1 .1 .1) hx in
+    let ri : _ = row-in (s .args .z) (s .pre .0) (s .args .t) (s .args .pair) (loop .x) (s .pre .1 .1 .0) (s .pre .1 .1 .1) hx in
+    let lw : length (loop .weights) ≡ length (s .args .weights .now) = ap length (loop .inv .1 .0) ∙ length-some (s .args .z) (s .args .t * s .args .z .pairs + s .args .pair) (outs s) (loop .x) (s .args .weights .now) in
     (ci, lw ∙ s .pre .1 .0 .weighed)
 
 slice-set-from-flag : tie.Need-slice-set-from-flag Inv-loop μ-loop
 slice-set-from-flag c =
+    let loop = c .before .before .before .before .before .before .before .before .before .before .before .before .before .before .loop in
     let s : _ = c .before .before .before .before .before .before .before .before .before .before .before .before .before .before .before .before .before in
-    let hx : c .before .before .before .before .before .before .before .before .before .before .before .before .before .before .loop .x < s .args .z .points = omega (arith, c .before .before .before .before .before .before .before .before .before .before .before .before .before .loop-test .taken) in
-    let ci : _ = cell-in (s .args .z) (s .pre .0) (s .args .t) (s .args .pair) (c .before .before .before .before .before .before .before .before .before .before .before .before .before .before .loop .x) (s .pre .1 .1 .0) (s .pre .1 .1 .1) hx in
-    let ri : _ = row-in (s .args .z) (s .pre .0) (s .args .t) (s .args .pair) (c .before .before .before .before .before .before .before .before .before .before .before .before .before .before .loop .x) (s .pre .1 .1 .0) (s .pre .1 .1 .1) hx in
-    let lf : length (c .before .before .before .before .before .before .before .before .before .before .before .before .before .before .loop .flags) ≡ length (s .args .flags .now) = ap length (c .before .before .before .before .before .before .before .before .before .before .before .before .before .before .loop .inv .1 .1) ∙ length-some-flags (s .args .z) (s .args .t * s .args .z .pairs + s .args .pair) (outs s) (c .before .before .before .before .before .before .before .before .before .before .before .before .before .before .loop .x) (s .args .flags .now) in
+    let hx : loop .x < s .args .z .points = omega (arith, c .before .before .before .before .before .before .before .before .before .before .before .before .before .loop-test .taken) in
+    let ci : _ = cell-in (s .args .z) (s .pre .0) (s .args .t) (s .args .pair) (loop .x) (s .pre .1 .1 .0) (s .pre .1 .1 .1) hx in
+    let ri : _ = row-in (s .args .z) (s .pre .0) (s .args .t) (s .args .pair) (loop .x) (s .pre .1 .1 .0) (s .pre .1 .1 .1) hx in
+    let lf : length (loop .flags) ≡ length (s .args .flags .now) = ap length (loop .inv .1 .1) ∙ length-some-flags (s .args .z) (s .args .t * s .args .z .pairs + s .args .pair) (outs s) (loop .x) (s .args .flags .now) in
     omega (arith, s .pre .1 .0 .pointed, s .pre .1 .0 .weighed, s .pre .1 .0 .flagged, s .pre .0 .cells-are, s .good)
 
 add-x : tie.Need-add-x Inv-loop μ-loop
 add-x c =
+    let loop = c .before .before .before .before .before .before .before .before .before .before .before .before .before .before .loop in
     let s : _ = c .before .before .before .before .before .before .before .before .before .before .before .before .before .before .before .before .before in
-    let hx : c .before .before .before .before .before .before .before .before .before .before .before .before .before .before .loop .x < s .args .z .points = omega (arith, c .before .before .before .before .before .before .before .before .before .before .before .before .before .loop-test .taken) in
-    let ci : _ = cell-in (s .args .z) (s .pre .0) (s .args .t) (s .args .pair) (c .before .before .before .before .before .before .before .before .before .before .before .before .before .before .loop .x) (s .pre .1 .1 .0) (s .pre .1 .1 .1) hx in
-    let ri : _ = row-in (s .args .z) (s .pre .0) (s .args .t) (s .args .pair) (c .before .before .before .before .before .before .before .before .before .before .before .before .before .before .loop .x) (s .pre .1 .1 .0) (s .pre .1 .1 .1) hx in
-    let lf : length (c .before .before .before .before .before .before .before .before .before .before .before .before .before .before .loop .flags) ≡ length (s .args .flags .now) = ap length (c .before .before .before .before .before .before .before .before .before .before .before .before .before .before .loop .inv .1 .1) ∙ length-some-flags (s .args .z) (s .args .t * s .args .z .pairs + s .args .pair) (outs s) (c .before .before .before .before .before .before .before .before .before .before .before .before .before .before .loop .x) (s .args .flags .now) in
+    let hx : loop .x < s .args .z .points = omega (arith, c .before .before .before .before .before .before .before .before .before .before .before .before .before .loop-test .taken) in
+    let ci : _ = cell-in (s .args .z) (s .pre .0) (s .args .t) (s .args .pair) (loop .x) (s .pre .1 .1 .0) (s .pre .1 .1 .1) hx in
+    let ri : _ = row-in (s .args .z) (s .pre .0) (s .args .t) (s .args .pair) (loop .x) (s .pre .1 .1 .0) (s .pre .1 .1 .1) hx in
+    let lf : length (loop .flags) ≡ length (s .args .flags .now) = ap length (loop .inv .1 .1) ∙ length-some-flags (s .args .z) (s .args .t * s .args .z .pairs + s .args .pair) (outs s) (loop .x) (s .args .flags .now) in
     omega (arith, s .pre .1 .0 .pointed, s .pre .1 .0 .weighed, s .pre .1 .0 .flagged, s .pre .0 .cells-are, s .good)
 
 loop-less : tie.Need-loop-less Inv-loop μ-loop
@@ -139,9 +142,11 @@ loop-less c = search needs
 
 loop-again : tie.Need-loop-again Inv-loop μ-loop
 loop-again c =
+    let loop = c .before .before .before .before .before .before .before .before .before .before .before .before .before .before .loop in
+    let outputs-at = c .before .before .before .before .before .outputs-at in
     let s : _ = c .before .before .before .before .before .before .before .before .before .before .before .before .before .before .before .before .before in
-    let hx : c .before .before .before .before .before .before .before .before .before .before .before .before .before .before .loop .x < s .args .z .points = omega (arith, c .before .before .before .before .before .before .before .before .before .before .before .before .before .loop-test .taken) in
-    (search needs, (c .before .before .before .put-weights .ensures ∙ rw (c .before .before .before .before .before .before .before .before .before .before .before .before .before .before .loop .inv .1 .0) (weights-more (s .args .z) (outs s) (s .args .t) (s .args .pair) (c .before .before .before .before .before .before .before .before .before .before .before .before .before .before .loop .x) (s .pre .1 .1 .1) hx (s .args .weights .now) (c .before .before .before .before .before .outputs-at .result) (sym (c .before .before .before .before .before .outputs-at .ensures))), rw (c .before .before .before .before .before .before .before .before .before .before .before .before .before .before .loop .inv .1 .1) (flags-more (s .args .z) (outs s) (s .args .t) (s .args .pair) (c .before .before .before .before .before .before .before .before .before .before .before .before .before .before .loop .x) (s .pre .1 .1 .1) hx (s .args .flags .now) _ (sym ((let h : SFits w8 (c .before .before .before .before .before .outputs-at .result .flag) = search needs in toZ-ofZ w8 (c .before .before .before .before .before .outputs-at .result .flag) h) ∙ ap (λ (o : Outputs). o .flag) (c .before .before .before .before .before .outputs-at .ensures))))))
+    let hx : loop .x < s .args .z .points = omega (arith, c .before .before .before .before .before .before .before .before .before .before .before .before .before .loop-test .taken) in
+    (search needs, (c .before .before .before .put-weights .ensures ∙ rw (loop .inv .1 .0) (weights-more (s .args .z) (outs s) (s .args .t) (s .args .pair) (loop .x) (s .pre .1 .1 .1) hx (s .args .weights .now) (outputs-at .result) (sym (outputs-at .ensures))), rw (loop .inv .1 .1) (flags-more (s .args .z) (outs s) (s .args .t) (s .args .pair) (loop .x) (s .pre .1 .1 .1) hx (s .args .flags .now) _ (sym ((let h : SFits w8 (outputs-at .result .flag) = search needs in toZ-ofZ w8 (outputs-at .result .flag) h) ∙ ap (λ (o : Outputs). o .flag) (outputs-at .ensures))))))
 
 same-length : tie.Need-same-length Inv-loop μ-loop
 same-length c =

@@ -54,7 +54,8 @@ loop-less c = search needs
 loop-again : tie.Need-loop-again Inv-loop μ-loop
 unfolding leastOf greatestOf
 loop-again c =
-    (search needs, (simp (add-one, c .before .before .before .before .before .loop .inv .1 .0, c .before .before .lesser-of .ensures), simp (add-one, c .before .before .before .before .before .loop .inv .1 .1, c .greater-of .ensures)))
+    let loop = c .before .before .before .before .before .loop in
+    (search needs, (simp (add-one, loop .inv .1 .0, c .before .before .lesser-of .ensures), simp (add-one, loop .inv .1 .1, c .greater-of .ensures)))
 
 returns : tie.Need-returns Inv-loop μ-loop
 unfolding boxOf

@@ -57,7 +57,8 @@ loop-less c = search needs
 
 loop-again : tie.Need-loop-again Inv-loop μ-loop
 loop-again c =
-    let l : _ = c .before .before .before .before .loop in (search needs, (length-set (l .a) (l .i) (c .combine .result) ∙ l .inv .1 .0, stored (entry (c .before .before .before .before .before .args .channel) (c .before .before .before .before .before .args .f1 .now) (c .before .before .before .before .before .args .f2 .now)) (l .a) (l .i) (c .combine .result) (omega (arith, l .inv .1 .0)) (l .inv .1 .1) (c .combine .ensures)))
+    let args = c .before .before .before .before .before .args in
+    let l : _ = c .before .before .before .before .loop in (search needs, (length-set (l .a) (l .i) (c .combine .result) ∙ l .inv .1 .0, stored (entry (args .channel) (args .f1 .now) (args .f2 .now)) (l .a) (l .i) (c .combine .result) (omega (arith, l .inv .1 .0)) (l .inv .1 .1) (c .combine .ensures)))
 
 returns : tie.Need-returns Inv-loop μ-loop
 unfolding channelValues

@@ -68,12 +68,14 @@ loop-less c = search needs
 
 loop-again : tie.Need-loop-again Inv-loop μ-loop
 loop-again c =
-    let l : _ = c .before .before .before .before .loop in (search needs, (length-set (l .a) (l .i) (c .corner-frequency .result) ∙ l .inv .1 .0, stored (entry (c .before .before .before .before .before .before .args .tp) (c .before .before .before .before .before .before .args .numbers .now) (c .before .before .before .before .before .before .args .frequencies .now) (c .before .before .before .before .before .before .args .bands) (c .before .before .before .before .before .before .args .band)) (l .a) (l .i) (c .corner-frequency .result) (omega (arith, l .inv .1 .0)) (l .inv .1 .1) (c .corner-frequency .ensures)))
+    let args = c .before .before .before .before .before .before .args in
+    let l : _ = c .before .before .before .before .loop in (search needs, (length-set (l .a) (l .i) (c .corner-frequency .result) ∙ l .inv .1 .0, stored (entry (args .tp) (args .numbers .now) (args .frequencies .now) (args .bands) (args .band)) (l .a) (l .i) (c .corner-frequency .result) (omega (arith, l .inv .1 .0)) (l .inv .1 .1) (c .corner-frequency .ensures)))
 
 returns : tie.Need-returns Inv-loop μ-loop
 unfolding cornerFrequencies
 returns c =
-    let l : _ = c .before .loop in record { size = l .inv .1 .0; same = λ i h. l .inv .1 .1 i (omega arith) ∙ sym (tabulate-at (c .before .before .before .args .n) (entry (c .before .before .before .args .tp) (c .before .before .before .args .numbers .now) (c .before .before .before .args .frequencies .now) (c .before .before .before .args .bands) (c .before .before .before .args .band)) nan i h) }
+    let args = c .before .before .before .args in
+    let l : _ = c .before .loop in record { size = l .inv .1 .0; same = λ i h. l .inv .1 .1 i (omega arith) ∙ sym (tabulate-at (args .n) (entry (args .tp) (args .numbers .now) (args .frequencies .now) (args .bands) (args .band)) nan i h) }
 
 pub fill-frequencies-spec : {M : Type 1} → statement M
 fill-frequencies-spec =

@@ -17,7 +17,9 @@ spelled : (c : tie.After-hex) → take (c .hex .result) (c .hex .last .1 .1 .0) 
 spelled c = c .hex .ensures .1 .1 ∙ bits-is (c .before .before .before .args .n) (c .hex .result) (omega arith) (c .hex .ensures .1 .0)
 
 counted : (c : tie.After-hex) → c .hex .result ≡ length (hexadecimal (c .before .before .before .args .n))
-counted c = bits-count (c .before .before .before .args .n) (c .hex .result) (omega arith) (c .hex .ensures .1 .0) ∙ sym (length-hexadecimal (c .before .before .before .args .n))
+counted c =
+    let args = c .before .before .before .args in
+    bits-count (args .n) (c .hex .result) (omega arith) (c .hex .ensures .1 .0) ∙ sym (length-hexadecimal (args .n))
 
 hex-requires : tie.Need-hex-requires
 hex-requires c κs = search needs

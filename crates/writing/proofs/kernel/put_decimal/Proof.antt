@@ -17,7 +17,9 @@ spelled : (c : tie.After-decimal) → take (c .decimal .result) (c .decimal .las
 spelled c = c .decimal .ensures .1 .1 ∙ decimal-is (c .before .before .before .args .n) (c .decimal .result) (omega arith) (c .decimal .ensures .1 .0)
 
 counted : (c : tie.After-decimal) → c .decimal .result ≡ length (decimal (c .before .before .before .args .n))
-counted c = places-is 19 (c .before .before .before .args .n) (c .decimal .result) (omega arith) (c .decimal .ensures .1 .0) ∙ sym (length-decimal (c .before .before .before .args .n))
+counted c =
+    let args = c .before .before .before .args in
+    places-is 19 (args .n) (c .decimal .result) (omega arith) (c .decimal .ensures .1 .0) ∙ sym (length-decimal (args .n))
 
 decimal-requires : tie.Need-decimal-requires
 decimal-requires c κs = search needs

@@ -45,7 +45,8 @@ loop-less c =
 
 loop-again : tie.Need-loop-again Inv-loop μ-loop
 loop-again c =
-    (omega arith, simp length-set (c .before .before .loop .inv .1), ap (λ (l : List ℕ). set l (c .before .before .before .args .at + c .before .before .loop .i) (getD (c .before .before .before .args .src .now) (c .before .before .loop .i) 0)) (c .before .before .loop .inv .2) ∙ written-next (c .before .before .before .args .at) (c .before .before .loop .i) (c .before .before .before .args .src .now) (c .before .before .before .args .out .now) (omega arith) (c .before .before .before .pre))
+    let args = c .before .before .before .args in
+    (omega arith, simp length-set (c .before .before .loop .inv .1), ap (λ (l : List ℕ). set l (args .at + c .before .before .loop .i) (getD (args .src .now) (c .before .before .loop .i) 0)) (c .before .before .loop .inv .2) ∙ written-next (args .at) (c .before .before .loop .i) (args .src .now) (args .out .now) (omega arith) (c .before .before .before .pre))
 
 add-result : tie.Need-add-result Inv-loop μ-loop
 add-result c =

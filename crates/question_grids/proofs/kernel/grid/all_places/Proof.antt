@@ -39,7 +39,8 @@ loop-less c =
 loop-again : tie.Need-loop-again Inv-loop μ-loop
 unfolding isPlace
 loop-again c =
-    (omega arith, below-next (c .before .before .before .loop .i) _ (c .before .before .before .loop .inv .1) (cc))
+    let loop = c .before .before .before .loop in
+    (omega arith, below-next (loop .i) _ (loop .inv .1) (cc))
 
 returns : tie.Need-returns Inv-loop μ-loop
 returns c =

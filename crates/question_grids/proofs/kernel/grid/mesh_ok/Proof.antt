@@ -28,7 +28,8 @@ is-between-requires-3 c κs = search needs
 returns : tie.Need-returns
 unfolding isMesh
 returns c =
-    cc (back (getD (c .before .before .before .before .before .before .args .t2) 0 (pos 0)) (c .before .before .before .before .before .is-between-arg .given), back (getD (c .before .before .before .before .before .before .args .t2) 1 (pos 0)) (c .before .before .before .is-between-arg2 .given), back (getD (c .before .before .before .before .before .before .args .t2) 2 (pos 0)) (c .before .is-between-arg3 .given))
+    let args = c .before .before .before .before .before .before .args in
+    cc (back (getD (args .t2) 0 (pos 0)) (c .before .before .before .before .before .is-between-arg .given), back (getD (args .t2) 1 (pos 0)) (c .before .before .before .is-between-arg2 .given), back (getD (args .t2) 2 (pos 0)) (c .before .is-between-arg3 .given))
 
 pub mesh-ok-spec : {M : Type 1} → statement M
 mesh-ok-spec =

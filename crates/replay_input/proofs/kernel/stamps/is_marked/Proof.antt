@@ -50,7 +50,8 @@ loop-less c =
 
 loop-again : tie.Need-loop-again Inv-loop μ-loop
 loop-again c =
-    (omega arith, below-next (c .before .before .before .before .loop .i) _ (c .before .before .before .before .loop .inv .1) (c .same-bits .ensures ∙ ap (λ (x : Float). eqb (toBits binary64 (getD (c .before .before .before .before .before .before .args .out .now) (c .before .before .before .before .loop .i) nan)) (toBits binary64 x)) (c .before .mark-at .ensures)))
+    let loop = c .before .before .before .before .loop in
+    (omega arith, below-next (loop .i) _ (loop .inv .1) (c .same-bits .ensures ∙ ap (λ (x : Float). eqb (toBits binary64 (getD (c .before .before .before .before .before .before .args .out .now) (loop .i) nan)) (toBits binary64 x)) (c .before .mark-at .ensures)))
 
 returns : tie.Need-returns Inv-loop μ-loop
 unfolding isMarked

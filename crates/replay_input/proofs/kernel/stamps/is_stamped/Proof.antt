@@ -43,7 +43,8 @@ loop-less c =
 
 loop-again : tie.Need-loop-again Inv-loop μ-loop
 loop-again c =
-    (omega arith, below-next (c .before .before .before .loop .i) _ (c .before .before .before .loop .inv .1) (c .equal-at .ensures ∙ ap (eqZ (at (c .before .before .before .before .args .out .now) (c .before .before .before .loop .i))) (toZ-ofZ {w = w64} {z = c .before .stamp-at .result} (search needs) ∙ c .before .stamp-at .ensures)))
+    let loop = c .before .before .before .loop in
+    (omega arith, below-next (loop .i) _ (loop .inv .1) (c .equal-at .ensures ∙ ap (eqZ (at (c .before .before .before .before .args .out .now) (loop .i))) (toZ-ofZ {w = w64} {z = c .before .stamp-at .result} (search needs) ∙ c .before .stamp-at .ensures)))
 
 returns : tie.Need-returns Inv-loop μ-loop
 unfolding isStamped

@@ -104,7 +104,8 @@ same-length-2 c =
 
 returns-2 : tie.Need-returns-2 Inv-loop μ-loop
 returns-2 c =
-    rows-end patternField (c .before .before .before .before .before .args .text .now) (c .before .before .before .before .before .args .from) (c .before .before .before .before .before .args .tag .now) (c .before .before .before .before .before .args .n) (c .before .loop .out) (c .before .loop .at) (c .before .loop .k) (c .before .loop .inv .2) (omega arith)
+    let args = c .before .before .before .before .before .args in
+    rows-end patternField (args .text .now) (args .from) (args .tag .now) (args .n) (c .before .loop .out) (c .before .loop .at) (c .before .loop .k) (c .before .loop .inv .2) (omega arith)
 
 same-length-3 : tie.Need-same-length-3 Inv-loop μ-loop
 same-length-3 c =

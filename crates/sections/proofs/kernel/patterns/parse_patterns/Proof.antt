@@ -30,7 +30,8 @@ same-length c =
 
 returns : tie.Need-returns Inv-loop μ-loop
 returns c =
-    (row-short patternField (c .before .before .before .before .before .args .line .now) (c .before .before .before .before .before .args .p) (c .before .before .before .before .before .args .count) (c .before .before .loop .out) (c .before .before .before .before .before .args .at) (c .before .before .loop .from) (c .before .before .loop .i) (c .before .before .loop .inv .3) (omega arith) (omega arith), c .before .before .loop .inv .2)
+    let args = c .before .before .before .before .before .args in
+    (row-short patternField (args .line .now) (args .p) (args .count) (c .before .before .loop .out) (args .at) (c .before .before .loop .from) (c .before .before .loop .i) (c .before .before .loop .inv .3) (omega arith) (omega arith), c .before .before .loop .inv .2)
 
 cut-requires : tie.Need-cut-requires Inv-loop μ-loop
 cut-requires c κs =
@@ -78,7 +79,10 @@ same-length-2 c =
 
 returns-2 : tie.Need-returns-2 Inv-loop μ-loop
 returns-2 c =
-    (row-bad patternField (c .before .before .before .before .before .before .before .before .before .before .args .line .now) (c .before .before .before .before .before .before .before .before .before .before .args .p) (c .before .before .before .before .before .before .before .before .before .before .args .count) (c .before .before .before .before .before .before .before .loop .out) (c .before .before .before .before .before .before .before .before .before .before .args .at) (c .before .before .before .before .before .before .before .loop .from) (c .before .before .before .before .before .before .before .loop .i) (c .before .before .before .before .before .before .before .loop .inv .3) (omega arith) (omega arith) (c .before .before .before .before .cut .result) (c .before .before .before .before .cut .ensures .0) (ap patternGot (sym (c .enum-told .given .1) ∙ c .before .before .parse-bits .ensures)), c .before .before .before .before .before .before .before .loop .inv .2)
+    let args = c .before .before .before .before .before .before .before .before .before .before .args in
+    let loop = c .before .before .before .before .before .before .before .loop in
+    let cut = c .before .before .before .before .cut in
+    (row-bad patternField (args .line .now) (args .p) (args .count) (loop .out) (args .at) (loop .from) (loop .i) (loop .inv .3) (omega arith) (omega arith) (cut .result) (cut .ensures .0) (ap patternGot (sym (c .enum-told .given .1) ∙ c .before .before .parse-bits .ensures)), loop .inv .2)
 
 add-from : tie.Need-add-from Inv-loop μ-loop
 add-from c =
@@ -111,7 +115,8 @@ same-length-3 c =
 
 returns-3 : tie.Need-returns-3 Inv-loop μ-loop
 returns-3 c =
-    (row-end patternField (c .before .before .before .before .args .line .now) (c .before .before .before .before .args .p) (c .before .before .before .before .args .count) (c .before .loop .out) (c .before .before .before .before .args .at) (c .before .loop .from) (c .before .loop .i) (c .before .loop .inv .3) (omega arith), c .before .loop .inv .2)
+    let args = c .before .before .before .before .args in
+    (row-end patternField (args .line .now) (args .p) (args .count) (c .before .loop .out) (args .at) (c .before .loop .from) (c .before .loop .i) (c .before .loop .inv .3) (omega arith), c .before .loop .inv .2)
 
 pub parse-patterns-spec : {M : Type 1} → statement M
 parse-patterns-spec =

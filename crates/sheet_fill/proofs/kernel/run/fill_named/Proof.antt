@@ -28,10 +28,11 @@ keep-corners-requires c κs =
 
 fill-piece-requires : tie.Need-fill-piece-requires
 fill-piece-requires c κs =
+    let keep-corners = c .before .before .before .before .before .before .keep-corners in
     let s : _ = c .before .before .before .before .before .before .before .before .before .before .before .before .before in
     let r = s .pre .0 in
     let q = s .pre .1 .0 in
-    let n = corners-kept r (q .0) (s .args .t) (c .before .before .before .before .before .before .keep-corners .last .0) (c .before .before .before .before .before .before .keep-corners .ensures .1) in (
+    let n = corners-kept r (q .0) (s .args .t) (keep-corners .last .0) (keep-corners .ensures .1) in (
       (ready-counted r, (r .fits, q .1)),
       ((held-first r (s .args .t) _ (n .0) _ (q .1 .1 .0), held-second r (s .args .t) _ (n .1) _ (q .1 .1 .1)), s .pre .1 .1 .areas),
     )
@@ -44,11 +45,12 @@ same-length-2 c = search needs
 
 returns : tie.Need-returns
 returns c =
+    let keep-corners = c .before .before .before .before .before .before .before .before .before .before .keep-corners in
     let s : _ = c .before .before .before .before .before .before .before .before .before .before .before .before .before .before .before .before .before in
     let r = s .pre .0 in
     let q = s .pre .1 .0 in
-    let k = c .before .before .before .before .before .before .before .before .before .before .keep-corners .ensures in
-    let n = corners-kept r (q .0) (s .args .t) (c .before .before .before .before .before .before .before .before .before .before .keep-corners .last .0) (k .1) in
+    let k = keep-corners .ensures in
+    let n = corners-kept r (q .0) (s .args .t) (keep-corners .last .0) (k .1) in
     let f = c .before .before .before .fill-piece .ensures in (
       record { areas = f .0; numbers-sized = k .0; corners = λ h. n },
       corners-computed r (s .args .t) (s .args .b1) (s .args .b2) _ _ (n .0) (n .1) (q .1 .1 .0) (q .1 .1 .1) (f .1),

@@ -89,11 +89,12 @@ loop-less c =
 
 loop-again : tie.Need-loop-again Inv-loop μ-loop
 loop-again c =
+    let loop = c .before .before .before .loop in
     let from : _ = c .before .before .before .before .before .before in
-    let a : ℕ = c .before .before .before .loop .c * (from .args .z) .cells + from .args .t * ((from .args .z) .points * (from .args .z) .pairs) in
+    let a : ℕ = loop .c * (from .args .z) .cells + from .args .t * ((from .args .z) .points * (from .args .z) .pairs) in
     let s : ℕ = (from .args .z) .points * (from .args .z) .pairs in
     let e : a + s - a ≡ s = omega arith in
-    (omega arith, below-next (c .before .before .before .loop .c) (λ k. areWeights (part (k * (from .args .z) .cells + from .args .t * ((from .args .z) .points * (from .args .z) .pairs)) ((from .args .z) .points * (from .args .z) .pairs) (from .args .weights .now))) (c .before .before .before .loop .inv .1) (c .weights-ok .ensures ∙ ap (λ (k : ℕ). areWeights (take k (drop a (from .args .weights .now)))) e))
+    (omega arith, below-next (loop .c) (λ k. areWeights (part (k * (from .args .z) .cells + from .args .t * ((from .args .z) .points * (from .args .z) .pairs)) ((from .args .z) .points * (from .args .z) .pairs) (from .args .weights .now))) (loop .inv .1) (c .weights-ok .ensures ∙ ap (λ (k : ℕ). areWeights (take k (drop a (from .args .weights .now)))) e))
 
 returns : tie.Need-returns Inv-loop μ-loop
 unfolding areTripletWeights

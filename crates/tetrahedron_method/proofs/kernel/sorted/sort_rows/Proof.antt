@@ -43,7 +43,9 @@ loop-less c = search needs
 
 loop-again : tie.Need-loop-again Inv-loop μ-loop
 loop-again c =
-    let l : _ = c .before .before .before .before .before .before .before .loop in (search needs, rw (c .put-row .ensures) (turned-next (c .before .before .before .before .before .before .before .before .args .area .now) (l .area) (l .places) (l .k) (omega arith) (l .inv .1) (c .before .before .before .sort-omegas .result .omegas) (c .before .before .before .sort-omegas .result .place) (ap (λ (x : SortedOmegas). x .omegas) (c .before .before .before .sort-omegas .ensures) ∙ ap sortedOf (c .before .before .before .before .row-at .ensures)) (ap (λ (x : SortedOmegas). x .place) (c .before .before .before .sort-omegas .ensures) ∙ ap placeOf (c .before .before .before .before .row-at .ensures))))
+    let row-at = c .before .before .before .before .row-at in
+    let sort-omegas = c .before .before .before .sort-omegas in
+    let l : _ = c .before .before .before .before .before .before .before .loop in (search needs, rw (c .put-row .ensures) (turned-next (c .before .before .before .before .before .before .before .before .args .area .now) (l .area) (l .places) (l .k) (omega arith) (l .inv .1) (sort-omegas .result .omegas) (sort-omegas .result .place) (ap (λ (x : SortedOmegas). x .omegas) (sort-omegas .ensures) ∙ ap sortedOf (row-at .ensures)) (ap (λ (x : SortedOmegas). x .place) (sort-omegas .ensures) ∙ ap placeOf (row-at .ensures))))
 
 returns : tie.Need-returns Inv-loop μ-loop
 returns c =
