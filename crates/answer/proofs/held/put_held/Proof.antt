@@ -66,7 +66,9 @@ put-answer-requires c κs =
 
 returns : tie.Need-returns
 returns c =
-    let s : _ = c .before .before .before .before .before .before .before .before .before .before .before .before .before .before .before .before .before .before .before .before in let p : _ = c .put-answer in wrote-so _ _ _ _ _ (p .ensures .0) (p .ensures .1) (rw (c .before .before .before .before .before .before .before .before .before .before .before .before .fill-floats .ensures, c .before .before .before .before .before .before .before .before .before .fill-floats2 .ensures, c .before .before .before .before .before .before .fill-floats3 .ensures))
+    let s : _ = c .before .before .before .before .before .before .before .before .before .before .before .before .before .before .before .before .before .before .before .before in
+    let p : _ = c .put-answer in
+    wrote-so _ _ _ _ _ (p .ensures .0) (p .ensures .1) (rw (c .before .before .before .before .before .before .before .before .before .before .before .before .fill-floats .ensures, c .before .before .before .before .before .before .before .before .before .fill-floats2 .ensures, c .before .before .before .before .before .before .fill-floats3 .ensures))
 
 pub put-held-spec : {M : Type 1} → statement M
 put-held-spec =

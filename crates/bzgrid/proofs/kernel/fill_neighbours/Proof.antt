@@ -33,7 +33,9 @@ neighbour-requires c κs =
 
 cast-out : tie.Need-cast-out Inv-loop μ-loop
 cast-out c =
-    let s : _ = c .before .before .before in let l : c .neighbour .result < 9223372036854775808 = omega (arith, c .neighbour .ensures, neighbour-lt (s .args .grid) (s .args .addresses .now) (s .args .gp-map .now) (s .pre .0) (wantedAddress (s .args .addresses .now) (s .args .steps .now) (s .args .g) (c .before .before .loop .j)), addresses-small (s .args .grid) (s .args .addresses .now) (s .args .gp-map .now) (s .pre .0)) in record { sfits = l }
+    let s : _ = c .before .before .before in
+    let l : c .neighbour .result < 9223372036854775808 = omega (arith, c .neighbour .ensures, neighbour-lt (s .args .grid) (s .args .addresses .now) (s .args .gp-map .now) (s .pre .0) (wantedAddress (s .args .addresses .now) (s .args .steps .now) (s .args .g) (c .before .before .loop .j)), addresses-small (s .args .grid) (s .args .addresses .now) (s .args .gp-map .now) (s .pre .0)) in
+    record { sfits = l }
 
 mul-t9 : tie.Need-mul-t9 Inv-loop μ-loop
 mul-t9 c =
@@ -53,7 +55,9 @@ loop-less c =
 
 loop-again : tie.Need-loop-again Inv-loop μ-loop
 loop-again c =
-    let s : _ = c .before .before .before in let l : c .neighbour .result < 9223372036854775808 = omega (arith, c .neighbour .ensures, neighbour-lt (s .args .grid) (s .args .addresses .now) (s .args .gp-map .now) (s .pre .0) (wantedAddress (s .args .addresses .now) (s .args .steps .now) (s .args .g) (c .before .before .loop .j)), addresses-small (s .args .grid) (s .args .addresses .now) (s .args .gp-map .now) (s .pre .0)) in (simp length-set (omega arith), simp length-set (c .before .before .loop .inv .1), fill-next _ (c .before .before .loop .out) (c .before .before .loop .j) _ (omega arith) (c .before .before .loop .inv .2) (toZ-pos w64 (c .neighbour .result) l ∙ ap pos (c .neighbour .ensures)))
+    let s : _ = c .before .before .before in
+    let l : c .neighbour .result < 9223372036854775808 = omega (arith, c .neighbour .ensures, neighbour-lt (s .args .grid) (s .args .addresses .now) (s .args .gp-map .now) (s .pre .0) (wantedAddress (s .args .addresses .now) (s .args .steps .now) (s .args .g) (c .before .before .loop .j)), addresses-small (s .args .grid) (s .args .addresses .now) (s .args .gp-map .now) (s .pre .0)) in
+    (simp length-set (omega arith), simp length-set (c .before .before .loop .inv .1), fill-next _ (c .before .before .loop .out) (c .before .before .loop .j) _ (omega arith) (c .before .before .loop .inv .2) (toZ-pos w64 (c .neighbour .result) l ∙ ap pos (c .neighbour .ensures)))
 
 same-length : tie.Need-same-length Inv-loop μ-loop
 same-length c =

@@ -16,19 +16,39 @@ grid-index-requires c κs =
 
 magnitude-at-requires : tie.Need-magnitude-at-requires
 magnitude-at-requires c κs =
-    let s : _ = c .before in let n : ℕ = countOf (s .args .m) in let p : ℕ = triplesIn (s .args .addresses .now) in let g : ℕ = c .grid-index .result in let l : g < n = rw (c .grid-index .ensures) (index-lt (s .pre .0) (s .args .w)) in omega (arith, dense-length n p (s .args .gp-map .now) (s .pre .1))
+    let s : _ = c .before in
+    let n : ℕ = countOf (s .args .m) in
+    let p : ℕ = triplesIn (s .args .addresses .now) in
+    let g : ℕ = c .grid-index .result in
+    let l : g < n = rw (c .grid-index .ensures) (index-lt (s .pre .0) (s .args .w)) in
+    omega (arith, dense-length n p (s .args .gp-map .now) (s .pre .1))
 
 add-magnitude-at : tie.Need-add-magnitude-at
 add-magnitude-at c =
-    let s : _ = c .before .before in let n : ℕ = countOf (s .args .m) in let p : ℕ = triplesIn (s .args .addresses .now) in let g : ℕ = c .before .grid-index .result in let l : g < n = rw (c .before .grid-index .ensures) (index-lt (s .pre .0) (s .args .w)) in omega (arith, count-le (s .pre .0))
+    let s : _ = c .before .before in
+    let n : ℕ = countOf (s .args .m) in
+    let p : ℕ = triplesIn (s .args .addresses .now) in
+    let g : ℕ = c .before .grid-index .result in
+    let l : g < n = rw (c .before .grid-index .ensures) (index-lt (s .pre .0) (s .args .w)) in
+    omega (arith, count-le (s .pre .0))
 
 magnitude-at-requires-2 : tie.Need-magnitude-at-requires-2
 magnitude-at-requires-2 c κs =
-    let s : _ = c .before .before in let n : ℕ = countOf (s .args .m) in let p : ℕ = triplesIn (s .args .addresses .now) in let g : ℕ = c .before .grid-index .result in let l : g < n = rw (c .before .grid-index .ensures) (index-lt (s .pre .0) (s .args .w)) in omega (arith, dense-length n p (s .args .gp-map .now) (s .pre .1))
+    let s : _ = c .before .before in
+    let n : ℕ = countOf (s .args .m) in
+    let p : ℕ = triplesIn (s .args .addresses .now) in
+    let g : ℕ = c .before .grid-index .result in
+    let l : g < n = rw (c .before .grid-index .ensures) (index-lt (s .pre .0) (s .args .w)) in
+    omega (arith, dense-length n p (s .args .gp-map .now) (s .pre .1))
 
 in-group-requires : tie.Need-in-group-requires
 in-group-requires c κs =
-    let s : _ = c .before .before .before in let n : ℕ = countOf (s .args .m) in let p : ℕ = triplesIn (s .args .addresses .now) in let g : ℕ = c .before .before .grid-index .result in let l : g < n = rw (c .before .before .grid-index .ensures) (index-lt (s .pre .0) (s .args .w)) in omega (arith, c .before .magnitude-at .ensures, c .magnitude-at2 .ensures, dense-step n p (s .args .gp-map .now) (s .pre .1) g l, dense-top n p (s .args .gp-map .now) (s .pre .1) (g + 1) (omega arith))
+    let s : _ = c .before .before .before in
+    let n : ℕ = countOf (s .args .m) in
+    let p : ℕ = triplesIn (s .args .addresses .now) in
+    let g : ℕ = c .before .before .grid-index .result in
+    let l : g < n = rw (c .before .before .grid-index .ensures) (index-lt (s .pre .0) (s .args .w)) in
+    omega (arith, c .before .magnitude-at .ensures, c .magnitude-at2 .ensures, dense-step n p (s .args .gp-map .now) (s .pre .1) g l, dense-top n p (s .args .gp-map .now) (s .pre .1) (g + 1) (omega arith))
 
 returns : tie.Need-returns
 unfolding denseNeighbour

@@ -38,11 +38,15 @@ shared-slice-copy-out-result-2 c = search needs
 
 add-result-3 : tie.Need-add-result-3
 add-result-3 c =
-    let s : _ = c .before .before in let f : SFits w64 (moved (s .args .addresses .now) (s .args .steps .now) (s .args .g) (s .args .j) (s .args .i)) = sum-fits 4096 (at (s .args .addresses .now) (3 * s .args .g + s .args .i)) (at (s .args .steps .now) (3 * s .args .j + s .args .i)) (omega arith) (triples-at (s .args .addresses .now) (s .pre .1 .0) (3 * s .args .g + s .args .i) (s .pre .0 .0)) (triples-at (s .args .steps .now) (s .pre .1 .1) (3 * s .args .j + s .args .i) (s .pre .0 .1)) in rw (back (at (s .args .addresses .now) (3 * s .args .g + s .args .i)) (c .before .result .given), back (at (s .args .steps .now) (3 * s .args .j + s .args .i)) (c .result2 .given)) f
+    let s : _ = c .before .before in
+    let f : SFits w64 (moved (s .args .addresses .now) (s .args .steps .now) (s .args .g) (s .args .j) (s .args .i)) = sum-fits 4096 (at (s .args .addresses .now) (3 * s .args .g + s .args .i)) (at (s .args .steps .now) (3 * s .args .j + s .args .i)) (omega arith) (triples-at (s .args .addresses .now) (s .pre .1 .0) (3 * s .args .g + s .args .i) (s .pre .0 .0)) (triples-at (s .args .steps .now) (s .pre .1 .1) (3 * s .args .j + s .args .i) (s .pre .0 .1)) in
+    rw (back (at (s .args .addresses .now) (3 * s .args .g + s .args .i)) (c .before .result .given), back (at (s .args .steps .now) (3 * s .args .j + s .args .i)) (c .result2 .given)) f
 
 returns : tie.Need-returns
 returns c =
-    let s : _ = c .before .before in let f : SFits w64 (moved (s .args .addresses .now) (s .args .steps .now) (s .args .g) (s .args .j) (s .args .i)) = sum-fits 4096 (at (s .args .addresses .now) (3 * s .args .g + s .args .i)) (at (s .args .steps .now) (3 * s .args .j + s .args .i)) (omega arith) (triples-at (s .args .addresses .now) (s .pre .1 .0) (3 * s .args .g + s .args .i) (s .pre .0 .0)) (triples-at (s .args .steps .now) (s .pre .1 .1) (3 * s .args .j + s .args .i) (s .pre .0 .1)) in rw (back (at (s .args .addresses .now) (3 * s .args .g + s .args .i)) (c .before .result .given), back (at (s .args .steps .now) (3 * s .args .j + s .args .i)) (c .result2 .given)) (toZ-ofZ w64 (moved (s .args .addresses .now) (s .args .steps .now) (s .args .g) (s .args .j) (s .args .i)) f)
+    let s : _ = c .before .before in
+    let f : SFits w64 (moved (s .args .addresses .now) (s .args .steps .now) (s .args .g) (s .args .j) (s .args .i)) = sum-fits 4096 (at (s .args .addresses .now) (3 * s .args .g + s .args .i)) (at (s .args .steps .now) (3 * s .args .j + s .args .i)) (omega arith) (triples-at (s .args .addresses .now) (s .pre .1 .0) (3 * s .args .g + s .args .i) (s .pre .0 .0)) (triples-at (s .args .steps .now) (s .pre .1 .1) (3 * s .args .j + s .args .i) (s .pre .0 .1)) in
+    rw (back (at (s .args .addresses .now) (3 * s .args .g + s .args .i)) (c .before .result .given), back (at (s .args .steps .now) (3 * s .args .j + s .args .i)) (c .result2 .given)) (toZ-ofZ w64 (moved (s .args .addresses .now) (s .args .steps .now) (s .args .g) (s .args .j) (s .args .i)) f)
 
 pub moved-by-spec : {M : Type 1} → statement M
 moved-by-spec =

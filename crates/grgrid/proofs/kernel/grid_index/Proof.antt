@@ -27,31 +27,50 @@ mul-result-2 : tie.Need-mul-result-2
 unfolding gridIndex countOf
 mul-result-2 c =
     let args = c .before .before .before .before .before .before .args in
-    let w : _ = c .before .before .before .before .before .before .pre in let e0 : _ = rw (back (args .a .x) (c .before .before .before .before .before .struct-told .given .0 .1)) at (c .before .before .before .before .rem-euclid .ensures) in let e1 : _ = rw (back (args .a .y) (c .before .before .before .struct-told2 .given .1 .0 .1)) at (c .before .before .rem-euclid2 .ensures) in let e2 : _ = rw (back (args .a .z) (c .before .struct-told3 .given .1 .1 .0 .1)) at (c .rem-euclid3 .ensures) in rw e2 (omega (arith, index-lt w (args .a), count-le w))
+    let w : _ = c .before .before .before .before .before .before .pre in
+    let e0 : _ = rw (back (args .a .x) (c .before .before .before .before .before .struct-told .given .0 .1)) at (c .before .before .before .before .rem-euclid .ensures) in
+    let e1 : _ = rw (back (args .a .y) (c .before .before .before .struct-told2 .given .1 .0 .1)) at (c .before .before .rem-euclid2 .ensures) in
+    let e2 : _ = rw (back (args .a .z) (c .before .struct-told3 .given .1 .1 .0 .1)) at (c .rem-euclid3 .ensures) in
+    rw e2 (omega (arith, index-lt w (args .a), count-le w))
 
 mul-result-3 : tie.Need-mul-result-3
 unfolding gridIndex countOf
 mul-result-3 c =
     let args = c .before .before .before .before .before .before .args in
-    let w : _ = c .before .before .before .before .before .before .pre in let e0 : _ = rw (back (args .a .x) (c .before .before .before .before .before .struct-told .given .0 .1)) at (c .before .before .before .before .rem-euclid .ensures) in let e1 : _ = rw (back (args .a .y) (c .before .before .before .struct-told2 .given .1 .0 .1)) at (c .before .before .rem-euclid2 .ensures) in let e2 : _ = rw (back (args .a .z) (c .before .struct-told3 .given .1 .1 .0 .1)) at (c .rem-euclid3 .ensures) in rw e1 (omega (arith, index-lt w (args .a), count-le w))
+    let w : _ = c .before .before .before .before .before .before .pre in
+    let e0 : _ = rw (back (args .a .x) (c .before .before .before .before .before .struct-told .given .0 .1)) at (c .before .before .before .before .rem-euclid .ensures) in
+    let e1 : _ = rw (back (args .a .y) (c .before .before .before .struct-told2 .given .1 .0 .1)) at (c .before .before .rem-euclid2 .ensures) in
+    let e2 : _ = rw (back (args .a .z) (c .before .struct-told3 .given .1 .1 .0 .1)) at (c .rem-euclid3 .ensures) in
+    rw e1 (omega (arith, index-lt w (args .a), count-le w))
 
 add-result : tie.Need-add-result
 unfolding gridIndex countOf
 add-result c =
     let args = c .before .before .before .before .before .before .args in
-    let w : _ = c .before .before .before .before .before .before .pre in let e0 : _ = rw (back (args .a .x) (c .before .before .before .before .before .struct-told .given .0 .1)) at (c .before .before .before .before .rem-euclid .ensures) in let e1 : _ = rw (back (args .a .y) (c .before .before .before .struct-told2 .given .1 .0 .1)) at (c .before .before .rem-euclid2 .ensures) in let e2 : _ = rw (back (args .a .z) (c .before .struct-told3 .given .1 .1 .0 .1)) at (c .rem-euclid3 .ensures) in rw (e1, e2) (omega (arith, index-lt w (args .a), count-le w))
+    let w : _ = c .before .before .before .before .before .before .pre in
+    let e0 : _ = rw (back (args .a .x) (c .before .before .before .before .before .struct-told .given .0 .1)) at (c .before .before .before .before .rem-euclid .ensures) in
+    let e1 : _ = rw (back (args .a .y) (c .before .before .before .struct-told2 .given .1 .0 .1)) at (c .before .before .rem-euclid2 .ensures) in
+    let e2 : _ = rw (back (args .a .z) (c .before .struct-told3 .given .1 .1 .0 .1)) at (c .rem-euclid3 .ensures) in
+    rw (e1, e2) (omega (arith, index-lt w (args .a), count-le w))
 
 add-result-2 : tie.Need-add-result-2
 unfolding gridIndex countOf
 add-result-2 c =
     let args = c .before .before .before .before .before .before .args in
-    let w : _ = c .before .before .before .before .before .before .pre in let e0 : _ = rw (back (args .a .x) (c .before .before .before .before .before .struct-told .given .0 .1)) at (c .before .before .before .before .rem-euclid .ensures) in let e1 : _ = rw (back (args .a .y) (c .before .before .before .struct-told2 .given .1 .0 .1)) at (c .before .before .rem-euclid2 .ensures) in let e2 : _ = rw (back (args .a .z) (c .before .struct-told3 .given .1 .1 .0 .1)) at (c .rem-euclid3 .ensures) in rw (e0, e1, e2) (omega (arith, index-lt w (args .a), count-le w))
+    let w : _ = c .before .before .before .before .before .before .pre in
+    let e0 : _ = rw (back (args .a .x) (c .before .before .before .before .before .struct-told .given .0 .1)) at (c .before .before .before .before .rem-euclid .ensures) in
+    let e1 : _ = rw (back (args .a .y) (c .before .before .before .struct-told2 .given .1 .0 .1)) at (c .before .before .rem-euclid2 .ensures) in
+    let e2 : _ = rw (back (args .a .z) (c .before .struct-told3 .given .1 .1 .0 .1)) at (c .rem-euclid3 .ensures) in
+    rw (e0, e1, e2) (omega (arith, index-lt w (args .a), count-le w))
 
 returns : tie.Need-returns
 unfolding gridIndex
 returns c =
     let args = c .before .before .before .before .before .before .args in
-    let e0 : _ = rw (back (args .a .x) (c .before .before .before .before .before .struct-told .given .0 .1)) at (c .before .before .before .before .rem-euclid .ensures) in let e1 : _ = rw (back (args .a .y) (c .before .before .before .struct-told2 .given .1 .0 .1)) at (c .before .before .rem-euclid2 .ensures) in let e2 : _ = rw (back (args .a .z) (c .before .struct-told3 .given .1 .1 .0 .1)) at (c .rem-euclid3 .ensures) in rw (e0, e1, e2)
+    let e0 : _ = rw (back (args .a .x) (c .before .before .before .before .before .struct-told .given .0 .1)) at (c .before .before .before .before .rem-euclid .ensures) in
+    let e1 : _ = rw (back (args .a .y) (c .before .before .before .struct-told2 .given .1 .0 .1)) at (c .before .before .rem-euclid2 .ensures) in
+    let e2 : _ = rw (back (args .a .z) (c .before .struct-told3 .given .1 .1 .0 .1)) at (c .rem-euclid3 .ensures) in
+    rw (e0, e1, e2)
 
 pub grid-index-spec : {M : Type 1} → statement M
 grid-index-spec =

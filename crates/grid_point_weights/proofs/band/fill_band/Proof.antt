@@ -56,22 +56,30 @@ sorted-weight-requires c κs =
 mul-iw : tie.Need-mul-iw Inv-loop μ-loop
 mul-iw c =
     let loop = c .before .before .before .before .before .loop in
-    let s : _ = c .before .before .before .before .before .before .before .before .before .before .before .before .before in let room : loop .x * s .args .bands + s .args .band < length (loop .iw) = omega (arith, loop .inv .1 .same-length, s .pre .1 .1 .1, digit-lt (loop .x) (length (s .args .points .now)) (s .args .band) (s .args .bands) (c .before .before .before .before .loop-test .taken) (s .pre .1 .0)) in omega arith
+    let s : _ = c .before .before .before .before .before .before .before .before .before .before .before .before .before in
+    let room : loop .x * s .args .bands + s .args .band < length (loop .iw) = omega (arith, loop .inv .1 .same-length, s .pre .1 .1 .1, digit-lt (loop .x) (length (s .args .points .now)) (s .args .band) (s .args .bands) (c .before .before .before .before .loop-test .taken) (s .pre .1 .0)) in
+    omega arith
 
 add-iw : tie.Need-add-iw Inv-loop μ-loop
 add-iw c =
     let loop = c .before .before .before .before .before .loop in
-    let s : _ = c .before .before .before .before .before .before .before .before .before .before .before .before .before in let room : loop .x * s .args .bands + s .args .band < length (loop .iw) = omega (arith, loop .inv .1 .same-length, s .pre .1 .1 .1, digit-lt (loop .x) (length (s .args .points .now)) (s .args .band) (s .args .bands) (c .before .before .before .before .loop-test .taken) (s .pre .1 .0)) in omega arith
+    let s : _ = c .before .before .before .before .before .before .before .before .before .before .before .before .before in
+    let room : loop .x * s .args .bands + s .args .band < length (loop .iw) = omega (arith, loop .inv .1 .same-length, s .pre .1 .1 .1, digit-lt (loop .x) (length (s .args .points .now)) (s .args .band) (s .args .bands) (c .before .before .before .before .loop-test .taken) (s .pre .1 .0)) in
+    omega arith
 
 mul-iw-2 : tie.Need-mul-iw-2 Inv-loop μ-loop
 mul-iw-2 c =
     let loop = c .before .before .before .before .before .loop in
-    let s : _ = c .before .before .before .before .before .before .before .before .before .before .before .before .before in let room : loop .x * s .args .bands + s .args .band < length (loop .iw) = omega (arith, loop .inv .1 .same-length, s .pre .1 .1 .1, digit-lt (loop .x) (length (s .args .points .now)) (s .args .band) (s .args .bands) (c .before .before .before .before .loop-test .taken) (s .pre .1 .0)) in omega arith
+    let s : _ = c .before .before .before .before .before .before .before .before .before .before .before .before .before in
+    let room : loop .x * s .args .bands + s .args .band < length (loop .iw) = omega (arith, loop .inv .1 .same-length, s .pre .1 .1 .1, digit-lt (loop .x) (length (s .args .points .now)) (s .args .band) (s .args .bands) (c .before .before .before .before .loop-test .taken) (s .pre .1 .0)) in
+    omega arith
 
 slice-write-iw : tie.Need-slice-write-iw Inv-loop μ-loop
 slice-write-iw c =
     let loop = c .before .before .before .before .before .loop in
-    let s : _ = c .before .before .before .before .before .before .before .before .before .before .before .before .before in let room : loop .x * s .args .bands + s .args .band < length (loop .iw) = omega (arith, loop .inv .1 .same-length, s .pre .1 .1 .1, digit-lt (loop .x) (length (s .args .points .now)) (s .args .band) (s .args .bands) (c .before .before .before .before .loop-test .taken) (s .pre .1 .0)) in omega arith
+    let s : _ = c .before .before .before .before .before .before .before .before .before .before .before .before .before in
+    let room : loop .x * s .args .bands + s .args .band < length (loop .iw) = omega (arith, loop .inv .1 .same-length, s .pre .1 .1 .1, digit-lt (loop .x) (length (s .args .points .now)) (s .args .band) (s .args .bands) (c .before .before .before .before .loop-test .taken) (s .pre .1 .0)) in
+    omega arith
 
 add-x : tie.Need-add-x Inv-loop μ-loop
 add-x c =
@@ -85,7 +93,9 @@ loop-again : tie.Need-loop-again Inv-loop μ-loop
 unfolding cornerWeight
 loop-again c =
     let loop = c .before .before .before .before .before .loop in
-    let s : _ = c .before .before .before .before .before .before .before .before .before .before .before .before .before in let room : loop .x * s .args .bands + s .args .band < length (loop .iw) = omega (arith, loop .inv .1 .same-length, s .pre .1 .1 .1, digit-lt (loop .x) (length (s .args .points .now)) (s .args .band) (s .args .bands) (c .before .before .before .before .loop-test .taken) (s .pre .1 .0)) in (omega arith, column-next nan (s .args .bands) (s .args .band) (λ x b. cornerWeight (s .args .corners .now) (s .args .rows) (s .args .frequencies .now) (s .args .bands) (s .args .points .now) (s .args .function) x b) (s .args .iw .now) (loop .x) (loop .iw) _ (s .pre .1 .0) room (c .sorted-weight .ensures ∙ weight-is _ _ _ _ _ _ (c .before .before .before .before .before .before .sort-rows .ensures .sorted) ∙ ap (λ (a : List Float). weightOf (s .args .function) (getD (s .args .points .now) (loop .x) nan) a (s .args .rows)) (c .before .before .before .before .before .before .before .before .before .vertex-frequencies .ensures)) (loop .inv .1))
+    let s : _ = c .before .before .before .before .before .before .before .before .before .before .before .before .before in
+    let room : loop .x * s .args .bands + s .args .band < length (loop .iw) = omega (arith, loop .inv .1 .same-length, s .pre .1 .1 .1, digit-lt (loop .x) (length (s .args .points .now)) (s .args .band) (s .args .bands) (c .before .before .before .before .loop-test .taken) (s .pre .1 .0)) in
+    (omega arith, column-next nan (s .args .bands) (s .args .band) (λ x b. cornerWeight (s .args .corners .now) (s .args .rows) (s .args .frequencies .now) (s .args .bands) (s .args .points .now) (s .args .function) x b) (s .args .iw .now) (loop .x) (loop .iw) _ (s .pre .1 .0) room (c .sorted-weight .ensures ∙ weight-is _ _ _ _ _ _ (c .before .before .before .before .before .before .sort-rows .ensures .sorted) ∙ ap (λ (a : List Float). weightOf (s .args .function) (getD (s .args .points .now) (loop .x) nan) a (s .args .rows)) (c .before .before .before .before .before .before .before .before .before .vertex-frequencies .ensures)) (loop .inv .1))
 
 same-length : tie.Need-same-length Inv-loop μ-loop
 same-length c =
@@ -93,7 +103,9 @@ same-length c =
 
 returns : tie.Need-returns Inv-loop μ-loop
 returns c =
-    let s : _ = c .before .before .before .before .before .before .before .before .before in let e : c .before .loop .x ≡ length (s .args .points .now) = omega arith in rw e at (c .before .loop .inv .1)
+    let s : _ = c .before .before .before .before .before .before .before .before .before in
+    let e : c .before .loop .x ≡ length (s .args .points .now) = omega arith in
+    rw e at (c .before .loop .inv .1)
 
 pub fill-band-spec : {M : Type 1} → statement M
 fill-band-spec =

@@ -32,19 +32,27 @@ element-copy-out-vertices c =
 
 mul-vertices-2 : tie.Need-mul-vertices-2 Inv-loop μ-loop
 mul-vertices-2 c =
-    let s : _ = c .before .before .before in let h : _ = s .pre .1 (c .before .before .loop .j) (c .before .loop-test .taken) in omega arith
+    let s : _ = c .before .before .before in
+    let h : _ = s .pre .1 (c .before .before .loop .j) (c .before .loop-test .taken) in
+    omega arith
 
 add-vertices : tie.Need-add-vertices Inv-loop μ-loop
 add-vertices c =
-    let s : _ = c .before .before .before in let h : _ = s .pre .1 (c .before .before .loop .j) (c .before .loop-test .taken) in omega arith
+    let s : _ = c .before .before .before in
+    let h : _ = s .pre .1 (c .before .before .loop .j) (c .before .loop-test .taken) in
+    omega arith
 
 mul-vertices-3 : tie.Need-mul-vertices-3 Inv-loop μ-loop
 mul-vertices-3 c =
-    let s : _ = c .before .before .before in let h : _ = s .pre .1 (c .before .before .loop .j) (c .before .loop-test .taken) in omega arith
+    let s : _ = c .before .before .before in
+    let h : _ = s .pre .1 (c .before .before .loop .j) (c .before .loop-test .taken) in
+    omega arith
 
 shared-slice-read-vertices : tie.Need-shared-slice-read-vertices Inv-loop μ-loop
 shared-slice-read-vertices c =
-    let s : _ = c .before .before .before .before in let h : _ = s .pre .1 (c .before .before .before .loop .j) (c .before .before .loop-test .taken) in omega arith
+    let s : _ = c .before .before .before .before in
+    let h : _ = s .pre .1 (c .before .before .before .loop .j) (c .before .before .loop-test .taken) in
+    omega arith
 
 mul-vertices-4 : tie.Need-mul-vertices-4 Inv-loop μ-loop
 mul-vertices-4 c =
@@ -70,7 +78,9 @@ loop-again c =
 
 returns : tie.Need-returns Inv-loop μ-loop
 returns c =
-    let s : _ = c .before .before in let e : c .before .loop .j ≡ s .args .n = omega arith in c .before .loop .inv .1 ∙ rw e
+    let s : _ = c .before .before in
+    let e : c .before .loop .j ≡ s .args .n = omega arith in
+    c .before .loop .inv .1 ∙ rw e
 
 pub vertex-frequencies-spec : {M : Type 1} → statement M
 vertex-frequencies-spec =

@@ -57,7 +57,9 @@ loop-again c =
 
 returns : tie.Need-returns Inv-loop μ-loop
 returns c =
-    let s : _ = c .before .before in let e : c .before .loop .j ≡ triplesIn (s .args .table .now) = omega arith in c .before .loop .inv .1 ∙ rw e
+    let s : _ = c .before .before in
+    let e : c .before .loop .j ≡ triplesIn (s .args .table .now) = omega arith in
+    c .before .loop .inv .1 ∙ rw e
 
 pub corner-points-spec : {M : Type 1} → statement M
 corner-points-spec =

@@ -55,7 +55,9 @@ same-length c =
 
 returns : tie.Need-returns Inv-loop μ-loop
 returns c =
-    let s : _ = c .before .before .before .before .before .before in let e : c .before .loop .band ≡ s .args .bands = omega arith in weights-all (study (s .args .grid) (s .args .addresses .now) (s .args .gp-map .now) (s .args .table .now) (s .args .gp2irgp-map .now) (s .args .frequencies .now) (s .args .bands) (s .args .points .now) (s .args .function)) (s .pre .0) (s .args .gp) (s .args .iw .now) (c .before .loop .iw) (s .pre .1 .1) (rw (c .before .before .corner-points .ensures, e) at (c .before .loop .inv .1))
+    let s : _ = c .before .before .before .before .before .before in
+    let e : c .before .loop .band ≡ s .args .bands = omega arith in
+    weights-all (study (s .args .grid) (s .args .addresses .now) (s .args .gp-map .now) (s .args .table .now) (s .args .gp2irgp-map .now) (s .args .frequencies .now) (s .args .bands) (s .args .points .now) (s .args .function)) (s .pre .0) (s .args .gp) (s .args .iw .now) (c .before .loop .iw) (s .pre .1 .1) (rw (c .before .before .corner-points .ensures, e) at (c .before .loop .inv .1))
 
 pub fill-point-spec : {M : Type 1} → statement M
 fill-point-spec =

@@ -15,11 +15,15 @@ cast-result c =
 
 sub-result : tie.Need-sub-result
 sub-result c =
-    let b : _ = toZ-ofZ w64 (c .before .args .z) (c .before .fits .z) in let u : SFits w64 (pos (mag (c .before .args .z))) = record { sfits = c .before .fits .z .sfits } in rw (b, flip (c .before .args .z) (rw b at (c .if1 .left))) u
+    let b : _ = toZ-ofZ w64 (c .before .args .z) (c .before .fits .z) in
+    let u : SFits w64 (pos (mag (c .before .args .z))) = record { sfits = c .before .fits .z .sfits } in
+    rw (b, flip (c .before .args .z) (rw b at (c .if1 .left))) u
 
 cast-result-2 : tie.Need-cast-result-2
 cast-result-2 c =
-    let b : _ = toZ-ofZ w64 (c .before .args .z) (c .before .fits .z) in let u : SFits w64 (pos (mag (c .before .args .z))) = record { sfits = c .before .fits .z .sfits } in rw (b, flip (c .before .args .z) (rw b at (c .if1 .left)), toZ-ofZ w64 (pos (mag (c .before .args .z))) u) (tt, omega arith)
+    let b : _ = toZ-ofZ w64 (c .before .args .z) (c .before .fits .z) in
+    let u : SFits w64 (pos (mag (c .before .args .z))) = record { sfits = c .before .fits .z .sfits } in
+    rw (b, flip (c .before .args .z) (rw b at (c .if1 .left)), toZ-ofZ w64 (pos (mag (c .before .args .z))) u) (tt, omega arith)
 
 returns : tie.Need-returns
 returns c =
@@ -27,7 +31,9 @@ returns c =
 
 returns-2 : tie.Need-returns-2
 returns-2 c =
-    let b : _ = toZ-ofZ w64 (c .before .args .z) (c .before .fits .z) in let u : SFits w64 (pos (mag (c .before .args .z))) = record { sfits = c .before .fits .z .sfits } in rw (b, flip (c .before .args .z) (rw b at (c .if1 .left)), toZ-ofZ w64 (pos (mag (c .before .args .z))) u)
+    let b : _ = toZ-ofZ w64 (c .before .args .z) (c .before .fits .z) in
+    let u : SFits w64 (pos (mag (c .before .args .z))) = record { sfits = c .before .fits .z .sfits } in
+    rw (b, flip (c .before .args .z) (rw b at (c .if1 .left)), toZ-ofZ w64 (pos (mag (c .before .args .z))) u)
 
 pub magnitude-spec : {M : Type 1} → statement M
 magnitude-spec = tie.close (tie.spec cast-result sub-result cast-result-2 returns returns-2)

@@ -48,7 +48,9 @@ same-length c =
 
 returns : tie.Need-returns Inv-loop μ-loop
 returns c =
-    let v = c .before .loop .inv in let e : length (c .before .before .args .l .now) ≡ c .before .loop .i = omega (arith, v .0, v .1, c .loop-test .left) in v .2 ∙ front-all (λ k. c .before .before .args .v) (c .before .before .args .l .now) (c .before .loop .i) e ∙ rw e (tabulate-same (c .before .loop .i) (c .before .before .args .v))
+    let v = c .before .loop .inv in
+    let e : length (c .before .before .args .l .now) ≡ c .before .loop .i = omega (arith, v .0, v .1, c .loop-test .left) in
+    v .2 ∙ front-all (λ k. c .before .before .args .v) (c .before .before .args .l .now) (c .before .loop .i) e ∙ rw e (tabulate-same (c .before .loop .i) (c .before .before .args .v))
 
 pub fill-with-spec : {M : Type 1} → statement M
 fill-with-spec =

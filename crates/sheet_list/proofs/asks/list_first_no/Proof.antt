@@ -17,12 +17,16 @@ mul-if1 c = search needs
 returns : tie.Need-returns
 unfolding listNo firstNo areListLengths
 returns c =
-    let s : _ = c .before in let l : (eqb (length (s .args .list .now)) (length (s .args .answers .now) * 6) && eqb (length (s .args .tallies .now)) (length (s .args .answers .now))) ≡ areListLengths (length (s .args .list .now)) (length (s .args .answers .now)) (length (s .args .tallies .now)) = refl in rw (no-of l (c .if1 .taken))
+    let s : _ = c .before in
+    let l : (eqb (length (s .args .list .now)) (length (s .args .answers .now) * 6) && eqb (length (s .args .tallies .now)) (length (s .args .answers .now))) ≡ areListLengths (length (s .args .list .now)) (length (s .args .answers .now)) (length (s .args .tallies .now)) = refl in
+    rw (no-of l (c .if1 .taken))
 
 returns-2 : tie.Need-returns-2
 unfolding listNo firstNo areListLengths
 returns-2 c =
-    let s : _ = c .before in let l : (eqb (length (s .args .list .now)) (length (s .args .answers .now) * 6) && eqb (length (s .args .tallies .now)) (length (s .args .answers .now))) ≡ areListLengths (length (s .args .list .now)) (length (s .args .answers .now)) (length (s .args .tallies .now)) = refl in rw (yes-of l (c .if1 .left))
+    let s : _ = c .before in
+    let l : (eqb (length (s .args .list .now)) (length (s .args .answers .now) * 6) && eqb (length (s .args .tallies .now)) (length (s .args .answers .now))) ≡ areListLengths (length (s .args .list .now)) (length (s .args .answers .now)) (length (s .args .tallies .now)) = refl in
+    rw (yes-of l (c .if1 .left))
 
 pub list-first-no-spec : {M : Type 1} → statement M
 list-first-no-spec = tie.close (tie.spec mul-if1 returns returns-2)

@@ -21,19 +21,28 @@ magnitude-requires-3 c κs = search needs
 mul-result : tie.Need-mul-result
 mul-result c =
     let args = c .before .before .before .before .before .before .args in
-    let e0 : _ = rw (back (args .counts .«num_band0») (c .before .before .before .before .before .struct-told .given .1 .0 .1)) at (c .before .before .before .before .magnitude .ensures) in let e1 : _ = rw (back (args .counts .«num_band1») (c .before .before .before .struct-told2 .given .1 .1 .0 .1)) at (c .before .before .magnitude2 .ensures) in let e2 : _ = rw (back (args .counts .«num_band2») (c .before .struct-told3 .given .1 .1 .1 .0 .1)) at (c .magnitude3 .ensures) in rw (e1, e2) (omega (arith, pair-le (args .counts) (c .before .before .before .before .before .before .pre)))
+    let e0 : _ = rw (back (args .counts .«num_band0») (c .before .before .before .before .before .struct-told .given .1 .0 .1)) at (c .before .before .before .before .magnitude .ensures) in
+    let e1 : _ = rw (back (args .counts .«num_band1») (c .before .before .before .struct-told2 .given .1 .1 .0 .1)) at (c .before .before .magnitude2 .ensures) in
+    let e2 : _ = rw (back (args .counts .«num_band2») (c .before .struct-told3 .given .1 .1 .1 .0 .1)) at (c .magnitude3 .ensures) in
+    rw (e1, e2) (omega (arith, pair-le (args .counts) (c .before .before .before .before .before .before .pre)))
 
 mul-result-2 : tie.Need-mul-result-2
 unfolding cellsPerTriplet
 mul-result-2 c =
     let args = c .before .before .before .before .before .before .args in
-    let e0 : _ = rw (back (args .counts .«num_band0») (c .before .before .before .before .before .struct-told .given .1 .0 .1)) at (c .before .before .before .before .magnitude .ensures) in let e1 : _ = rw (back (args .counts .«num_band1») (c .before .before .before .struct-told2 .given .1 .1 .0 .1)) at (c .before .before .magnitude2 .ensures) in let e2 : _ = rw (back (args .counts .«num_band2») (c .before .struct-told3 .given .1 .1 .1 .0 .1)) at (c .magnitude3 .ensures) in rw (e0, e1, e2) (omega (arith, cells-le (args .counts) (c .before .before .before .before .before .before .pre)))
+    let e0 : _ = rw (back (args .counts .«num_band0») (c .before .before .before .before .before .struct-told .given .1 .0 .1)) at (c .before .before .before .before .magnitude .ensures) in
+    let e1 : _ = rw (back (args .counts .«num_band1») (c .before .before .before .struct-told2 .given .1 .1 .0 .1)) at (c .before .before .magnitude2 .ensures) in
+    let e2 : _ = rw (back (args .counts .«num_band2») (c .before .struct-told3 .given .1 .1 .1 .0 .1)) at (c .magnitude3 .ensures) in
+    rw (e0, e1, e2) (omega (arith, cells-le (args .counts) (c .before .before .before .before .before .before .pre)))
 
 returns : tie.Need-returns
 unfolding cellsPerTriplet
 returns c =
     let args = c .before .before .before .before .before .before .args in
-    let e0 : _ = rw (back (args .counts .«num_band0») (c .before .before .before .before .before .struct-told .given .1 .0 .1)) at (c .before .before .before .before .magnitude .ensures) in let e1 : _ = rw (back (args .counts .«num_band1») (c .before .before .before .struct-told2 .given .1 .1 .0 .1)) at (c .before .before .magnitude2 .ensures) in let e2 : _ = rw (back (args .counts .«num_band2») (c .before .struct-told3 .given .1 .1 .1 .0 .1)) at (c .magnitude3 .ensures) in rw (e0, e1, e2) (refl, cells-le (args .counts) (c .before .before .before .before .before .before .pre))
+    let e0 : _ = rw (back (args .counts .«num_band0») (c .before .before .before .before .before .struct-told .given .1 .0 .1)) at (c .before .before .before .before .magnitude .ensures) in
+    let e1 : _ = rw (back (args .counts .«num_band1») (c .before .before .before .struct-told2 .given .1 .1 .0 .1)) at (c .before .before .magnitude2 .ensures) in
+    let e2 : _ = rw (back (args .counts .«num_band2») (c .before .struct-told3 .given .1 .1 .1 .0 .1)) at (c .magnitude3 .ensures) in
+    rw (e0, e1, e2) (refl, cells-le (args .counts) (c .before .before .before .before .before .before .pre))
 
 pub cells-of-spec : {M : Type 1} → statement M
 cells-of-spec =

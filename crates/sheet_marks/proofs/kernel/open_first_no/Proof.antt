@@ -44,13 +44,17 @@ returns-3 : tie.Need-returns-3
 unfolding firstNo
 returns-3 c =
     let args = c .before .before .before .before .before .before .before .before .args in
-    let t : _ = rw (back (args .counts .«num_triplets») (c .before .before .before .before .before .struct-told .given .0 .1)) at (c .before .before .before .before .magnitude .ensures) in let b : _ = toZ-ofZ w64 (args .triplet) (c .before .before .before .before .before .before .before .before .fits .triplet) in rw (yes-of (c .before .before .before .before .before .before .before .counts-ok .ensures) (c .before .before .before .before .before .before .if1 .left), eq-eqb _ _ (rw (t, c .before .before .before .cells-of .ensures .0) at (c .before .before .if2 .left)), no-of (rw (b, t) at (c .before .is-below .ensures)) (c .if3 .taken))
+    let t : _ = rw (back (args .counts .«num_triplets») (c .before .before .before .before .before .struct-told .given .0 .1)) at (c .before .before .before .before .magnitude .ensures) in
+    let b : _ = toZ-ofZ w64 (args .triplet) (c .before .before .before .before .before .before .before .before .fits .triplet) in
+    rw (yes-of (c .before .before .before .before .before .before .before .counts-ok .ensures) (c .before .before .before .before .before .before .if1 .left), eq-eqb _ _ (rw (t, c .before .before .before .cells-of .ensures .0) at (c .before .before .if2 .left)), no-of (rw (b, t) at (c .before .is-below .ensures)) (c .if3 .taken))
 
 returns-4 : tie.Need-returns-4
 unfolding firstNo
 returns-4 c =
     let args = c .before .before .before .before .before .before .before .before .args in
-    let t : _ = rw (back (args .counts .«num_triplets») (c .before .before .before .before .before .struct-told .given .0 .1)) at (c .before .before .before .before .magnitude .ensures) in let b : _ = toZ-ofZ w64 (args .triplet) (c .before .before .before .before .before .before .before .before .fits .triplet) in rw (yes-of (c .before .before .before .before .before .before .before .counts-ok .ensures) (c .before .before .before .before .before .before .if1 .left), eq-eqb _ _ (rw (t, c .before .before .before .cells-of .ensures .0) at (c .before .before .if2 .left)), yes-of (rw (b, t) at (c .before .is-below .ensures)) (c .if3 .left))
+    let t : _ = rw (back (args .counts .«num_triplets») (c .before .before .before .before .before .struct-told .given .0 .1)) at (c .before .before .before .before .magnitude .ensures) in
+    let b : _ = toZ-ofZ w64 (args .triplet) (c .before .before .before .before .before .before .before .before .fits .triplet) in
+    rw (yes-of (c .before .before .before .before .before .before .before .counts-ok .ensures) (c .before .before .before .before .before .before .if1 .left), eq-eqb _ _ (rw (t, c .before .before .before .cells-of .ensures .0) at (c .before .before .if2 .left)), yes-of (rw (b, t) at (c .before .is-below .ensures)) (c .if3 .left))
 
 pub open-first-no-spec : {M : Type 1} → statement M
 open-first-no-spec =

@@ -41,7 +41,11 @@ shared-slice-copy-out-result-2 c = search needs
 
 add-result-3 : tie.Need-add-result-3
 add-result-3 c =
-    let s : _ = c .before .before in let wa : within 4096 (at (s .args .addresses .now) (3 * s .args .a + s .args .i)) ≡ true = triples-at (s .args .addresses .now) (s .pre .0) (3 * s .args .a + s .args .i) (s .pre .1 .0) in let wb : within 4096 (at (s .args .addresses .now) (3 * s .args .b + s .args .i)) ≡ true = triples-at (s .args .addresses .now) (s .pre .0) (3 * s .args .b + s .args .i) (s .pre .1 .1 .0) in let wc : within 4096 (at (s .args .addresses .now) (3 * s .args .c + s .args .i)) ≡ true = triples-at (s .args .addresses .now) (s .pre .0) (3 * s .args .c + s .args .i) (s .pre .1 .1 .1) in rw (back (at (s .args .addresses .now) (3 * s .args .a + s .args .i)) (c .before .result .given), back (at (s .args .addresses .now) (3 * s .args .b + s .args .i)) (c .result2 .given)) (two-fit (at (s .args .addresses .now) (3 * s .args .a + s .args .i)) (at (s .args .addresses .now) (3 * s .args .b + s .args .i)) wa wb)
+    let s : _ = c .before .before in
+    let wa : within 4096 (at (s .args .addresses .now) (3 * s .args .a + s .args .i)) ≡ true = triples-at (s .args .addresses .now) (s .pre .0) (3 * s .args .a + s .args .i) (s .pre .1 .0) in
+    let wb : within 4096 (at (s .args .addresses .now) (3 * s .args .b + s .args .i)) ≡ true = triples-at (s .args .addresses .now) (s .pre .0) (3 * s .args .b + s .args .i) (s .pre .1 .1 .0) in
+    let wc : within 4096 (at (s .args .addresses .now) (3 * s .args .c + s .args .i)) ≡ true = triples-at (s .args .addresses .now) (s .pre .0) (3 * s .args .c + s .args .i) (s .pre .1 .1 .1) in
+    rw (back (at (s .args .addresses .now) (3 * s .args .a + s .args .i)) (c .before .result .given), back (at (s .args .addresses .now) (3 * s .args .b + s .args .i)) (c .result2 .given)) (two-fit (at (s .args .addresses .now) (3 * s .args .a + s .args .i)) (at (s .args .addresses .now) (3 * s .args .b + s .args .i)) wa wb)
 
 mul-result-5 : tie.Need-mul-result-5
 mul-result-5 c = search needs
@@ -58,12 +62,20 @@ shared-slice-copy-out-result-3 c = search needs
 add-result-5 : tie.Need-add-result-5
 unfolding componentSum
 add-result-5 c =
-    let s : _ = c .before .before .before in let wa : within 4096 (at (s .args .addresses .now) (3 * s .args .a + s .args .i)) ≡ true = triples-at (s .args .addresses .now) (s .pre .0) (3 * s .args .a + s .args .i) (s .pre .1 .0) in let wb : within 4096 (at (s .args .addresses .now) (3 * s .args .b + s .args .i)) ≡ true = triples-at (s .args .addresses .now) (s .pre .0) (3 * s .args .b + s .args .i) (s .pre .1 .1 .0) in let wc : within 4096 (at (s .args .addresses .now) (3 * s .args .c + s .args .i)) ≡ true = triples-at (s .args .addresses .now) (s .pre .0) (3 * s .args .c + s .args .i) (s .pre .1 .1 .1) in rw (back (at (s .args .addresses .now) (3 * s .args .a + s .args .i)) (c .before .before .result .given), back (at (s .args .addresses .now) (3 * s .args .b + s .args .i)) (c .before .result2 .given), back (at (s .args .addresses .now) (3 * s .args .c + s .args .i)) (c .result3 .given), toZ-ofZ w64 (at (s .args .addresses .now) (3 * s .args .a + s .args .i) +ℤ at (s .args .addresses .now) (3 * s .args .b + s .args .i)) (two-fit (at (s .args .addresses .now) (3 * s .args .a + s .args .i)) (at (s .args .addresses .now) (3 * s .args .b + s .args .i)) wa wb)) (three-fit (at (s .args .addresses .now) (3 * s .args .a + s .args .i)) (at (s .args .addresses .now) (3 * s .args .b + s .args .i)) (at (s .args .addresses .now) (3 * s .args .c + s .args .i)) wa wb wc)
+    let s : _ = c .before .before .before in
+    let wa : within 4096 (at (s .args .addresses .now) (3 * s .args .a + s .args .i)) ≡ true = triples-at (s .args .addresses .now) (s .pre .0) (3 * s .args .a + s .args .i) (s .pre .1 .0) in
+    let wb : within 4096 (at (s .args .addresses .now) (3 * s .args .b + s .args .i)) ≡ true = triples-at (s .args .addresses .now) (s .pre .0) (3 * s .args .b + s .args .i) (s .pre .1 .1 .0) in
+    let wc : within 4096 (at (s .args .addresses .now) (3 * s .args .c + s .args .i)) ≡ true = triples-at (s .args .addresses .now) (s .pre .0) (3 * s .args .c + s .args .i) (s .pre .1 .1 .1) in
+    rw (back (at (s .args .addresses .now) (3 * s .args .a + s .args .i)) (c .before .before .result .given), back (at (s .args .addresses .now) (3 * s .args .b + s .args .i)) (c .before .result2 .given), back (at (s .args .addresses .now) (3 * s .args .c + s .args .i)) (c .result3 .given), toZ-ofZ w64 (at (s .args .addresses .now) (3 * s .args .a + s .args .i) +ℤ at (s .args .addresses .now) (3 * s .args .b + s .args .i)) (two-fit (at (s .args .addresses .now) (3 * s .args .a + s .args .i)) (at (s .args .addresses .now) (3 * s .args .b + s .args .i)) wa wb)) (three-fit (at (s .args .addresses .now) (3 * s .args .a + s .args .i)) (at (s .args .addresses .now) (3 * s .args .b + s .args .i)) (at (s .args .addresses .now) (3 * s .args .c + s .args .i)) wa wb wc)
 
 returns : tie.Need-returns
 unfolding componentSum
 returns c =
-    let s : _ = c .before .before .before in let wa : within 4096 (at (s .args .addresses .now) (3 * s .args .a + s .args .i)) ≡ true = triples-at (s .args .addresses .now) (s .pre .0) (3 * s .args .a + s .args .i) (s .pre .1 .0) in let wb : within 4096 (at (s .args .addresses .now) (3 * s .args .b + s .args .i)) ≡ true = triples-at (s .args .addresses .now) (s .pre .0) (3 * s .args .b + s .args .i) (s .pre .1 .1 .0) in let wc : within 4096 (at (s .args .addresses .now) (3 * s .args .c + s .args .i)) ≡ true = triples-at (s .args .addresses .now) (s .pre .0) (3 * s .args .c + s .args .i) (s .pre .1 .1 .1) in rw (back (at (s .args .addresses .now) (3 * s .args .a + s .args .i)) (c .before .before .result .given), back (at (s .args .addresses .now) (3 * s .args .b + s .args .i)) (c .before .result2 .given), back (at (s .args .addresses .now) (3 * s .args .c + s .args .i)) (c .result3 .given), toZ-ofZ w64 (at (s .args .addresses .now) (3 * s .args .a + s .args .i) +ℤ at (s .args .addresses .now) (3 * s .args .b + s .args .i)) (two-fit (at (s .args .addresses .now) (3 * s .args .a + s .args .i)) (at (s .args .addresses .now) (3 * s .args .b + s .args .i)) wa wb), toZ-ofZ w64 (componentSum (s .args .addresses .now) (s .args .a) (s .args .b) (s .args .c) (s .args .i)) (three-fit (at (s .args .addresses .now) (3 * s .args .a + s .args .i)) (at (s .args .addresses .now) (3 * s .args .b + s .args .i)) (at (s .args .addresses .now) (3 * s .args .c + s .args .i)) wa wb wc))
+    let s : _ = c .before .before .before in
+    let wa : within 4096 (at (s .args .addresses .now) (3 * s .args .a + s .args .i)) ≡ true = triples-at (s .args .addresses .now) (s .pre .0) (3 * s .args .a + s .args .i) (s .pre .1 .0) in
+    let wb : within 4096 (at (s .args .addresses .now) (3 * s .args .b + s .args .i)) ≡ true = triples-at (s .args .addresses .now) (s .pre .0) (3 * s .args .b + s .args .i) (s .pre .1 .1 .0) in
+    let wc : within 4096 (at (s .args .addresses .now) (3 * s .args .c + s .args .i)) ≡ true = triples-at (s .args .addresses .now) (s .pre .0) (3 * s .args .c + s .args .i) (s .pre .1 .1 .1) in
+    rw (back (at (s .args .addresses .now) (3 * s .args .a + s .args .i)) (c .before .before .result .given), back (at (s .args .addresses .now) (3 * s .args .b + s .args .i)) (c .before .result2 .given), back (at (s .args .addresses .now) (3 * s .args .c + s .args .i)) (c .result3 .given), toZ-ofZ w64 (at (s .args .addresses .now) (3 * s .args .a + s .args .i) +ℤ at (s .args .addresses .now) (3 * s .args .b + s .args .i)) (two-fit (at (s .args .addresses .now) (3 * s .args .a + s .args .i)) (at (s .args .addresses .now) (3 * s .args .b + s .args .i)) wa wb), toZ-ofZ w64 (componentSum (s .args .addresses .now) (s .args .a) (s .args .b) (s .args .c) (s .args .i)) (three-fit (at (s .args .addresses .now) (3 * s .args .a + s .args .i)) (at (s .args .addresses .now) (3 * s .args .b + s .args .i)) (at (s .args .addresses .now) (3 * s .args .c + s .args .i)) wa wb wc))
 
 pub component-sum-spec : {M : Type 1} → statement M
 component-sum-spec =

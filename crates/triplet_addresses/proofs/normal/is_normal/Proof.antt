@@ -19,15 +19,21 @@ point-of-requires-3 c κs = search needs
 
 adds-to-zero-requires : tie.Need-adds-to-zero-requires
 adds-to-zero-requires c κs =
-    let s : _ = c .before .before .before in let p : ℕ = triplesIn (s .args .addresses .now) in (s .pre .0, (omega (arith, c .before .before .point-of .ensures, first-lt p (s .args .triplet) (s .pre .1)), (omega (arith, c .before .point-of2 .ensures, second-lt p (s .args .triplet) (s .pre .1)), omega (arith, c .point-of3 .ensures, third-lt p (s .args .triplet) (s .pre .1)))))
+    let s : _ = c .before .before .before in
+    let p : ℕ = triplesIn (s .args .addresses .now) in
+    (s .pre .0, (omega (arith, c .before .before .point-of .ensures, first-lt p (s .args .triplet) (s .pre .1)), (omega (arith, c .before .point-of2 .ensures, second-lt p (s .args .triplet) (s .pre .1)), omega (arith, c .point-of3 .ensures, third-lt p (s .args .triplet) (s .pre .1)))))
 
 adds-to-zero-requires-2 : tie.Need-adds-to-zero-requires-2
 adds-to-zero-requires-2 c κs =
-    let s : _ = c .before .before .before .before in let p : ℕ = triplesIn (s .args .addresses .now) in (s .pre .0, (omega (arith, c .before .before .before .point-of .ensures, first-lt p (s .args .triplet) (s .pre .1)), (omega (arith, c .before .before .point-of2 .ensures, second-lt p (s .args .triplet) (s .pre .1)), omega (arith, c .before .point-of3 .ensures, third-lt p (s .args .triplet) (s .pre .1)))))
+    let s : _ = c .before .before .before .before in
+    let p : ℕ = triplesIn (s .args .addresses .now) in
+    (s .pre .0, (omega (arith, c .before .before .before .point-of .ensures, first-lt p (s .args .triplet) (s .pre .1)), (omega (arith, c .before .before .point-of2 .ensures, second-lt p (s .args .triplet) (s .pre .1)), omega (arith, c .before .point-of3 .ensures, third-lt p (s .args .triplet) (s .pre .1)))))
 
 adds-to-zero-requires-3 : tie.Need-adds-to-zero-requires-3
 adds-to-zero-requires-3 c κs =
-    let s : _ = c .before .before .before .before .before in let p : ℕ = triplesIn (s .args .addresses .now) in (s .pre .0, (omega (arith, c .before .before .before .before .point-of .ensures, first-lt p (s .args .triplet) (s .pre .1)), (omega (arith, c .before .before .before .point-of2 .ensures, second-lt p (s .args .triplet) (s .pre .1)), omega (arith, c .before .before .point-of3 .ensures, third-lt p (s .args .triplet) (s .pre .1)))))
+    let s : _ = c .before .before .before .before .before in
+    let p : ℕ = triplesIn (s .args .addresses .now) in
+    (s .pre .0, (omega (arith, c .before .before .before .before .point-of .ensures, first-lt p (s .args .triplet) (s .pre .1)), (omega (arith, c .before .before .before .point-of2 .ensures, second-lt p (s .args .triplet) (s .pre .1)), omega (arith, c .before .before .point-of3 .ensures, third-lt p (s .args .triplet) (s .pre .1)))))
 
 returns : tie.Need-returns
 unfolding isNormal

@@ -55,7 +55,9 @@ loop-again c =
 returns : tie.Need-returns Inv-loop μ-loop
 unfolding cornerNumbers
 returns c =
-    let s : _ = c .before .before in let e : c .before .loop .j ≡ length (s .args .steps .now) / 3 = omega arith in c .before .loop .inv .1 ∙ rw e
+    let s : _ = c .before .before in
+    let e : c .before .loop .j ≡ length (s .args .steps .now) / 3 = omega arith in
+    c .before .loop .inv .1 ∙ rw e
 
 pub corner-numbers-spec : {M : Type 1} → statement M
 corner-numbers-spec =

@@ -42,7 +42,9 @@ addresses-ok-requires c κs =
 returns-3 : tie.Need-returns-3
 unfolding firstNo
 returns-3 c =
-    let b : _ = toZ-ofZ w64 (c .before .before .before .before .before .before .before .before .args .bz-grid-type) (c .before .before .before .before .before .before .before .before .fits .bz-grid-type) in let n : _ = c .before .before .mesh-count .ensures ∙ ap countOf (c .before .before .before .mesh-of .ensures) in rw (yes-of (rw b at (c .before .before .before .before .before .before .before .grid-kind-ok .ensures)) (c .before .before .before .before .before .before .if1 .left), yes-of (c .before .before .before .before .before .mesh-ok .ensures) (c .before .before .before .before .if2 .left), no-of (rw n at (c .before .addresses-ok .ensures)) (c .if3 .taken))
+    let b : _ = toZ-ofZ w64 (c .before .before .before .before .before .before .before .before .args .bz-grid-type) (c .before .before .before .before .before .before .before .before .fits .bz-grid-type) in
+    let n : _ = c .before .before .mesh-count .ensures ∙ ap countOf (c .before .before .before .mesh-of .ensures) in
+    rw (yes-of (rw b at (c .before .before .before .before .before .before .before .grid-kind-ok .ensures)) (c .before .before .before .before .before .before .if1 .left), yes-of (c .before .before .before .before .before .mesh-ok .ensures) (c .before .before .before .before .if2 .left), no-of (rw n at (c .before .addresses-ok .ensures)) (c .if3 .taken))
 
 map-ok-requires : tie.Need-map-ok-requires
 map-ok-requires c κs =
@@ -51,12 +53,16 @@ map-ok-requires c κs =
 returns-4 : tie.Need-returns-4
 unfolding firstNo
 returns-4 c =
-    let b : _ = toZ-ofZ w64 (c .before .before .before .before .before .before .before .before .before .before .args .bz-grid-type) (c .before .before .before .before .before .before .before .before .before .before .fits .bz-grid-type) in let n : _ = c .before .before .before .before .mesh-count .ensures ∙ ap countOf (c .before .before .before .before .before .mesh-of .ensures) in rw (yes-of (rw b at (c .before .before .before .before .before .before .before .before .before .grid-kind-ok .ensures)) (c .before .before .before .before .before .before .before .before .if1 .left), yes-of (c .before .before .before .before .before .before .before .mesh-ok .ensures) (c .before .before .before .before .before .before .if2 .left), yes-of (rw n at (c .before .before .before .addresses-ok .ensures)) (c .before .before .if3 .left), no-of (rw (n, b) at (c .before .map-ok .ensures)) (c .if4 .taken))
+    let b : _ = toZ-ofZ w64 (c .before .before .before .before .before .before .before .before .before .before .args .bz-grid-type) (c .before .before .before .before .before .before .before .before .before .before .fits .bz-grid-type) in
+    let n : _ = c .before .before .before .before .mesh-count .ensures ∙ ap countOf (c .before .before .before .before .before .mesh-of .ensures) in
+    rw (yes-of (rw b at (c .before .before .before .before .before .before .before .before .before .grid-kind-ok .ensures)) (c .before .before .before .before .before .before .before .before .if1 .left), yes-of (c .before .before .before .before .before .before .before .mesh-ok .ensures) (c .before .before .before .before .before .before .if2 .left), yes-of (rw n at (c .before .before .before .addresses-ok .ensures)) (c .before .before .if3 .left), no-of (rw (n, b) at (c .before .map-ok .ensures)) (c .if4 .taken))
 
 returns-5 : tie.Need-returns-5
 unfolding firstNo
 returns-5 c =
-    let b : _ = toZ-ofZ w64 (c .before .before .before .before .before .before .before .before .before .before .args .bz-grid-type) (c .before .before .before .before .before .before .before .before .before .before .fits .bz-grid-type) in let n : _ = c .before .before .before .before .mesh-count .ensures ∙ ap countOf (c .before .before .before .before .before .mesh-of .ensures) in rw (yes-of (rw b at (c .before .before .before .before .before .before .before .before .before .grid-kind-ok .ensures)) (c .before .before .before .before .before .before .before .before .if1 .left), yes-of (c .before .before .before .before .before .before .before .mesh-ok .ensures) (c .before .before .before .before .before .before .if2 .left), yes-of (rw n at (c .before .before .before .addresses-ok .ensures)) (c .before .before .if3 .left), yes-of (rw (n, b) at (c .before .map-ok .ensures)) (c .if4 .left))
+    let b : _ = toZ-ofZ w64 (c .before .before .before .before .before .before .before .before .before .before .args .bz-grid-type) (c .before .before .before .before .before .before .before .before .before .before .fits .bz-grid-type) in
+    let n : _ = c .before .before .before .before .mesh-count .ensures ∙ ap countOf (c .before .before .before .before .before .mesh-of .ensures) in
+    rw (yes-of (rw b at (c .before .before .before .before .before .before .before .before .before .grid-kind-ok .ensures)) (c .before .before .before .before .before .before .before .before .if1 .left), yes-of (c .before .before .before .before .before .before .before .mesh-ok .ensures) (c .before .before .before .before .before .before .if2 .left), yes-of (rw n at (c .before .before .before .addresses-ok .ensures)) (c .before .before .if3 .left), yes-of (rw (n, b) at (c .before .map-ok .ensures)) (c .if4 .left))
 
 pub grid-first-no-spec : {M : Type 1} → statement M
 grid-first-no-spec =

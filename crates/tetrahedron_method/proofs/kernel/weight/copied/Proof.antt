@@ -50,7 +50,9 @@ loop-again c =
 
 returns : tie.Need-returns Inv-loop μ-loop
 returns c =
-    let s : _ = c .before .before in let e : c .before .loop .j ≡ s .args .n = omega arith in c .before .loop .inv .1 ∙ rw e
+    let s : _ = c .before .before in
+    let e : c .before .loop .j ≡ s .args .n = omega arith in
+    c .before .loop .inv .1 ∙ rw e
 
 pub copied-spec : {M : Type 1} → statement M
 copied-spec =
