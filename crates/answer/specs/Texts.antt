@@ -10,7 +10,7 @@ use Rattle.list_laws.specs.Lists.{tabulate}
 use Rattle.tetrahedron_tables.specs.Tables.{tableOf, flat}
 use Rattle.triplet_study.specs.declared.Shape.{Shape}
 use Rattle.triplet_study.specs.Study.{Study, study}
-use Rattle.triplet_study.specs.Lent.{Lent}
+use Rattle.ask.specs.Lent.{Lent}
 use Rattle.listing.specs.Listings.{refusalOf}
 use Rattle.study_head.specs.declared.Head.{Head}
 use Rattle.study.specs.Studies.{StudyText, Holds, holds, holdsNone, studyIn}

@@ -8,7 +8,7 @@ use Rattle.ask.specs.Ask.{firstNo}
 use Rattle.triplet_study.specs.declared.Sizes.{Sizes}
 use Rattle.triplet_study.specs.Study.{Study, sizesOf}
 use Rattle.triplet_study.specs.Tested.{Ready}
-use Rattle.triplet_study.specs.Lent.{Lent}
+use Rattle.ask.specs.Lent.{Lent}
 use Rattle.triplet_iw.specs.Whole.{allWeights, allFlags}
 use Rattle.listing.specs.Listings.{listingOf, refusalOf}
 use Rattle.writing.specs.Written.{written}

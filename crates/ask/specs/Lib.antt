@@ -1,3 +1,4 @@
 -- The definitions.
 pub mod Ask
 pub mod Answers
+pub mod Lent

@@ -1,14 +1,22 @@
--- The questions of the two neighbour calls.
+-- The questions of the two neighbour calls, and what a call did.
+use mathlib.Core.Path.{_≡_}
 use mathlib.Core.List.{List, [], _∷_, _++_}
 use Prim.Native.Nat.{ℕ}
+use denote.Ref.{now}
 use lib.Dec.{eqb}
 use lib.IntN.{ℤ}
 use lib.ListN.{length}
+use lib.Signed.{mag}
 use Rattle.list_laws.specs.Signed.{isBelow}
-use Rattle.ask.specs.Ask.{Question, asks}
+use Rattle.ask.specs.declared.Answer.{Answer}
+use Rattle.ask.specs.Answers.{answerOf}
+use Rattle.ask.specs.Ask.{Question, asks, firstNo}
+use Rattle.ask.specs.Lent.{Lent, Leaves}
 use Rattle.question_grids.specs.Grids.{gridQuestions, triplesIn}
 use Rattle.question_grids.specs.Steps.{areSteps, areGridPoints}
 use Rattle.question_values.specs.Counts.{isTripletCount, isProduct}
+use Rattle.bzgrid_lookup.specs.Neighbours.{gridOf}
+use Rattle.bzgrid.specs.Lists.{neighboursOf, neighboursOfAll}
 
 -- for one point, after the grid: 7 the steps, 10 the point, 12 the buffer
 abbrev pub stepQuestions : List ℤ → ℤ → ℕ → ℕ → List Question
@@ -24,12 +32,55 @@ stepsQuestions steps points p out =
     ∷ asks 12 (isProduct (length points) (triplesIn steps) out)
     ∷ []
 
+-- where the neighbours are looked up: grid kind, mesh, addresses and map, and the steps
+pub record Around : Type 0 where
+  pub kind : ℤ
+  pub diag : List ℤ
+  pub addresses : List ℤ
+  pub gp-map : List ℤ
+  pub steps : List ℤ
+
+-- it, from what a call takes
+abbrev pub aroundIn : ℤ → List ℤ → Lent ℤ → Lent ℤ → Lent ℤ → Around
+aroundIn kind diag addresses gp-map steps =
+    record { kind = kind; diag = diag; addresses = now (addresses .entry); gp-map = now (gp-map .entry); steps = now (steps .entry) }
+
+-- ---- one point
+
 -- The questions of `fill_neighboring_grid_points`, in their order.
-abbrev pub pointQuestions : ℤ → List ℤ → List ℤ → List ℤ → List ℤ → ℤ → ℕ → List Question
-pointQuestions kind diag addresses gp-map steps point out =
-    gridQuestions kind diag addresses gp-map ++ stepQuestions steps point (triplesIn addresses) out
+abbrev pub pointQuestions : Around → ℤ → ℕ → List Question
+pointQuestions a point out =
+    gridQuestions (a .kind) (a .diag) (a .addresses) (a .gp-map) ++ stepQuestions (a .steps) point (triplesIn (a .addresses)) out
+
+-- the number of the first no, by the buffer
+abbrev pub pointNo : Around → ℤ → List ℤ → ℕ
+pointNo a point out = firstNo (pointQuestions a point (length out))
+
+-- what it leaves in the lent buffer: the neighbours of the point, and after a refusal its old content
+abbrev pub AreFound : Around → ℤ → Lent ℤ → Type 0
+AreFound a point out =
+    Leaves (pointNo a point (now (out .entry))) (neighboursOf (gridOf (a .kind) (a .diag)) (a .addresses) (a .gp-map) (a .steps) (mag point)) out
+
+-- What a call did: its answer, and what it left.
+abbrev pub DidFind : Around → ℤ → Lent ℤ → Answer → Type 0
+DidFind a point out answer = (answer ≡ answerOf (pointNo a point (now (out .entry)))) × AreFound a point out
+
+-- ---- many points
 
 -- The questions of `neighboring_grid_points_many`, in their order.
-abbrev pub manyQuestions : ℤ → List ℤ → List ℤ → List ℤ → List ℤ → List ℤ → ℕ → List Question
-manyQuestions kind diag addresses gp-map steps points out =
-    gridQuestions kind diag addresses gp-map ++ stepsQuestions steps points (triplesIn addresses) out
+abbrev pub manyQuestions : Around → List ℤ → ℕ → List Question
+manyQuestions a points out =
+    gridQuestions (a .kind) (a .diag) (a .addresses) (a .gp-map) ++ stepsQuestions (a .steps) points (triplesIn (a .addresses)) out
+
+-- the number of the first no, by the buffer
+abbrev pub manyNo : Around → List ℤ → List ℤ → ℕ
+manyNo a points out = firstNo (manyQuestions a points (length out))
+
+-- what it leaves in the lent buffer: the neighbours of each point in turn, and after a refusal its old content
+abbrev pub AreAllFound : Around → List ℤ → Lent ℤ → Type 0
+AreAllFound a points out =
+    Leaves (manyNo a points (now (out .entry))) (neighboursOfAll (gridOf (a .kind) (a .diag)) (a .addresses) (a .gp-map) (a .steps) points) out
+
+-- What a call did: its answer, and what it left.
+abbrev pub DidFindAll : Around → List ℤ → Lent ℤ → Answer → Type 0
+DidFindAll a points out answer = (answer ≡ answerOf (manyNo a points (now (out .entry)))) × AreAllFound a points out

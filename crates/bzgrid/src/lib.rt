@@ -1,12 +1,5 @@
 // Neighbouring grid points of a BZ grid, of one point and of many.
-ghost use mathlib.Core.Path.{_≡_};
-ghost use lib.ListN.{length};
-ghost use lib.Signed.{mag};
-ghost use Rattle.ask.specs.Ask.{firstNo, afterCall};
-ghost use Rattle.ask.specs.Answers.{answerOf};
-ghost use Rattle.bzgrid_lookup.specs.Neighbours.{gridOf};
-ghost use Rattle.bzgrid.specs.Lists.{neighboursOf, neighboursOfAll};
-ghost use Rattle.bzgrid.specs.Calls.{pointQuestions, manyQuestions};
+ghost use Rattle.bzgrid.specs.Calls.{aroundIn, DidFind, DidFindAll};
 pub use ask::Answer;
 
 pub mod kernel;
@@ -21,10 +14,7 @@ pub fn fill_neighboring_grid_points(
     addresses: &[i64],
     gp_map: &[i64],
 ) -> Answer
-    ensures { λ r. ⌜ r ≡ answerOf (firstNo (pointQuestions «bz_grid_type» «d_diag» (now (addresses .entry)) (now («gp_map» .entry)) (now («relative_grid_address» .entry)) «grid_point» (length (now (out .entry))))) ⌝ }
-    ensures { λ r. ⌜ now (out .exit) ≡ afterCall (firstNo (pointQuestions «bz_grid_type» «d_diag» (now (addresses .entry)) (now («gp_map» .entry)) (now («relative_grid_address» .entry)) «grid_point» (length (now (out .entry)))))
-        (neighboursOf (gridOf «bz_grid_type» «d_diag») (now (addresses .entry)) (now («gp_map» .entry)) (now («relative_grid_address» .entry)) (mag «grid_point»))
-        (now (out .entry)) ⌝ }
+    ensures { λ r. ⌜ DidFind (aroundIn «bz_grid_type» «d_diag» addresses «gp_map» «relative_grid_address») «grid_point» out r ⌝ }
 {
     let grid_first_no = question_grids::kernel::grid::grid_first_no(
         bz_grid_type,
@@ -60,10 +50,7 @@ pub fn neighboring_grid_points_many(
     addresses: &[i64],
     gp_map: &[i64],
 ) -> Answer
-    ensures { λ r. ⌜ r ≡ answerOf (firstNo (manyQuestions «bz_grid_type» «d_diag» (now (addresses .entry)) (now («gp_map» .entry)) (now («relative_grid_address» .entry)) (now («grid_points» .entry)) (length (now (out .entry))))) ⌝ }
-    ensures { λ r. ⌜ now (out .exit) ≡ afterCall (firstNo (manyQuestions «bz_grid_type» «d_diag» (now (addresses .entry)) (now («gp_map» .entry)) (now («relative_grid_address» .entry)) (now («grid_points» .entry)) (length (now (out .entry)))))
-        (neighboursOfAll (gridOf «bz_grid_type» «d_diag») (now (addresses .entry)) (now («gp_map» .entry)) (now («relative_grid_address» .entry)) (now («grid_points» .entry)))
-        (now (out .entry)) ⌝ }
+    ensures { λ r. ⌜ DidFindAll (aroundIn «bz_grid_type» «d_diag» addresses «gp_map» «relative_grid_address») (now («grid_points» .entry)) out r ⌝ }
 {
     let grid_first_no = question_grids::kernel::grid::grid_first_no(
         bz_grid_type,

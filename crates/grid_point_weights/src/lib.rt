@@ -1,12 +1,5 @@
 // The tetrahedron method at grid points: integration weights by grid point, frequency point and band.
-ghost use mathlib.Core.Path.{_≡_};
-ghost use lib.ListN.{length};
-ghost use lib.Signed.{mag};
-ghost use Rattle.bzgrid_lookup.specs.Neighbours.{gridOf};
-ghost use Rattle.ask.specs.Ask.{firstNo, afterCall};
-ghost use Rattle.ask.specs.Answers.{answerOf};
-ghost use Rattle.grid_point_weights.specs.Weights.{study, weightsOfAll};
-ghost use Rattle.grid_point_weights.specs.Calls.{gridPointQuestions};
+ghost use Rattle.grid_point_weights.specs.Calls.{callIn, DidWeigh};
 pub use ask::Answer;
 use tetrahedron_method::WeightFunction;
 
@@ -32,12 +25,8 @@ pub fn integration_weights_at_grid_points(
     gp2irgp_map: &[i64],
     function: WeightFunction,
 ) -> Answer
-    ensures { λ r. ⌜ r ≡ answerOf (firstNo (gridPointQuestions «bz_grid_type» «d_diag» (now (addresses .entry)) (now («gp_map» .entry))
-        (now («relative_grid_address» .entry)) «num_band» (now («frequency_points» .entry)) (now («grid_points» .entry)) «num_ir» (now (frequencies .entry)) (now («gp2irgp_map» .entry)) (length (now (iw .entry))))) ⌝ }
-    ensures { λ r. ⌜ now (iw .exit) ≡ afterCall (firstNo (gridPointQuestions «bz_grid_type» «d_diag» (now (addresses .entry)) (now («gp_map» .entry))
-        (now («relative_grid_address» .entry)) «num_band» (now («frequency_points» .entry)) (now («grid_points» .entry)) «num_ir» (now (frequencies .entry)) (now («gp2irgp_map» .entry)) (length (now (iw .entry)))))
-        (weightsOfAll (study (gridOf «bz_grid_type» «d_diag») (now (addresses .entry)) (now («gp_map» .entry)) (now («relative_grid_address» .entry)) (now («gp2irgp_map» .entry)) (now (frequencies .entry)) (mag «num_band») (now («frequency_points» .entry)) function) (now («grid_points» .entry)))
-        (now (iw .entry)) ⌝ }
+    ensures { λ r. ⌜ DidWeigh (callIn «frequency_points» «relative_grid_address» «grid_points» frequencies «num_band» «num_ir»
+        «bz_grid_type» «d_diag» addresses «gp_map» «gp2irgp_map» function) iw r ⌝ }
 {
     let grid_first_no = question_grids::kernel::grid::grid_first_no(
         bz_grid_type,

@@ -1,2 +1,3 @@
 -- Laws that the proofs use.
+pub mod CallLaws
 pub mod SheetLaws

@@ -1,16 +1,13 @@
 // What the Rust has in bzgrid.rs, grgrid.rs and common.rs.
 ghost use mathlib.Core.Path.{_≡_};
-ghost use lib.ListN.{length};
 ghost use lib.IntN.{pos};
-ghost use lib.Signed.{mag};
 ghost use Rattle.common.specs.Matrix.{matvecOf, matvecQuestions};
 ghost use Rattle.numbers.specs.Mesh.{meshOf};
 ghost use Rattle.grgrid.specs.Index.{addressOf, gridIndex};
 ghost use Rattle.ask.specs.Ask.{firstNo, afterCall};
-ghost use Rattle.bzgrid_lookup.specs.Neighbours.{gridOf};
-ghost use Rattle.bzgrid.specs.Lists.{neighboursOf, neighboursOfAll};
-ghost use Rattle.bzgrid.specs.Calls.{pointQuestions, manyQuestions};
+ghost use Rattle.bzgrid.specs.Calls.{aroundIn};
 ghost use Rattle.statuses.specs.Statuses.{indexQuestions};
+ghost use Rattle.pelmetsavory.specs.Calls.{CalledFind, CalledFindAll};
 use crate::Grid;
 use crate::Triple;
 use ask::kernel::number_of;
@@ -25,10 +22,7 @@ pub extern "C" fn pelmetsavory_fill_neighboring_grid_points(
     addresses: &[i64],
     gp_map: &[i64],
 ) -> u64
-    ensures { λ r. ⌜ r ≡ firstNo (pointQuestions (grid .«bz_grid_type») (grid .«d_diag») (now (addresses .entry)) (now («gp_map» .entry)) (now («relative_grid_address» .entry)) «grid_point» (length (now (out .entry)))) ⌝ }
-    ensures { λ r. ⌜ now (out .exit) ≡ afterCall (firstNo (pointQuestions (grid .«bz_grid_type») (grid .«d_diag») (now (addresses .entry)) (now («gp_map» .entry)) (now («relative_grid_address» .entry)) «grid_point» (length (now (out .entry)))))
-        (neighboursOf (gridOf (grid .«bz_grid_type») (grid .«d_diag»)) (now (addresses .entry)) (now («gp_map» .entry)) (now («relative_grid_address» .entry)) (mag «grid_point»))
-        (now (out .entry)) ⌝ }
+    ensures { λ r. ⌜ CalledFind (aroundIn (grid .«bz_grid_type») (grid .«d_diag») addresses «gp_map» «relative_grid_address») «grid_point» out r ⌝ }
 {
     let bz_grid_type = grid.bz_grid_type;
     let d_diag = grid.d_diag;
@@ -54,10 +48,7 @@ pub extern "C" fn pelmetsavory_neighboring_grid_points_many(
     addresses: &[i64],
     gp_map: &[i64],
 ) -> u64
-    ensures { λ r. ⌜ r ≡ firstNo (manyQuestions (grid .«bz_grid_type») (grid .«d_diag») (now (addresses .entry)) (now («gp_map» .entry)) (now («relative_grid_address» .entry)) (now («grid_points» .entry)) (length (now (out .entry)))) ⌝ }
-    ensures { λ r. ⌜ now (out .exit) ≡ afterCall (firstNo (manyQuestions (grid .«bz_grid_type») (grid .«d_diag») (now (addresses .entry)) (now («gp_map» .entry)) (now («relative_grid_address» .entry)) (now («grid_points» .entry)) (length (now (out .entry)))))
-        (neighboursOfAll (gridOf (grid .«bz_grid_type») (grid .«d_diag»)) (now (addresses .entry)) (now («gp_map» .entry)) (now («relative_grid_address» .entry)) (now («grid_points» .entry)))
-        (now (out .entry)) ⌝ }
+    ensures { λ r. ⌜ CalledFindAll (aroundIn (grid .«bz_grid_type») (grid .«d_diag») addresses «gp_map» «relative_grid_address») (now («grid_points» .entry)) out r ⌝ }
 {
     let bz_grid_type = grid.bz_grid_type;
     let d_diag = grid.d_diag;

@@ -2,17 +2,15 @@
 ghost use mathlib.Core.Path.{_≡_};
 ghost use Prim.Native.Nat.{_/_};
 ghost use lib.ListN.{length};
-ghost use lib.Signed.{mag};
 ghost use Rattle.tetrahedron_tables.specs.Tables.{tableOf, flat};
 ghost use Rattle.relative_grid_address.specs.Diagonal.{mainDiagonalOf};
 ghost use Rattle.relative_grid_address.specs.Answer.{allTables, latticeQuestions};
 ghost use Rattle.tetrahedron_method.specs.Answer.{weightQuestions};
 ghost use Rattle.tetrahedron_method.specs.Weight.{weightOf};
 ghost use Rattle.ask.specs.Ask.{firstNo, afterCall};
-ghost use Rattle.bzgrid_lookup.specs.Neighbours.{gridOf};
-ghost use Rattle.grid_point_weights.specs.Weights.{study, weightsOfAll};
-ghost use Rattle.grid_point_weights.specs.Calls.{gridPointQuestions};
+ghost use Rattle.grid_point_weights.specs.Calls.{callIn};
 ghost use Rattle.statuses.specs.Statuses.{functionOf};
+ghost use Rattle.pelmetsavory.specs.Calls.{CalledWeigh};
 use crate::Grid;
 use ask::kernel::number_of;
 
@@ -33,10 +31,8 @@ pub extern "C" fn pelmetsavory_integration_weights_at_grid_points(
     gp2irgp_map: &[i64],
     letter: u8,
 ) -> u64
-    ensures { λ r. ⌜ r ≡ firstNo (gridPointQuestions (grid .«bz_grid_type») (grid .«d_diag») (now (addresses .entry)) (now («gp_map» .entry)) (now («relative_grid_address» .entry)) «num_band» (now («frequency_points» .entry)) (now («grid_points» .entry)) «num_ir» (now (frequencies .entry)) (now («gp2irgp_map» .entry)) (length (now (iw .entry)))) ⌝ }
-    ensures { λ r. ⌜ now (iw .exit) ≡ afterCall (firstNo (gridPointQuestions (grid .«bz_grid_type») (grid .«d_diag») (now (addresses .entry)) (now («gp_map» .entry)) (now («relative_grid_address» .entry)) «num_band» (now («frequency_points» .entry)) (now («grid_points» .entry)) «num_ir» (now (frequencies .entry)) (now («gp2irgp_map» .entry)) (length (now (iw .entry)))))
-        (weightsOfAll (study (gridOf (grid .«bz_grid_type») (grid .«d_diag»)) (now (addresses .entry)) (now («gp_map» .entry)) (now («relative_grid_address» .entry)) (now («gp2irgp_map» .entry)) (now (frequencies .entry)) (mag «num_band») (now («frequency_points» .entry)) (functionOf letter)) (now («grid_points» .entry)))
-        (now (iw .entry)) ⌝ }
+    ensures { λ r. ⌜ CalledWeigh (callIn «frequency_points» «relative_grid_address» «grid_points» frequencies «num_band» «num_ir»
+        (grid .«bz_grid_type») (grid .«d_diag») addresses «gp_map» «gp2irgp_map» (functionOf letter)) iw r ⌝ }
 {
     let bz_grid_type = grid.bz_grid_type;
     let d_diag = grid.d_diag;

@@ -79,7 +79,7 @@ Claim (weighs u r w x) = integrationWeightAnswer w (equalRows r 24) u ≡ Weight
 Claim (stands r p) = sortOf r .place ≡ p
 Claim (picks l n) = tableAnswer l ≡ record { answer = Done; index = n; table = flat (tableOf n) }
 Claim (leads kind mesh addresses gp-map steps from to) =
-    (answerOf (firstNo (manyQuestions kind mesh addresses gp-map steps from (length to))) ≡ Done)
+    (answerOf (firstNo (manyQuestions (record { kind = kind; diag = mesh; addresses = addresses; gp-map = gp-map; steps = steps }) from (length to))) ≡ Done)
     × (neighboursOfAll (gridOf kind mesh) addresses gp-map steps from ≡ to)
 Claim (averages bands ids1 ids2 w w′ z z′) =
     (averagingAnswer w z ids1 ids2 (pos 1) bands (pos 4) ≡ Done)

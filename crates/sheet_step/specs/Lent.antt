@@ -3,7 +3,7 @@ use Prim.Native.Nat.{ℕ}
 use denote.Ref.{now}
 use lib.Ieee.{Float}
 use lib.IntN.{ℤ}
-use Rattle.triplet_study.specs.Lent.{Lent}
+use Rattle.ask.specs.Lent.{Lent}
 use Rattle.sheet_step.specs.Steps.{Sheet, sheet}
 
 -- the sheet that a call takes, with a tally

@@ -8,10 +8,10 @@ use lib.IntN.{ℤ}
 use lib.ListN.{length}
 use Rattle.ask.specs.declared.Answer.{Answer}
 use Rattle.ask.specs.Answers.{answerOf}
-use Rattle.ask.specs.Ask.{Question, asks, firstNo, afterCall}
+use Rattle.ask.specs.Ask.{Question, asks, firstNo}
 use Rattle.triplet_study.specs.Study.{Study, sizesOf}
 use Rattle.triplet_study.specs.Questions.{studyQuestions, areLengths}
-use Rattle.triplet_study.specs.Lent.{Lent}
+use Rattle.ask.specs.Lent.{Lent, Leaves}
 use Rattle.triplet_iw.specs.Whole.{allWeights, allFlags}
 
 -- 3 to 11 of the study, then 12: "Is each lent buffer exactly as long as its record?"
@@ -25,8 +25,8 @@ weightsNo s weights flags = firstNo (weightsQuestions s (length weights) (length
 -- what it leaves in the lent buffers: all weights and all flags, and after a refusal their old content
 abbrev pub AreFilled : Study → Lent Float → Lent ℤ → Type 0
 AreFilled s weights flags =
-    (now (weights .exit) ≡ afterCall (weightsNo s (now (weights .entry)) (now (flags .entry))) (allWeights s) (now (weights .entry)))
-    × (now (flags .exit) ≡ afterCall (weightsNo s (now (weights .entry)) (now (flags .entry))) (allFlags s) (now (flags .entry)))
+    Leaves (weightsNo s (now (weights .entry)) (now (flags .entry))) (allWeights s) weights
+    × Leaves (weightsNo s (now (weights .entry)) (now (flags .entry))) (allFlags s) flags
 
 -- What a call did: its answer, and what it left.
 abbrev pub DidFill : Study → Lent Float → Lent ℤ → Answer → Type 0

@@ -7,7 +7,7 @@ use lib.Ieee.{Float}
 use lib.IntN.{ℤ}
 use Rattle.list_laws.specs.Lists.{tabulate}
 use Rattle.triplet_study.specs.Study.{Study, sizesOf}
-use Rattle.triplet_study.specs.Lent.{Lent}
+use Rattle.ask.specs.Lent.{Lent}
 use Rattle.triplet_piece.specs.Weights.{weightAt, flagAt}
 
 -- "Weights lie by channel, triplet, point, b1, b2"

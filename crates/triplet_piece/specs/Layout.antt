@@ -13,7 +13,7 @@ use Rattle.list_laws.specs.Patch.{patch}
 use Rattle.triplet_outputs.specs.declared.Outputs.{Outputs}
 use Rattle.triplet_values.specs.Values.{areaAt}
 use Rattle.triplet_study.specs.declared.Sizes.{Sizes}
-use Rattle.triplet_study.specs.Lent.{Lent}
+use Rattle.ask.specs.Lent.{Lent}
 
 -- of cell j, with so many points and band pairs: its triplet
 unfoldable pub tripletAt : ℕ → ℕ → ℕ → ℕ

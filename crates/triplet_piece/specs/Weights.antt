@@ -16,7 +16,7 @@ use Rattle.triplet_channels.specs.Channels.{outputsAt}
 use Rattle.triplet_channels.specs.Ordered.{outputsOrdered}
 use Rattle.triplet_study.specs.declared.Sizes.{Sizes}
 use Rattle.triplet_study.specs.Study.{Study, tpIn, gridIn, sizesOf}
-use Rattle.triplet_study.specs.Lent.{Lent}
+use Rattle.ask.specs.Lent.{Lent}
 use Rattle.triplet_corners.specs.Corners.{secondSteps, cornerNumbers}
 use Rattle.triplet_piece.specs.Layout.{tripletAt, pointAt, pairAt, channelOf, patchPieces}
 

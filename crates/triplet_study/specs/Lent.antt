@@ -1,15 +1,11 @@
 -- A study as a contract names it: the lent lists at a call's entry.
 use mathlib.Core.List.{List}
 use denote.Ref.{RefT, now}
-use denote.Triple.Both.{Both}
 use lib.Ieee.{Float}
 use lib.IntN.{ℤ}
+use Rattle.ask.specs.Lent.{Lent}
 use Rattle.triplet_study.specs.declared.Shape.{Shape}
 use Rattle.triplet_study.specs.Study.{Study, study}
-
--- a lent list, at a call's entry and at its exit
-abbrev pub Lent : Type 0 → Type 0
-Lent A = Both (RefT (List A)) (RefT (List A))
 
 -- the study of lists that are lent, as a `requires` names them
 abbrev pub studyNow : Shape → RefT (List ℤ) → RefT (List ℤ) → RefT (List ℤ) → RefT (List Float) → RefT (List Float) → RefT (List Float) → RefT (List ℤ) → Study
