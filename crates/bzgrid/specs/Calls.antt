@@ -10,8 +10,8 @@ use lib.Signed.{mag}
 use Rattle.list_laws.specs.Signed.{isBelow}
 use Rattle.ask.specs.declared.Answer.{Answer}
 use Rattle.ask.specs.Answers.{answerOf}
-use Rattle.ask.specs.Ask.{Question, asks, firstNo}
-use Rattle.ask.specs.Lent.{Lent, Leaves}
+use Rattle.ask.specs.Ask.{Question, asks, firstNo, afterCall}
+use Rattle.ask.specs.Lent.{Lent}
 use Rattle.question_grids.specs.Grids.{gridQuestions, triplesIn}
 use Rattle.question_grids.specs.Steps.{areSteps, areGridPoints}
 use Rattle.question_values.specs.Counts.{isTripletCount, isProduct}
@@ -56,14 +56,14 @@ pointQuestions a point out =
 abbrev pub pointNo : Around → ℤ → List ℤ → ℕ
 pointNo a point out = firstNo (pointQuestions a point (length out))
 
--- what it leaves in the lent buffer: the neighbours of the point, and after a refusal its old content
-abbrev pub AreFound : Around → ℤ → Lent ℤ → Type 0
-AreFound a point out =
-    Leaves (pointNo a point (now (out .entry))) (neighboursOf (gridOf (a .kind) (a .diag)) (a .addresses) (a .gp-map) (a .steps) (mag point)) out
+-- what the buffer holds afterwards: the neighbours of the point, and after a refusal its old content
+abbrev pub found : Around → ℤ → List ℤ → List ℤ
+found a point old =
+    afterCall (pointNo a point old) (neighboursOf (gridOf (a .kind) (a .diag)) (a .addresses) (a .gp-map) (a .steps) (mag point)) old
 
--- What a call did: its answer, and what it left.
-abbrev pub DidFind : Around → ℤ → Lent ℤ → Answer → Type 0
-DidFind a point out answer = (answer ≡ answerOf (pointNo a point (now (out .entry)))) × AreFound a point out
+-- What a call did: its answer, and the buffer before and after it.
+abbrev pub DidFind : Around → ℤ → Answer → List ℤ → List ℤ → Type 0
+DidFind a point answer old new = (answer ≡ answerOf (pointNo a point old)) × (new ≡ found a point old)
 
 -- ---- many points
 
@@ -76,11 +76,11 @@ manyQuestions a points out =
 abbrev pub manyNo : Around → List ℤ → List ℤ → ℕ
 manyNo a points out = firstNo (manyQuestions a points (length out))
 
--- what it leaves in the lent buffer: the neighbours of each point in turn, and after a refusal its old content
-abbrev pub AreAllFound : Around → List ℤ → Lent ℤ → Type 0
-AreAllFound a points out =
-    Leaves (manyNo a points (now (out .entry))) (neighboursOfAll (gridOf (a .kind) (a .diag)) (a .addresses) (a .gp-map) (a .steps) points) out
+-- what the buffer holds afterwards: the neighbours of each point in turn, and after a refusal its old content
+abbrev pub allFound : Around → List ℤ → List ℤ → List ℤ
+allFound a points old =
+    afterCall (manyNo a points old) (neighboursOfAll (gridOf (a .kind) (a .diag)) (a .addresses) (a .gp-map) (a .steps) points) old
 
--- What a call did: its answer, and what it left.
-abbrev pub DidFindAll : Around → List ℤ → Lent ℤ → Answer → Type 0
-DidFindAll a points out answer = (answer ≡ answerOf (manyNo a points (now (out .entry)))) × AreAllFound a points out
+-- What a call did: its answer, and the buffer before and after it.
+abbrev pub DidFindAll : Around → List ℤ → Answer → List ℤ → List ℤ → Type 0
+DidFindAll a points answer old new = (answer ≡ answerOf (manyNo a points old)) × (new ≡ allFound a points old)

@@ -14,7 +14,7 @@ pub fn fill_neighboring_grid_points(
     addresses: &[i64],
     gp_map: &[i64],
 ) -> Answer
-    ensures { λ r. ⌜ DidFind (aroundIn «bz_grid_type» «d_diag» addresses «gp_map» «relative_grid_address») «grid_point» out r ⌝ }
+    ensures { λ r. ⌜ DidFind (aroundIn «bz_grid_type» «d_diag» addresses «gp_map» «relative_grid_address») «grid_point» r (now (out .entry)) (now (out .exit)) ⌝ }
 {
     let grid_first_no = question_grids::kernel::grid::grid_first_no(
         bz_grid_type,
@@ -50,7 +50,7 @@ pub fn neighboring_grid_points_many(
     addresses: &[i64],
     gp_map: &[i64],
 ) -> Answer
-    ensures { λ r. ⌜ DidFindAll (aroundIn «bz_grid_type» «d_diag» addresses «gp_map» «relative_grid_address») (now («grid_points» .entry)) out r ⌝ }
+    ensures { λ r. ⌜ DidFindAll (aroundIn «bz_grid_type» «d_diag» addresses «gp_map» «relative_grid_address») (now («grid_points» .entry)) r (now (out .entry)) (now (out .exit)) ⌝ }
 {
     let grid_first_no = question_grids::kernel::grid::grid_first_no(
         bz_grid_type,

@@ -10,8 +10,8 @@ use lib.ListN.{length}
 use lib.Signed.{mag}
 use Rattle.ask.specs.declared.Answer.{Answer}
 use Rattle.ask.specs.Answers.{answerOf}
-use Rattle.ask.specs.Ask.{Question, asks, firstNo}
-use Rattle.ask.specs.Lent.{Lent, Leaves}
+use Rattle.ask.specs.Ask.{Question, asks, firstNo, afterCall}
+use Rattle.ask.specs.Lent.{Lent}
 use Rattle.question_grids.specs.Grids.{gridQuestions, triplesIn}
 use Rattle.question_grids.specs.Tables.{isTable}
 use Rattle.question_values.specs.Counts.{areCounts, isProduct}
@@ -85,10 +85,10 @@ gridPointQuestions g iw =
 abbrev pub gridPointNo : GridPointCall → List Float → ℕ
 gridPointNo g iw = firstNo (gridPointQuestions g (length iw))
 
--- what it leaves in the lent buffer: the weights of each grid point in turn, and after a refusal its old content
-abbrev pub AreWeighed : GridPointCall → Lent Float → Type 0
-AreWeighed g iw = Leaves (gridPointNo g (now (iw .entry))) (weightsOfAll (studyOf g) (g .grid-points)) iw
+-- what the buffer holds afterwards: the weights of each grid point in turn, and after a refusal its old content
+abbrev pub weighed : GridPointCall → List Float → List Float
+weighed g old = afterCall (gridPointNo g old) (weightsOfAll (studyOf g) (g .grid-points)) old
 
--- What a call did: its answer, and what it left.
-abbrev pub DidWeigh : GridPointCall → Lent Float → Answer → Type 0
-DidWeigh g iw answer = (answer ≡ answerOf (gridPointNo g (now (iw .entry)))) × AreWeighed g iw
+-- What a call did: its answer, and the buffer before and after it.
+abbrev pub DidWeigh : GridPointCall → Answer → List Float → List Float → Type 0
+DidWeigh g answer old new = (answer ≡ answerOf (gridPointNo g old)) × (new ≡ weighed g old)

@@ -26,7 +26,7 @@ pub fn integration_weights_at_grid_points(
     function: WeightFunction,
 ) -> Answer
     ensures { λ r. ⌜ DidWeigh (callIn «frequency_points» «relative_grid_address» «grid_points» frequencies «num_band» «num_ir»
-        «bz_grid_type» «d_diag» addresses «gp_map» «gp2irgp_map» function) iw r ⌝ }
+        «bz_grid_type» «d_diag» addresses «gp_map» «gp2irgp_map» function) r (now (iw .entry)) (now (iw .exit)) ⌝ }
 {
     let grid_first_no = question_grids::kernel::grid::grid_first_no(
         bz_grid_type,

@@ -22,7 +22,7 @@ pub extern "C" fn pelmetsavory_fill_neighboring_grid_points(
     addresses: &[i64],
     gp_map: &[i64],
 ) -> u64
-    ensures { λ r. ⌜ CalledFind (aroundIn (grid .«bz_grid_type») (grid .«d_diag») addresses «gp_map» «relative_grid_address») «grid_point» out r ⌝ }
+    ensures { λ r. ⌜ CalledFind (aroundIn (grid .«bz_grid_type») (grid .«d_diag») addresses «gp_map» «relative_grid_address») «grid_point» r (now (out .entry)) (now (out .exit)) ⌝ }
 {
     let bz_grid_type = grid.bz_grid_type;
     let d_diag = grid.d_diag;
@@ -48,7 +48,7 @@ pub extern "C" fn pelmetsavory_neighboring_grid_points_many(
     addresses: &[i64],
     gp_map: &[i64],
 ) -> u64
-    ensures { λ r. ⌜ CalledFindAll (aroundIn (grid .«bz_grid_type») (grid .«d_diag») addresses «gp_map» «relative_grid_address») (now («grid_points» .entry)) out r ⌝ }
+    ensures { λ r. ⌜ CalledFindAll (aroundIn (grid .«bz_grid_type») (grid .«d_diag») addresses «gp_map» «relative_grid_address») (now («grid_points» .entry)) r (now (out .entry)) (now (out .exit)) ⌝ }
 {
     let bz_grid_type = grid.bz_grid_type;
     let d_diag = grid.d_diag;

@@ -32,7 +32,7 @@ pub extern "C" fn pelmetsavory_integration_weights_at_grid_points(
     letter: u8,
 ) -> u64
     ensures { λ r. ⌜ CalledWeigh (callIn «frequency_points» «relative_grid_address» «grid_points» frequencies «num_band» «num_ir»
-        (grid .«bz_grid_type») (grid .«d_diag») addresses «gp_map» «gp2irgp_map» (functionOf letter)) iw r ⌝ }
+        (grid .«bz_grid_type») (grid .«d_diag») addresses «gp_map» «gp2irgp_map» (functionOf letter)) r (now (iw .entry)) (now (iw .exit)) ⌝ }
 {
     let bz_grid_type = grid.bz_grid_type;
     let d_diag = grid.d_diag;

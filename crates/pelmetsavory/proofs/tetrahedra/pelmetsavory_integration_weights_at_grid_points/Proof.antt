@@ -44,7 +44,7 @@ returns c =
       irreducible = args .gp2irgp-map .now;
       function = c .before .before .before .before .before .function-of .ensures i;
     } in
-    called-weigh _ _ same (args .iw .now) (did .0) (did .1) (c .number-of .ensures)
+    called-weigh _ _ same _ (args .iw .now) _ did _ (c .number-of .ensures)
 
 pub pelmetsavory-integration-weights-at-grid-points-spec : {M : Type 1} → statement M
 pelmetsavory-integration-weights-at-grid-points-spec =
