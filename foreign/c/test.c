@@ -308,7 +308,6 @@ static void loads(void)
             for (int r = 0; r < 3; r++) { memset(buffers[r], 0x5a, sizeof buffers[r]); to[r] = n[r] ? buffers[r] + 1 : NULL; }
             pelmetsavory_fill_frequencies(starts[k], to[0], n[0], to[1], n[1], to[2], n[2]);
             name("frequencies"); number(starts[k]);
-            for (int r = 0; r < 3; r++) number((long long)n[r]);
             uint32_t x = starts[k];
             for (int r = 0; r < 3; r++) {
                 for (size_t i = 0; i < ROOM; i++) {
@@ -316,7 +315,7 @@ static void loads(void)
                     if (1 <= i && i <= n[r]) { x = x * 1664525u + 1013904223u; want = (x >> 16) / 4096.0; }
                     YES(!memcmp(buffers[r] + i, &want, sizeof want));
                 }
-                floats(buffers[r] + 1, (int)n[r]);
+                number((long long)n[r]); floats(buffers[r] + 1, (int)n[r]);
             }
             end();
         }

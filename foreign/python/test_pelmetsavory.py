@@ -163,7 +163,7 @@ say("answer", *map(len, wanted))
 # test frequencies from a start: one chain over the three, each of its own length
 for start in 0, 1, 2**31, 2**32 - 1, 123456789:
     for counts in (0, 0, 0), (1, 0, 0), (0, 1, 0), (0, 0, 1), (3, 0, 2), (5, 3, 2):
-        say("frequencies", start, *counts, *(x for a in pm.fill_frequencies(start, *counts) for x in hexed(a)))
+        say("frequencies", start, *(x for a in pm.fill_frequencies(start, *counts) for x in (a.size, *hexed(a))))
 
 # empty arrays: no triplets is a sheet, no grid points is an answer, an empty table or grid is refused
 empty = pm.Sheet(other(triplets=[]))

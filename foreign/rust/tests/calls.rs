@@ -271,14 +271,14 @@ fn loads(out: &mut String) {
             let mut buffers = counts.map(|n| vec![-7.25; n + 2]);
             let [a, b, c] = &mut buffers;
             fill_frequencies(start, &mut a[1..=counts[0]], &mut b[1..=counts[1]], &mut c[1..=counts[2]]);
-            let (mut x, mut said) = (start, vec![text(&[start]), text(&counts)]);
+            let (mut x, mut said) = (start, vec![text(&[start])]);
             for (n, values) in counts.into_iter().zip(&buffers) {
                 assert!(values[0] == -7.25 && values[n + 1] == -7.25);
                 for value in &values[1..=n] {
                     x = x.wrapping_mul(1664525).wrapping_add(1013904223);
                     assert_eq!(value.to_bits(), (f64::from(x >> 16) / 4096.0).to_bits());
                 }
-                said.push(hex(&values[1..=n]));
+                said.extend([text(&[n]), hex(&values[1..=n])]);
             }
             say(out, "frequencies", said);
         }
