@@ -45,7 +45,7 @@ def test_study(start: int = 0, *, mesh: ArrayLike = (12, 12, 12), kind: int = 2,
     counts. Whoever has the same `fingerprint()` has the same study.
 
     >>> study = test_study()
-    >>> study.shapes().weights, study.frequencies1[0, 0], study.triplets[99].tolist()
+    >>> study.shapes().weights, study.frequencies1[0, 0].item(), study.triplets[99].tolist()
     ((2, 100, 10, 6, 6), 3.77685546875, [99, 99, 99])
     >>> study.fingerprint().hex()[:16]
     'a0da4a3a4471fe4b'
