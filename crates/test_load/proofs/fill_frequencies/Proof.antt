@@ -28,20 +28,20 @@ same-length-3 c = search needs
 
 returns : tie.Need-returns
 returns c =
-    let s = c .before .before .before .before .before .before .before .before .before .before .before .before .before .before .before in
-    let start = s .args .start in
-    let n1 = length (s .args .frequencies1 .now) in
-    let n2 = length (s .args .frequencies2 .now) in
-    let n3 = length (s .args .frequency-points .now) in
-    let one = c .before .before .before .before .before .before .before .before .before .before .fill .ensures in
-    let two = c .before .before .before .before .before .before .fill2 .ensures in
-    let three = c .before .before .fill3 .ensures in
-    let first : c .before .before .before .before .before .before .before .before .before .before .fill .result ≡ after start n1 = one .1 .0 in
-    let second : c .before .before .before .before .before .before .fill2 .result ≡ after start (n1 + n2) = two .1 .0 ∙ ap (λ (x : ℕ). after x n2) first ∙ after-after start n1 n2 in (
-      one .0,
+    let three = c .before .before .fill3 in
+    let two = c .before .before .before .before .before .before .fill2 in
+    let one = c .before .before .before .before .before .before .before .before .before .before .fill in
+    let args = c .before .before .before .before .before .before .before .before .before .before .before .before .before .before .before .args in
+    let start = args .start in
+    let n1 = length (args .frequencies1 .now) in
+    let n2 = length (args .frequencies2 .now) in
+    let n3 = length (args .frequency-points .now) in
+    let first : one .result ≡ after start n1 = one .ensures .1 .0 in
+    let second : two .result ≡ after start (n1 + n2) = two .ensures .1 .0 ∙ ap (λ (x : ℕ). after x n2) first ∙ after-after start n1 n2 in (
+      one .ensures .0,
       (
-        two .0 ∙ ap (λ (x : ℕ). frequenciesFrom x 0 n2) first ∙ goes-on start n1 n2,
-        three .0 ∙ ap (λ (x : ℕ). frequenciesFrom x 0 n3) second ∙ goes-on start (n1 + n2) n3,
+        two .ensures .0 ∙ ap (λ (x : ℕ). frequenciesFrom x 0 n2) first ∙ goes-on start n1 n2,
+        three .ensures .0 ∙ ap (λ (x : ℕ). frequenciesFrom x 0 n3) second ∙ goes-on start (n1 + n2) n3,
       ),
     )
 
