@@ -1,4 +1,4 @@
-//! The load of request 13, and larger and smaller ones, made on the Rust side and handed to both.
+//! The load of request 13, and larger and smaller ones, made by the proved entry for test frequencies and handed to both sides.
 use crate::calls::{self, Parts};
 use crate::study::{rows, triples, Grid, Sheet, Study};
 use phonors::common::Vec3I;
@@ -18,17 +18,21 @@ pub struct Load {
     triplets: Vec<Vec3I>,
 }
 
-/// Numbers of request 1's sequence from 0, from place `from` on.
-fn draws(from: usize, count: usize) -> Vec<f64> {
+/// Request 1's frequencies from 0 by the proved entry: the first record, the second and the points.
+fn made(lengths: [usize; 3]) -> [Vec<f64>; 3] {
+    let mut out = lengths.map(|n| vec![-1.0; n]);
+    calls::fill_frequencies(0, out.each_mut().map(Vec::as_mut_slice));
+    out
+}
+
+/// The same again in plain Rust, one chain: what `made` is compared with.
+fn chain(count: usize) -> Vec<f64> {
     let mut x: u32 = 0;
-    let mut next = || {
+    let next = |_| {
         x = x.wrapping_mul(1664525).wrapping_add(1013904223);
         (x >> 16) as f64 / 4096.0
     };
-    for _ in 0..from {
-        next();
-    }
-    (0..count).map(|_| next()).collect()
+    (0..count).map(next).collect()
 }
 
 /// A mesh of kind 2 with three equal numbers, one address a grid point.
@@ -45,21 +49,19 @@ fn grid(mesh: i64) -> Grid {
 
 impl Load {
     /// Table 0, type 2; triplet i is i, i, i. With mesh 12, 100 triplets, six bands and ten points, all drawn, it is request 13's load. Other
-    /// points repeat the drawn ones, which are the same for all band counts.
+    /// points repeat the drawn ones, which are those behind six bands for all band counts.
     pub fn new(mesh: i64, count: usize, bands: usize, points: usize, drawn: usize) -> Load {
         let grid = grid(mesh);
         let p = grid.count();
+        let [f1, f2, _] = made([p * bands, p * bands, 0]);
+        let [_, _, ends] = made([6 * p, 6 * p, drawn]);
         let study = Study {
             table: all_relative_grid_address()[0].concat().concat(),
             tp: 2,
             bands: [bands as i64; 2],
-            f1: draws(0, p * bands),
-            f2: draws(p * bands, p * bands),
-            points: draws(12 * p, drawn)
-                .into_iter()
-                .cycle()
-                .take(points)
-                .collect(),
+            f1,
+            f2,
+            points: ends.into_iter().cycle().take(points).collect(),
             triplets: (0..count as i64).flat_map(|i| [i; 3]).collect(),
             grid,
         };
@@ -75,6 +77,16 @@ impl Load {
             triplets: triples(&study.triplets),
             study,
         }
+    }
+
+    /// How many frequencies and points the load has, and how many of them differ in any bit from the plain chain; for six bands and all
+    /// points drawn.
+    pub fn drawn(&self) -> (usize, usize) {
+        let s = &self.study;
+        let all = [&s.f1[..], &s.f2, &s.points].concat();
+        let other = all.iter().zip(chain(all.len()));
+        let differ = other.filter(|(x, y)| x.to_bits() != y.to_bits()).count();
+        (all.len(), differ)
     }
 
     /// A cleared sheet.

@@ -1,7 +1,7 @@
 #!/usr/bin/env python3
-"""Shows that the judge can fail: each change below of the Rust or of the judge's questions must be seen.
+"""Shows that the judge can fail: each change below of the Rust, of the judge's questions or of its test frequencies must be seen.
 
-    mutants.py SOURCES OUT [SEED]
+    mutants.py SOURCES OUT [SEED [FILE]]      # FILE: the changes of that file alone
 
 SOURCES is the folder of the original's Rust sources, OUT a folder as build.sh leaves it (its proved side is used as it is; its judge is
 replaced). For each change a judge is built and run (`times 1`); it must tell differences, and its status must not be 0 (where the
@@ -19,7 +19,9 @@ STEPS = "base[0] + rel[0], base[1] + rel[1], base[2] + rel[2]"
 AVERAGE = """.map(|b1| matrix[b1 * num_band + s2..][..c2].iter().sum::<f64>())
                 .sum();"""
 
-# file, old text, new text, and which of its places (the first where none is told); asks is the judge's own file
+# The judge's own files; the others are the Rust's.
+OWN = ("asks", "loads")
+# file, old text, new text, and which of its places (the first where none is told)
 CHANGES = [
     ("tetrahedron_method", "THM_EPSILON: f64 = 1e-10", "THM_EPSILON: f64 = 1.1e-10"),
     ("tetrahedron_method", "if min_length > length", "if min_length >= length"),
@@ -58,6 +60,9 @@ CHANGES = [
     ("asks", "(averaged == 0 || averaged == m.len())", "(averaged == 0 || averaged > 0)"),
     ("asks", "(before as u128 + runs as u128) < 1 << 63", "(before as u128 + runs as u128) <= 1 << 63"),
     ("asks", "(7, &|| table(t)),\n        (8, &|| known_type(tp)),", "(8, &|| known_type(tp)),\n        (7, &|| table(t)),"),
+    ("loads", "wrapping_add(1013904223)", "wrapping_add(1013904222)"),
+    ("loads", "let [_, _, low, high]", "let [low, high, _, _]"),
+    ("loads", "chain.record(n)", "Chain(start).record(n)"),
 ]
 
 
@@ -86,7 +91,8 @@ def tried(sources, out, seed, change):
         for part in ("compare", "foreign"):
             shutil.copytree(REPO / part, room / part)
         module = change[0]
-        changed(room / "compare/judge/asks.rs" if module == "asks" else source_file(room / "sources", module), *change[1:])
+        own = room / "compare/judge" / (module + ".rs")
+        changed(own if module in OWN else source_file(room / "sources", module), *change[1:])
         subprocess.run([room / "compare/build.sh", "--other-sources", room / "sources", out, "judge"], check=True, stdout=subprocess.DEVNULL)
         end = subprocess.run([out / "judge", str(seed), "times", "1"], stdout=subprocess.PIPE, stderr=subprocess.DEVNULL, text=True)
         kinds = seen_by(end.stdout)
@@ -98,8 +104,9 @@ def tried(sources, out, seed, change):
 def main():
     sources, out = (pathlib.Path(p).resolve() for p in sys.argv[1:3])
     seed = int(sys.argv[3]) if len(sys.argv) > 3 else 1
-    missed = [c for c in CHANGES if not tried(sources, out, seed, c)]
-    print("%d changes, %d not seen" % (len(CHANGES), len(missed)))
+    changes = [c for c in CHANGES if c[0] in sys.argv[4:] or len(sys.argv) < 5]
+    missed = [c for c in changes if not tried(sources, out, seed, c)]
+    print("%d changes, %d not seen" % (len(changes), len(missed)))
     return 1 if missed else 0
 
 

@@ -16,7 +16,7 @@ CRATES, LIBRARY = HERE.parent / "crates", "pelmetsavory"
 VERSION = f"INTERFACE_VERSION of crates/{LIBRARY}/src/version.rt"
 NOTE = "made by foreign/bindings.py from the Rattle source and foreign/questions.txt: do not edit"
 NUMBERS = {  # Rattle: C, Rust, ctypes
-    "i8": ("int8_t", "i8", "c_int8"), "i64": ("int64_t", "i64", "c_int64"), "u8": ("uint8_t", "u8", "c_uint8"),
+    "i8": ("int8_t", "i8", "c_int8"), "i64": ("int64_t", "i64", "c_int64"), "u32": ("uint32_t", "u32", "c_uint32"), "u8": ("uint8_t", "u8", "c_uint8"),
     "u64": ("uint64_t", "u64", "c_uint64"), "usize": ("size_t", "usize", "c_size_t"), "f64": ("double", "f64", "c_double"),
 }
 FIELDS = {  # what a field of an exported struct is

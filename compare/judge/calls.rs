@@ -1,4 +1,4 @@
-//! The proved entries with slices for pointers and lengths. Each gives 0 or the number of a refusal.
+//! The proved entries with slices for pointers and lengths. Each that asks something gives 0 or the number of a refusal.
 use crate::study::{Grid, Study};
 
 #[path = "../../foreign/rust/src/c.rs"]
@@ -290,4 +290,10 @@ pub fn channels(tp: i64, channels: &mut usize) -> u64 {
 
 pub fn tally_add(tally: &mut u64, runs: u64) -> u64 {
     unsafe { c::pelmetsavory_tally_add(tally, runs) }
+}
+
+/// No number: nothing is asked.
+pub fn fill_frequencies(start: u32, records: [&mut [f64]; 3]) {
+    let [f1, f2, points] = records.map(write);
+    unsafe { c::pelmetsavory_fill_frequencies(start, f1.0, f1.1, f2.0, f2.1, points.0, points.1) }
 }

@@ -15,6 +15,7 @@ mod grids;
 mod kernels;
 mod lattices;
 mod lent;
+mod loads;
 mod nan;
 mod neighbours;
 mod report;
@@ -40,7 +41,7 @@ struct Group {
     share: u64,
 }
 
-static GROUPS: [Group; 9] = [
+static GROUPS: [Group; 10] = [
     Group {
         kinds: &lattices::KINDS,
         cases: lattices::cases,
@@ -93,7 +94,13 @@ static GROUPS: [Group; 9] = [
         kinds: &nan::KINDS,
         cases: nan::cases,
         rounds: 400000,
-        share: 5,
+        share: 4,
+    },
+    Group {
+        kinds: &loads::KINDS,
+        cases: loads::cases,
+        rounds: 4000,
+        share: 1,
     },
 ];
 

@@ -293,6 +293,36 @@ static void texts(void)
     YES(pelmetsavory_question(1) && !pelmetsavory_question(21));
 }
 
+/* test frequencies from a start: one chain over three buffers, each filled to its own length and no further; one of no length has no pointer */
+static void loads(void)
+{
+    enum { ROOM = 8 };
+    const uint32_t starts[5] = {0, 1, 2147483648u, 4294967295u, 123456789};
+    const size_t counts[6][3] = {{0, 0, 0}, {1, 0, 0}, {0, 1, 0}, {0, 0, 1}, {3, 0, 2}, {5, 3, 2}};
+    double buffers[3][ROOM], guard, want;
+    memset(&guard, 0x5a, sizeof guard);
+    for (int k = 0; k < 5; k++)
+        for (int j = 0; j < 6; j++) {
+            const size_t *n = counts[j];
+            double *to[3];
+            for (int r = 0; r < 3; r++) { memset(buffers[r], 0x5a, sizeof buffers[r]); to[r] = n[r] ? buffers[r] + 1 : NULL; }
+            pelmetsavory_fill_frequencies(starts[k], to[0], n[0], to[1], n[1], to[2], n[2]);
+            name("frequencies"); number(starts[k]);
+            uint32_t x = starts[k];
+            for (int r = 0; r < 3; r++) {
+                for (size_t i = 0; i < ROOM; i++) {
+                    want = guard;
+                    if (1 <= i && i <= n[r]) { x = x * 1664525u + 1013904223u; want = (x >> 16) / 4096.0; }
+                    YES(!memcmp(buffers[r] + i, &want, sizeof want));
+                }
+                number((long long)n[r]); floats(buffers[r] + 1, (int)n[r]);
+            }
+            end();
+        }
+    pelmetsavory_fill_frequencies(0, &want, 1, NULL, 0, NULL, 0);
+    YES(want == 3.77685546875);
+}
+
 /* the entries with work areas, on a stack that was filled with 0xa5 before */
 static void *deep(void *sheet)
 {
@@ -312,6 +342,7 @@ static void *deep(void *sheet)
     WANT(0, pelmetsavory_integration_weights_at_grid_points(at, 18, two, 2, table, 288, three, 3, frequencies1, 12, 3, 4, grid, addresses, 36, gp_map, 9, irreducible, 12, 'I'));
     WANT(0, pelmetsavory_relative_grid_address(unit, which, &index));
     pelmetsavory_all_relative_grid_address(all);
+    pelmetsavory_fill_frequencies(0, at, 9, weights, ENTRIES, w1, 135);
     return NULL;
 }
 
@@ -367,6 +398,7 @@ int main(int argc, char **argv)
     calls();
     lists();
     texts();
+    loads();
     if (out) YES(!fclose(out));
     if (argc < 2) stack_need();
     puts("c: ok");

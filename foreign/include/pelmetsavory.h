@@ -6,7 +6,8 @@
  * Nothing else may write these arrays while a call runs.
  * Any values in arrays and structs are taken: what is wrong is told by the status, 0 or the number of the first question that is
  * answered no (pelmetsavory_question gives its words). After a refusal every buffer and the tally are as they were. pelmetsavory_answer
- * has no status but the length of its answer, and writes a refusal as a line of text.
+ * has no status but the length of its answer, and writes a refusal as a line of text; pelmetsavory_all_relative_grid_address and
+ * pelmetsavory_fill_frequencies refuse nothing, and have no status.
  * A function letter 'I' names the weight of the density; any other byte names J, that of the number of states.
  * Call pelmetsavory_ready before anything else, in each thread. Floats: the thread must round to nearest, without flush-to-zero (FTZ) and
  * denormals-are-zero (DAZ). The library must be of the header's interface version.

@@ -5,7 +5,7 @@
 #include <stdint.h>
 
 /* The interface version that this header was made for: that of the library must be the same (pelmetsavory_ready). */
-#define PELMETSAVORY_INTERFACE_VERSION 2
+#define PELMETSAVORY_INTERFACE_VERSION 3
 
 /* A piece as a caller names it: any numbers. */
 typedef struct {
@@ -86,6 +86,16 @@ uint64_t pelmetsavory_matvec_di(
     const double a[9],
     pelmetsavory_triple b,
     double product[3]);
+
+/* Test frequencies from a 32-bit start: the first frequency record, then the second, then the points, one chain over all three. Any lengths; nothing is asked and nothing refused. */
+void pelmetsavory_fill_frequencies(
+    uint32_t start,
+    double *frequencies1,
+    size_t frequencies1_len,
+    double *frequencies2,
+    size_t frequencies2_len,
+    double *frequency_points,
+    size_t frequency_points_len);
 
 /* Plays a list of calls, six numbers a call, on a sheet with any marks, and counts the runs behind `tally`. Each call's status goes to its place in `answers`, the tally after it to its place in `tallies`. The status is 0, or 12: has the list six numbers for each of `answers` and of `tallies`? What a call asks is told in its place alone. */
 uint64_t pelmetsavory_play(

@@ -160,6 +160,11 @@ wanted = [open(DATA + "listing.txt", "rb").read()] + [b"refused\t%d\n" % n for n
 assert [pm.answer(x) for x in texts] == wanted and pm.answer(bytearray(stored)) == wanted[0]
 say("answer", *map(len, wanted))
 
+# test frequencies from a start: one chain over the three, each of its own length
+for start in 0, 1, 2**31, 2**32 - 1, 123456789:
+    for counts in (0, 0, 0), (1, 0, 0), (0, 1, 0), (0, 0, 1), (3, 0, 2), (5, 3, 2):
+        say("frequencies", start, *(x for a in pm.fill_frequencies(start, *counts) for x in (a.size, *hexed(a))))
+
 # empty arrays: no triplets is a sheet, no grid points is an answer, an empty table or grid is refused
 empty = pm.Sheet(other(triplets=[]))
 empty.carry_on()

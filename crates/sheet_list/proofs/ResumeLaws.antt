@@ -1,14 +1,13 @@
 -- "A cut leaves sheet and tally as the call before it left them": a list that is cut after any call and played in two goes. Assumes nothing.
-use mathlib.Core.Path.{_≡_, sym, ap, _∙_}
-use mathlib.Core.List.{List, [], _∷_, _++_, map, map-append, append-assoc, append-nil}
-use Prim.Native.Nat.{ℕ, zero, suc, _+_, _*_, _/_, _<_}
-use native.Mathlib.Nat.{add-suc}
+use mathlib.Core.Path.{_≡_, ap, _∙_}
+use mathlib.Core.List.{List, _++_, map, map-append}
+use Prim.Native.Nat.{ℕ, _+_, _*_, _/_, _<_}
 use native.Mathlib.Omega.{arith}
 use lib.IntN.{ℤ, pos}
 use lib.ListN.{length, length-append, List·getD-append}
 use lib.Seq.{getD-append-add}
 use Rattle.list_laws.specs.Lists.{tabulate}
-use Rattle.list_laws.proofs.FillLaws.{tabulate-ext}
+use Rattle.list_laws.proofs.FillLaws.{tabulate-ext, tabulate-cut}
 use Rattle.triplet_study.specs.Study.{Study}
 use Rattle.sheet_step.specs.Steps.{Sheet, Call}
 use Rattle.book_claim.specs.Lists.{played, answers}
@@ -16,14 +15,6 @@ use Rattle.book_claim.proofs.CutLaws.{played-cut, answers-cut}
 use Rattle.sheet_calls.specs.Calls.{numberAt, callOf, callAt, callsOf}
 use Rattle.sheet_play.specs.Outcomes.{numberIn, numbers, tallies}
 use Rattle.sheet_play.proofs.OutcomeLaws.{tallies-cut}
-
-tabulate-cut : {A : Type 0} (n k : ℕ) (f : ℕ → A) → tabulate (n + k) f ≡ tabulate n f ++ tabulate k (λ i. f (n + i))
-unfolding tabulate
-tabulate-cut n zero f = let e : n + 0 ≡ n = omega arith in rw e (sym (append-nil (tabulate n f)))
-tabulate-cut {A} n (suc k) f =
-    ap (λ (m : ℕ). tabulate m f) (add-suc n k)
-    ∙ ap (λ (l : List A). l ++ (f (n + k) ∷ [])) (tabulate-cut n k f)
-    ∙ append-assoc (tabulate n f) (tabulate k (λ i. f (n + i))) (f (n + k) ∷ [])
 
 module _ (first rest ids : List ℤ) (n : ℕ) (h : length first ≡ n * 6) where
   number-first : (i k : ℕ) → i < n → k < 6 → numberAt (first ++ rest) i k ≡ numberAt first i k

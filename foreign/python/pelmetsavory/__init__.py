@@ -2,7 +2,7 @@
 
 A Grid and a Study say what weights are made of, a Sheet holds the weights, flags, marks and tally of a study, and each other entry of the library
 has a function. Arrays are converted where nothing is lost and otherwise refused, their shapes are checked and never changed. A call that is refused
-raises Refused, which says the question in words, and changes nothing.
+raises Refused, which says the question in words, and changes nothing. `test_study()` is a study that anyone can make again from one number.
 
 >>> import numpy as np, pelmetsavory as pm
 >>> table, diagonal = pm.relative_grid_address(np.eye(3))
@@ -35,6 +35,7 @@ from ._functions import (
     tetrahedra_integration_weight,
 )
 from ._library import Refused, float_mode_ok
+from ._loads import fill_frequencies, test_study
 from ._sheet import Sheet, open_count
 from ._study import Grid, Shapes, Study
 from .entries import INTERFACE_VERSION, QUESTIONS
@@ -50,6 +51,7 @@ __all__ = [
     "all_relative_grid_address",
     "answer",
     "average_weights_over_degenerate_sets",
+    "fill_frequencies",
     "fill_neighboring_grid_points",
     "float_mode_ok",
     "grid_index_from_address",
@@ -63,5 +65,6 @@ __all__ = [
     "open_count",
     "relative_grid_address",
     "set_relative_grid_address",
+    "test_study",
     "tetrahedra_integration_weight",
 ]

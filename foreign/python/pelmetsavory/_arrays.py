@@ -17,6 +17,24 @@ def whole(name: str, given: Any) -> int:
     return number
 
 
+def index(name: str, given: Any) -> int:
+    """A whole number of Python or numpy; a bool is none."""
+    try:
+        if not isinstance(given, (bool, np.bool_)):
+            return operator.index(given)
+    except TypeError:
+        pass
+    raise TypeError(f"{name}: a whole number is wanted, not {given!r}")
+
+
+def unsigned(name: str, given: Any, bits: int) -> int:
+    """A whole number from 0 that so many bits hold."""
+    number = index(name, given)
+    if not 0 <= number < 2**bits:
+        raise OverflowError(f"{name}: {number} is not an unsigned number of {bits} bits")
+    return number
+
+
 def real(name: str, given: Any) -> float:
     """A number that a float holds exactly."""
     number = float(given)

@@ -3,14 +3,13 @@ from __future__ import annotations
 
 import copy
 import ctypes
-import operator
 import os
 from typing import Any, Iterable
 
 import numpy as np
 from numpy.typing import ArrayLike
 
-from ._arrays import inputs, numbers, output, whole
+from ._arrays import inputs, numbers, output, unsigned, whole
 from ._library import LIBRARY, Refused, checked
 from ._stored import Stored, packed, unpacked
 from ._study import Study, arguments, fingerprint
@@ -41,13 +40,6 @@ class Written:
             if name != self.name and name in sheet.__dict__ and np.may_share_memory(a, sheet.__dict__[name]):
                 raise ValueError(f"{self.name} overlaps {name}")
         sheet.__dict__[self.name] = a
-
-
-def _unsigned(name: str, given: Any) -> int:
-    number = operator.index(given)
-    if not 0 <= number < 2**64:
-        raise OverflowError(f"{name}: {number} is not an unsigned number of 64 bits")
-    return number
 
 
 def _run_row(ids: list[int], triplet: int, b1: int, b2: int) -> tuple[int, ...]:
@@ -86,7 +78,7 @@ class Sheet:
         self.weights = np.zeros(shapes.weights, np.float64) if weights is None else weights
         self.flags = np.zeros(shapes.flags, np.int8) if flags is None else flags
         self.marks = np.zeros(shapes.marks, np.uint8) if marks is None else marks
-        self._tally = np.array([_unsigned("tally", tally)], np.uint64)
+        self._tally = np.array([unsigned("tally", tally, 64)], np.uint64)
         self.began = tally
         self._made_of = study._records()
 
@@ -107,7 +99,7 @@ class Sheet:
 
     @began.setter
     def began(self, given: int) -> None:
-        self._began = _unsigned("began", given)
+        self._began = unsigned("began", given, 64)
 
     def run_piece(self, triplet: int, b1: int, b2: int) -> None:
         """Writes a piece's weights and flags at every point, and marks it computed."""

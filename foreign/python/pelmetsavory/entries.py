@@ -2,7 +2,7 @@
 import ctypes
 
 # the interface version that this module was made for
-INTERFACE_VERSION = 2
+INTERFACE_VERSION = 3
 
 
 class Piece(ctypes.Structure):
@@ -109,6 +109,15 @@ ENTRIES = {
         ("a", "const", ctypes.c_double, 9),
         ("b", "value", Triple, None),
         ("product", "mut", ctypes.c_double, 3),
+    ]),
+    "pelmetsavory_fill_frequencies": (None, [
+        ("start", "value", ctypes.c_uint32, None),
+        ("frequencies1", "mut", ctypes.c_double, None),
+        ("frequencies1_len", "value", ctypes.c_size_t, None),
+        ("frequencies2", "mut", ctypes.c_double, None),
+        ("frequencies2_len", "value", ctypes.c_size_t, None),
+        ("frequency_points", "mut", ctypes.c_double, None),
+        ("frequency_points_len", "value", ctypes.c_size_t, None),
     ]),
     "pelmetsavory_play": (ctypes.c_uint64, [
         ("shape", "value", Shape, None),

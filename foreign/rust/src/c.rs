@@ -1,7 +1,7 @@
 // made by foreign/bindings.py from the Rattle source and foreign/questions.txt: do not edit
 
 /// The interface version that this crate was made for: that of the library must be the same.
-pub const INTERFACE_VERSION: u64 = 2;
+pub const INTERFACE_VERSION: u64 = 3;
 
 /// A piece as a caller names it: any numbers.
 #[repr(C)]
@@ -161,6 +161,15 @@ entries! {
         b: Triple,
         product: *mut [f64; 3],
     ) -> u64;
+    pub fn pelmetsavory_fill_frequencies(
+        start: u32,
+        frequencies1: *mut f64,
+        frequencies1_len: usize,
+        frequencies2: *mut f64,
+        frequencies2_len: usize,
+        frequency_points: *mut f64,
+        frequency_points_len: usize,
+    );
     pub fn pelmetsavory_play(
         shape: Shape,
         addresses: *const i64,

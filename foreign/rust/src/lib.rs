@@ -397,6 +397,25 @@ pub fn tally_add(tally: &mut u64, runs: u64) -> Result<(), Refused> {
     told(unsafe { c::pelmetsavory_tally_add(tally, runs) })
 }
 
+/// Fills the first frequency record, then the second, then the points with test frequencies that anyone can make again from the start. Any
+/// lengths; nothing is refused. One chain goes over the three: x becomes (1664525 x + 1013904223) mod 2^32, and then the frequency is its upper
+/// 16 bits divided by 4096.
+///
+/// ```
+/// let (mut frequencies1, mut frequencies2, mut points) = ([0.0; 2], [0.0; 1], [0.0; 1]);
+/// pelmetsavory::fill_frequencies(0, &mut frequencies1, &mut frequencies2, &mut points);
+/// assert_eq!((frequencies1, frequencies2, points), ([3.77685546875, 4.45703125], [13.1123046875], [10.685791015625]));
+/// ```
+pub fn fill_frequencies(start: u32, frequencies1: &mut [f64], frequencies2: &mut [f64], frequency_points: &mut [f64]) {
+    // SAFETY: the entry takes any start and any lengths; each pair is a live slice that is borrowed `&mut`.
+    unsafe {
+        c::pelmetsavory_fill_frequencies(
+            start, frequencies1.as_mut_ptr(), frequencies1.len(), frequencies2.as_mut_ptr(), frequencies2.len(),
+            frequency_points.as_mut_ptr(), frequency_points.len(),
+        )
+    }
+}
+
 /// What the program `weights` prints for the text of a study: its listing, or `refused`, a tab, the question's number and a newline.
 /// Needs less than 1.25 MiB of stack.
 pub fn answer(text: &[u8]) -> Vec<u8> {

@@ -188,6 +188,7 @@ fn every_entry_and_every_refusal() {
 
     lists(&y, &mut out);
     answers(&stored, &mut out);
+    loads(&mut out);
     if let Ok(path) = std::env::var("PELMETSAVORY_OUT") {
         std::fs::write(path, out).unwrap();
     }
@@ -261,4 +262,28 @@ fn answers(listing: &str, out: &mut String) {
     let want = [listing, "refused\t1\n", "refused\t1\n", "refused\t1\n", "refused\t3\n", "refused\t10\n"];
     assert!(all.iter().zip(want).all(|(got, want)| got == want.as_bytes()));
     say(out, "answer", vec![text(&all.iter().map(Vec::len).collect::<Vec<_>>())]);
+}
+
+/// Test frequencies from a start: one chain over the three, each filled to its own length and no further.
+fn loads(out: &mut String) {
+    for start in [0, 1, 1 << 31, u32::MAX, 123456789] {
+        for counts in [[0, 0, 0], [1, 0, 0], [0, 1, 0], [0, 0, 1], [3, 0, 2], [5, 3, 2]] {
+            let mut buffers = counts.map(|n| vec![-7.25; n + 2]);
+            let [a, b, c] = &mut buffers;
+            fill_frequencies(start, &mut a[1..=counts[0]], &mut b[1..=counts[1]], &mut c[1..=counts[2]]);
+            let (mut x, mut said) = (start, vec![text(&[start])]);
+            for (n, values) in counts.into_iter().zip(&buffers) {
+                assert!(values[0] == -7.25 && values[n + 1] == -7.25);
+                for value in &values[1..=n] {
+                    x = x.wrapping_mul(1664525).wrapping_add(1013904223);
+                    assert_eq!(value.to_bits(), (f64::from(x >> 16) / 4096.0).to_bits());
+                }
+                said.extend([text(&[n]), hex(&values[1..=n])]);
+            }
+            say(out, "frequencies", said);
+        }
+    }
+    let mut first = [0.0];
+    fill_frequencies(0, &mut first, &mut [], &mut []);
+    assert_eq!(first, [3.77685546875]);
 }
