@@ -10,7 +10,7 @@ pub struct Load {
     pub study: Study,
     /// Pairs of neighbouring bands are the degenerate sets.
     pub ids: Vec<i64>,
-    /// Every piece as a named run, six numbers each, in ascending order.
+    /// Every piece as a named run, six numbers each, in ascending order, by the sixteen workers in turn.
     pub runs: Vec<i64>,
     // the study as the Rust takes it
     addresses: Vec<Vec3I>,
@@ -69,7 +69,7 @@ impl Load {
         let (b, pairs) = (bands as i64, (bands * bands) as i64);
         Load {
             runs: (0..pieces)
-                .flat_map(|q| [0, q / pairs, q % pairs / b, q % b, 0, 0])
+                .flat_map(|q| [0, q % 16, q / pairs, q % pairs / b, q % b, 0])
                 .collect(),
             ids: (0..bands as i64).map(|b| b - b % 2).collect(),
             addresses: triples(&study.grid.addresses),
@@ -97,7 +97,7 @@ impl Load {
             weights: vec![0.0; s.channels() * cells],
             flags: vec![0; cells],
             marks: vec![0; s.count() * s.pairs()],
-            tally: 0,
+            tally: [0; 16],
         }
     }
 }
@@ -106,7 +106,7 @@ pub fn clear(s: &mut Sheet) {
     s.weights.fill(0.0);
     s.flags.fill(0);
     s.marks.fill(0);
-    s.tally = 0;
+    s.tally = [0; 16];
 }
 
 /// The Rust's function for one triplet in a loop, on one thread.
@@ -150,9 +150,12 @@ fn parts(s: &mut Sheet) -> Parts<'_> {
     }
 }
 
+/// Who carries on.
+pub const CARRIER: usize = 7;
+
 #[inline(never)]
 pub fn carry_on(l: &Load, s: &mut Sheet) {
-    let no = calls::carry_on(&l.study, parts(s));
+    let no = calls::carry_on(&l.study, parts(s), CARRIER as i64);
     assert!(no == 0, "refused {no}");
 }
 
@@ -164,16 +167,16 @@ pub fn all_triplets(l: &Load, s: &mut Sheet) {
 }
 
 #[inline(never)]
-pub fn run_piece(l: &Load, s: &mut Sheet, piece: [usize; 3]) {
-    let no = calls::run_piece(&l.study, parts(s), piece.map(|x| x as i64));
+pub fn run_piece(l: &Load, s: &mut Sheet, worker: usize, piece: [usize; 3]) {
+    let no = calls::run_piece(&l.study, parts(s), worker as i64, piece.map(|x| x as i64));
     assert!(no == 0, "refused {no}");
 }
 
-/// All pieces as named runs in one list.
+/// All pieces as named runs in one list: an answer and sixteen counts for each.
 #[inline(never)]
 pub fn list(l: &Load, s: &mut Sheet) {
     let n = l.runs.len() / 6;
-    let (mut answers, mut tallies) = (vec![1; n], vec![0; n]);
+    let (mut answers, mut tallies) = (vec![1; n], vec![0; 16 * n]);
     let no = calls::play(
         &l.study,
         parts(s),
@@ -195,6 +198,6 @@ pub fn average(l: &Load, s: &mut Sheet, i: usize) {
 #[inline(never)]
 pub fn questions(l: &Load, s: &mut Sheet) {
     let piece = [l.study.count() as i64, 0, 0];
-    let no = calls::run_piece(&l.study, parts(s), piece);
+    let no = calls::run_piece(&l.study, parts(s), 0, piece);
     assert!(no == 14, "{no}, not refused with 14");
 }

@@ -14,7 +14,7 @@ import tempfile
 
 here = os.path.dirname(os.path.abspath(__file__))
 
-# file, old text, new text
+# file, old text, new text, and more old and new texts where a change has more than one place
 STUDIES = [
     ("scope.py", "all(1 <= d <= most for d in mesh)", "all(1 <= d <= most + 1 for d in mesh)"),
     ("scope.py", "-4096 <= x <= 4096", "-4096 <= x <= 4097"),
@@ -35,13 +35,13 @@ STUDIES = [
     ("studies/checker.py", "    if not type_ok:\n        return 8\n    if not counts_ok:\n        return 9\n",
      "    if not counts_ok:\n        return 9\n    if not type_ok:\n        return 8\n"),
 ]
-SHEETS = [("sheet/sheet_model.py", old, new) for old, new in (
-    ("sheet.tally + runs < 1 << 63", "sheet.tally + runs <= 1 << 63"),
-    ('"run": tuple(range(3, 16)) + (20,)', '"run": tuple(range(3, 15)) + (20,)'),
-    ('"carry_on": tuple(range(3, 14)) + (20,)', '"carry_on": (20,) + tuple(range(3, 14))'),
+SHEETS = [("sheet/sheet_model.py", *texts) for texts in (
+    ("sheet.tally[call[1]] + runs < 1 << 63", "sheet.tally[call[1]] + runs <= 1 << 63"),
+    ('"run": tuple(range(3, 16)) + (21, 20)', '"run": tuple(range(3, 15)) + (21, 20)'),
+    ('"carry_on": tuple(range(3, 14)) + (21, 20)', '"carry_on": (21, 20) + tuple(range(3, 14))'),
     ('"average": tuple(range(3, 20))', '"average": tuple(range(3, 21))'),
     ("        if any(m > 2 for m in marks):\n            return False\n", ""),
-    ("0 <= call[2] < s.bands[0]", "0 <= call[2] < min(s.bands)"),
+    ("0 <= call[3] < s.bands[0]", "0 <= call[3] < min(s.bands)"),
     ("return s.bands[0] == s.bands[1]", "return s.bands[0] == s.bands[1] > 1"),
     ("x == i or (i > 0 and x == ids[i - 1])", "x <= i"),
     ("return all(m == 1 for m in marks_of(s, sheet, call[1]))", "return any(m == 1 for m in marks_of(s, sheet, call[1]))"),
@@ -58,6 +58,23 @@ SHEETS = [("sheet/sheet_model.py", old, new) for old, new in (
     ("if abs(delta) < EPSILON", "if abs(delta) <= EPSILON"),
     ("flag = min(piece(s, t, x, y)[point][1]", "flag = max(piece(s, t, x, y)[point][1]"),
     ("                self.words[i] = AVERAGED", "                self.words[i] = COMPUTED"),
+    # Workers: one count for all; a carry-on counted as one; repeats not counted, in program and book; 20 of the sum, 20 of the greatest; 20 with
+    # nothing open; 21 after 20, of either call; the lowest four bits taken for the worker; 21 for the last; 21 before 15.
+    ("    sheet.tally[worker] += 1", "    sheet.tally[0] += 1"),
+    ("sheet.tally[worker] += runs", "sheet.tally[worker] += min(runs, 1)"),
+    ("    write_piece(s, sheet, t, b1, b2)\n    sheet.tally[worker] += 1",
+     "    sheet.tally[worker] += sheet.marks[mark_place(s, t, b1, b2)] == 0\n    write_piece(s, sheet, t, b1, b2)"),
+    ("                self.words[i] = COMPUTED\n                self.ran.append(call[1])",
+     "                self.ran += [call[1]] * (self.words[i] == OPEN)\n                self.words[i] = COMPUTED"),
+    ("sheet.tally[call[1]] + runs", "sum(sheet.tally) + runs"),
+    ("sheet.tally[call[1]] + runs", "max(sheet.tally) + runs"),
+    ("return sheet.tally[call[1]] + runs < 1 << 63", "return runs == 0 or sheet.tally[call[1]] + runs < 1 << 63"),
+    ("(3, 16)) + (21, 20)", "(3, 16)) + (20, 21)", "sheet.tally[call[1]]", "sheet.tally[call[1] & 15]"),
+    ("(3, 14)) + (21, 20)", "(3, 14)) + (20, 21)", "sheet.tally[call[1]]", "sheet.tally[call[1] & 15]"),
+    ("return 0 <= call[1] < WORKERS", "return True", "sheet.tally[call[1]]", "sheet.tally[call[1] & 15]",
+     "sheet.tally[worker] += 1", "sheet.tally[worker & 15] += 1", "sheet.tally[worker] += runs", "sheet.tally[worker & 15] += runs"),
+    ("0 <= call[1] < WORKERS", "0 <= call[1] < WORKERS - 1"),
+    ('"run": tuple(range(3, 16)) + (21, 20)', '"run": tuple(range(3, 15)) + (21, 15, 20)'),
 )]
 
 
@@ -70,17 +87,19 @@ def seen(folder, change, command):
     """Whether the changed scripts, run in a folder, tell differences."""
     for part in ("compare", "foreign/python"):
         shutil.copytree(os.path.join(here, "..", part), os.path.join(folder, part))
-    file, old, new = change
+    file, *texts = change
     path = os.path.join(folder, "compare", file)
     with open(path) as f:
         text = f.read()
-    assert text.count(old) >= 1, change
+    for old, new in zip(texts[::2], texts[1::2], strict=True):
+        assert text.count(old) >= 1, change
+        text = text.replace(old, new, 1)
     with open(path, "w") as f:
-        f.write(text.replace(old, new, 1))
+        f.write(text)
     script = os.path.join(folder, "compare", command[0])
     done = subprocess.run([sys.executable, "-O", script, *command[1:]], cwd=folder, capture_output=True, text=True)
     differences = counted(done.stdout)
-    print("%s: %r: status %d, %d differences" % (file, new[:70], done.returncode, differences), flush=True)
+    print("%s: %r: status %d, %d differences" % (file, texts[1][:70], done.returncode, differences), flush=True)
     return done.returncode == 1 and differences > 0
 
 

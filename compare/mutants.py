@@ -19,6 +19,9 @@ STEPS = "base[0] + rel[0], base[1] + rel[1], base[2] + rel[2]"
 AVERAGE = """.map(|b1| matrix[b1 * num_band + s2..][..c2].iter().sum::<f64>())
                 .sum();"""
 
+WORKER = "        (21, &|| within(worker, 0, 15)),\n"
+FULL = "        (20, &|| before + (runs as u128) < 1 << 63),\n"
+
 # The judge's own files; the others are the Rust's.
 OWN = ("asks", "loads")
 # file, old text, new text, and which of its places (the first where none is told)
@@ -58,7 +61,11 @@ CHANGES = [
     ("asks", "w.abs() <= power(60) && !(w == 0.0 && w.is_sign_negative())", "w.abs() <= power(60)"),
     ("asks", "(0..n).all(|i| g.map[i] < g.map[i + 1])", "(0..n).all(|i| g.map[i] <= g.map[i + 1])"),
     ("asks", "(averaged == 0 || averaged == m.len())", "(averaged == 0 || averaged > 0)"),
-    ("asks", "(before as u128 + runs as u128) < 1 << 63", "(before as u128 + runs as u128) <= 1 << 63"),
+    ("asks", "before + (runs as u128) < 1 << 63", "before + (runs as u128) <= 1 << 63"),
+    ("asks", "within(worker, 0, 15)", "within(worker, 0, 16)"),
+    ("asks", "(worker & 15) as usize", "(worker & 0) as usize"),
+    ("asks", "counts[place(worker)] as u128", "counts.iter().map(|c| *c as u128).sum::<u128>()"),
+    ("asks", WORKER + FULL, FULL + WORKER),
     ("asks", "(7, &|| table(t)),\n        (8, &|| known_type(tp)),", "(8, &|| known_type(tp)),\n        (7, &|| table(t)),"),
     ("loads", "wrapping_add(1013904223)", "wrapping_add(1013904222)"),
     ("loads", "let [_, _, low, high]", "let [low, high, _, _]"),

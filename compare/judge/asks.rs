@@ -1,5 +1,5 @@
-//! The questions of document 01, written from its text: each call's own, in the order of their numbers.
-//! Nothing here is shared with the proved side or with the Rust.
+//! The questions of document 01, and of request 2 that of the worker, written from their text: each call's own, in the order in which they
+//! are asked. Nothing here is shared with the proved side or with the Rust.
 use crate::calls::GridPoints;
 use crate::study::{Grid, Study};
 
@@ -297,8 +297,18 @@ pub fn averages(c: &Averages) -> u64 {
     ])
 }
 
-pub fn tally(before: u64, runs: u64) -> u64 {
-    first_no(&[(20, &|| (before as u128 + runs as u128) < 1 << 63)])
+/// Where a worker's count stands; by the lowest four bits, so that what is no worker has a place too.
+pub fn place(worker: i64) -> usize {
+    (worker & 15) as usize
+}
+
+/// The worker, then that count alone.
+pub fn tally(counts: &[u64; 16], worker: i64, runs: u64) -> u64 {
+    let before = counts[place(worker)] as u128;
+    first_no(&[
+        (21, &|| within(worker, 0, 15)),
+        (20, &|| before + (runs as u128) < 1 << 63),
+    ])
 }
 
 pub fn open_count(counts_of: [i64; 4], flags: usize, triplet: i64) -> u64 {
@@ -315,7 +325,7 @@ pub struct Sheet<'a> {
     pub weights: &'a [f64],
     pub flags: usize,
     pub marks: &'a [u8],
-    pub tally: u64,
+    pub tally: &'a [u64; 16],
 }
 
 /// The marks of a triplet.
@@ -354,24 +364,19 @@ fn averaged(s: &Study, sheet: &Sheet, t: i64) -> bool {
     marks_of(s, sheet, t as usize).contains(&2)
 }
 
-pub fn run_piece(s: &Study, sheet: &Sheet, piece: [i64; 3]) -> u64 {
+pub fn run_piece(s: &Study, sheet: &Sheet, worker: i64, piece: [i64; 3]) -> u64 {
     let [t, b1, b2] = piece;
     let there =
         || has_triplet(s, t) && within(b1, 0, s.bands[0] - 1) && within(b2, 0, s.bands[1] - 1);
-    then(sheet_study(s, sheet), || {
-        first_no(&[
-            (14, &there),
-            (15, &|| !averaged(s, sheet, t)),
-            (20, &|| tally(sheet.tally, 1) == 0),
-        ])
+    let named = || first_no(&[(14, &there), (15, &|| !averaged(s, sheet, t))]);
+    then(then(sheet_study(s, sheet), named), || {
+        tally(sheet.tally, worker, 1)
     })
 }
 
-pub fn carry_on(s: &Study, sheet: &Sheet) -> u64 {
+pub fn carry_on(s: &Study, sheet: &Sheet, worker: i64) -> u64 {
     let open = || sheet.marks.iter().filter(|m| **m == 0).count() as u64;
-    then(sheet_study(s, sheet), || {
-        first_no(&[(20, &|| tally(sheet.tally, open()) == 0)])
-    })
+    then(sheet_study(s, sheet), || tally(sheet.tally, worker, open()))
 }
 
 fn triplet_averageable(s: &Study, sheet: &Sheet, t: i64) -> bool {

@@ -50,10 +50,10 @@ pub struct Parts<'a> {
     pub weights: &'a mut [f64],
     pub flags: &'a mut [i8],
     pub marks: &'a mut [u8],
-    pub tally: &'a mut u64,
+    pub tally: &'a mut [u64; 16],
 }
 
-pub fn run_piece(s: &Study, p: Parts, piece: [i64; 3]) -> u64 {
+pub fn run_piece(s: &Study, p: Parts, worker: i64, piece: [i64; 3]) -> u64 {
     let [triplet, b1, b2] = piece;
     let (t, w, f, m) = (
         read(&s.triplets),
@@ -65,18 +65,18 @@ pub fn run_piece(s: &Study, p: Parts, piece: [i64; 3]) -> u64 {
         pelmetsavory_run_piece,
         s,
         [t, w, f, m],
-        [p.tally, c::Piece { triplet, b1, b2 }]
+        [p.tally, worker, c::Piece { triplet, b1, b2 }]
     )
 }
 
-pub fn carry_on(s: &Study, p: Parts) -> u64 {
+pub fn carry_on(s: &Study, p: Parts, worker: i64) -> u64 {
     let (t, w, f, m) = (
         read(&s.triplets),
         write(p.weights),
         write(p.flags),
         write(p.marks),
     );
-    of_study!(pelmetsavory_carry_on, s, [t, w, f, m], [p.tally])
+    of_study!(pelmetsavory_carry_on, s, [t, w, f, m], [p.tally, worker])
 }
 
 pub fn play(
@@ -288,8 +288,8 @@ pub fn channels(tp: i64, channels: &mut usize) -> u64 {
     unsafe { c::pelmetsavory_num_channels(tp, channels) }
 }
 
-pub fn tally_add(tally: &mut u64, runs: u64) -> u64 {
-    unsafe { c::pelmetsavory_tally_add(tally, runs) }
+pub fn tally_add(tally: &mut [u64; 16], worker: i64, runs: u64) -> u64 {
+    unsafe { c::pelmetsavory_tally_add(tally, worker, runs) }
 }
 
 /// No number: nothing is asked.

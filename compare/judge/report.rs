@@ -25,10 +25,13 @@ impl Kind {
     }
 }
 
+/// One more than the greatest number of a question.
+const NUMBERS: usize = 22;
+
 pub struct Seen {
     kind: &'static Kind,
     cases: u64,
-    answers: [u64; 21],
+    answers: [u64; NUMBERS],
     differ: u64,
     told: u64,
 }
@@ -41,7 +44,7 @@ impl Seen {
         Seen {
             kind,
             cases: 0,
-            answers: [0; 21],
+            answers: [0; NUMBERS],
             differ: 0,
             told: 0,
         }
@@ -80,14 +83,14 @@ impl Seen {
 
     /// Numbers that came though the kind cannot answer them.
     fn foreign(&self) -> Vec<u64> {
-        (1..21)
+        (1..NUMBERS as u64)
             .filter(|n| self.answers[*n as usize] > 0 && !self.kind.numbers.contains(n))
             .collect()
     }
 
     /// The line of compare/run's table; whether all is well.
     pub fn print(&self) -> bool {
-        let refused: Vec<String> = (1..21)
+        let refused: Vec<String> = (1..NUMBERS)
             .filter(|n| self.answers[*n] > 0)
             .map(|n| format!("{n}:{}", self.answers[n]))
             .collect();

@@ -1,4 +1,4 @@
-//! Single calls on run sheets, the Rust's weights as the content that is right; the tally; the open count.
+//! Single calls on run sheets, the Rust's weights as the content that is right; the counts of the workers; the open count.
 use crate::averages::{flag, ids, spoil_ids, spoiled_weight, weight};
 use crate::calls::Parts;
 use crate::lent::{any, same, Lent, Word};
@@ -9,15 +9,15 @@ use crate::study::{Sheet, Study};
 use crate::triplets::lengths;
 use crate::{asks, calls};
 
-const RUN: &[u64] = &[3, 4, 5, 6, 7, 8, 9, 10, 11, 12, 13, 14, 15, 20];
-const CARRY: &[u64] = &[3, 4, 5, 6, 7, 8, 9, 10, 11, 12, 13, 20];
+const RUN: &[u64] = &[3, 4, 5, 6, 7, 8, 9, 10, 11, 12, 13, 14, 15, 20, 21];
+const CARRY: &[u64] = &[3, 4, 5, 6, 7, 8, 9, 10, 11, 12, 13, 20, 21];
 const AVERAGE: &[u64] = &[3, 4, 5, 6, 7, 8, 9, 10, 11, 12, 13, 14, 15, 16, 17, 18, 19];
 
 pub const KINDS: [Kind; 5] = [
     Kind::telling("run a piece", RUN, "change a weight"),
     Kind::telling("carry on", CARRY, "change a weight"),
     Kind::telling("average a triplet", AVERAGE, "change a weight"),
-    Kind::new("tally", &[20]),
+    Kind::new("tally", &[20, 21]),
     Kind::new("open count", &[9, 12, 14]),
 ];
 
@@ -36,7 +36,7 @@ fn sheet(r: &mut Rng, s: &Study, wrong_length: bool) -> Sheet {
         weights: any(r, w),
         flags: any(r, f),
         marks: marks(r, s),
-        tally: counted(r),
+        tally: counts(r),
     };
     if wrong_length {
         match r.below(3) {
@@ -67,12 +67,35 @@ fn marks(r: &mut Rng, s: &Study) -> Vec<u8> {
         .collect()
 }
 
-/// A tally, often just below the limit or beyond it.
+/// A worker's count, often just below the limit or beyond it.
 fn counted(r: &mut Rng) -> u64 {
     match r.below(10) {
         0 => (1 << 63) - r.between(0, 4) as u64,
         1 => r.pick(&[u64::MAX, 1 << 63, (1 << 63) + 1]),
         _ => r.next() >> r.between(2, 63),
+    }
+}
+
+fn counts(r: &mut Rng) -> [u64; 16] {
+    std::array::from_fn(|_| counted(r))
+}
+
+/// Next to the range, what fewer bits take for a worker, or any number.
+fn no_worker(r: &mut Rng) -> i64 {
+    let far = [FAR[0], FAR[1], 1 << 32, (1 << 32) + r.between(0, 15)];
+    match r.below(4) {
+        0 => r.pick(&[-1, 16, 17, 256]),
+        1 => 1 << r.between(4, 62) | r.between(0, 15),
+        2 => r.pick(&far),
+        _ => r.next() as i64,
+    }
+}
+
+fn worker(r: &mut Rng, fault: bool) -> i64 {
+    if fault {
+        no_worker(r)
+    } else {
+        r.between(0, 15)
     }
 }
 
@@ -109,8 +132,13 @@ fn asked(sheet: &Sheet) -> asks::Sheet<'_> {
         weights: &sheet.weights,
         flags: sheet.flags.len(),
         marks: &sheet.marks,
-        tally: sheet.tally,
+        tally: &sheet.tally,
     }
+}
+
+/// The counts as a call takes them.
+fn sixteen(counts: &mut [u64]) -> &mut [u64; 16] {
+    counts.try_into().expect("sixteen counts")
 }
 
 /// Makes a call on a copy of a sheet; whether the answer is the number and the copy then holds what the sheet should.
@@ -124,22 +152,22 @@ fn agrees(
     let mut weights = Lent::new(r, &before.weights);
     let mut flags = Lent::new(r, &before.flags);
     let mut marks = Lent::new(r, &before.marks);
-    let mut tally = before.tally;
+    let mut tally = Lent::new(r, &before.tally);
     let parts = Parts {
         weights: weights.lend(),
         flags: flags.lend(),
         marks: marks.lend(),
-        tally: &mut tally,
+        tally: sixteen(tally.lend()),
     };
     call(parts) == no
         && weights.holds(&want.weights)
         && flags.holds(&want.flags)
         && marks.holds(&want.marks)
-        && tally == want.tally
+        && tally.holds(&want.tally)
 }
 
-/// The sheet with the Rust's entries of some pieces, marked 1 and counted.
-fn computed(s: &Study, before: &Sheet, piece: impl Fn(usize) -> bool) -> Sheet {
+/// The sheet with the Rust's entries of some pieces, marked 1 and counted for a worker.
+fn computed(s: &Study, before: &Sheet, worker: i64, piece: impl Fn(usize) -> bool) -> Sheet {
     let mut after = before.clone();
     let (mut w, mut f) = (before.weights.clone(), before.flags.clone());
     if s.count() > 0 {
@@ -155,7 +183,7 @@ fn computed(s: &Study, before: &Sheet, piece: impl Fn(usize) -> bool) -> Sheet {
     }
     for k in (0..after.marks.len()).filter(|k| piece(*k)) {
         after.marks[k] = 1;
-        after.tally += 1;
+        after.tally[asks::place(worker)] += 1;
     }
     after
 }
@@ -171,7 +199,7 @@ fn unnamed(r: &mut Rng, count: i64) -> i64 {
 
 fn run(r: &mut Rng, seen: &mut Seen) {
     let mut s = sheet_study(r);
-    let faults = r.faults(COMMON + 2);
+    let faults = r.faults(COMMON + 3);
     let mut sheet = drawn(r, &faults, &mut s);
     let counts = [s.count() as i64, s.bands[0], s.bands[1]];
     let mut piece = counts.map(|n| named(r, n));
@@ -179,42 +207,49 @@ fn run(r: &mut Rng, seen: &mut Seen) {
         let k = r.below(3);
         piece[k] = unnamed(r, counts[k]);
     }
-    if faults.contains(&(COMMON + 1)) {
-        sheet.tally = (1 << 63) - r.between(0, 2) as u64;
+    let worker = worker(r, faults.contains(&(COMMON + 1)));
+    if faults.contains(&(COMMON + 2)) {
+        sheet.tally[asks::place(worker)] = (1 << 63) - r.between(0, 2) as u64;
     }
-    let no = asks::run_piece(&s, &asked(&sheet), piece);
+    let no = asks::run_piece(&s, &asked(&sheet), worker, piece);
     let [t, b1, b2] = piece;
     let at = |k: usize| k as i64 == (t * s.bands[0] + b1) * s.bands[1] + b2;
     let want = if no == 0 {
-        computed(&s, &sheet, at)
+        computed(&s, &sheet, worker, at)
     } else {
         sheet.clone()
     };
     seen.tell(no == 0 && !same(&sheet.weights, &want.weights));
     let right = agrees(r, &sheet, &want, no, |parts| {
-        calls::run_piece(&s, parts, piece)
+        calls::run_piece(&s, parts, worker, piece)
     });
-    seen.note(no, right, || format!("piece {piece:?}, {sheet:?}, {s:?}"));
+    seen.note(no, right, || {
+        format!("worker {worker}, piece {piece:?}, {sheet:?}, {s:?}")
+    });
 }
 
 fn carry(r: &mut Rng, seen: &mut Seen) {
     let mut s = sheet_study(r);
-    let faults = r.faults(COMMON + 1);
+    let faults = r.faults(COMMON + 2);
     let mut sheet = drawn(r, &faults, &mut s);
-    if faults.contains(&COMMON) {
+    let worker = worker(r, faults.contains(&COMMON));
+    if faults.contains(&(COMMON + 1)) {
         let open = sheet.marks.iter().filter(|m| **m == 0).count() as u64;
-        sheet.tally = ((1 << 63) - open).saturating_add_signed(r.between(-2, 2));
+        let count = ((1 << 63) - open).saturating_add_signed(r.between(-2, 2));
+        sheet.tally[asks::place(worker)] = count;
     }
-    let no = asks::carry_on(&s, &asked(&sheet));
+    let no = asks::carry_on(&s, &asked(&sheet), worker);
     let open = |k: usize| sheet.marks[k] == 0;
     let want = if no == 0 {
-        computed(&s, &sheet, open)
+        computed(&s, &sheet, worker, open)
     } else {
         sheet.clone()
     };
     seen.tell(no == 0 && !same(&sheet.weights, &want.weights));
-    let right = agrees(r, &sheet, &want, no, |parts| calls::carry_on(&s, parts));
-    seen.note(no, right, || format!("{sheet:?}, {s:?}"));
+    let right = agrees(r, &sheet, &want, no, |parts| {
+        calls::carry_on(&s, parts, worker)
+    });
+    seen.note(no, right, || format!("worker {worker}, {sheet:?}, {s:?}"));
 }
 
 /// A sheet on which most triplets can be averaged.
@@ -275,20 +310,25 @@ fn equal_bands(s: &mut Study) {
 }
 
 fn tally(r: &mut Rng, seen: &mut Seen) {
-    let before = counted(r);
-    let room = (1u64 << 63).saturating_sub(before);
+    let before = counts(r);
+    let fault = r.one_in(6);
+    let worker = worker(r, fault);
+    let room = (1u64 << 63).saturating_sub(before[asks::place(worker)]);
     let runs = match r.below(4) {
         0 => room.saturating_add_signed(r.between(-2, 1)),
         1 => r.pick(&[0, 1, u64::MAX, 1 << 63]),
         _ => r.next() >> r.between(0, 63),
     };
-    let no = asks::tally(before, runs);
-    let want = if no == 0 { before + runs } else { before };
-    let mut got = before;
-    let answer = calls::tally_add(&mut got, runs);
-    let right = answer == no && got == want;
+    let no = asks::tally(&before, worker, runs);
+    let mut want = before;
+    if no == 0 {
+        want[asks::place(worker)] += runs;
+    }
+    let mut got = Lent::new(r, &before);
+    let answer = calls::tally_add(sixteen(got.lend()), worker, runs);
+    let right = answer == no && got.holds(&want);
     seen.note(no, right, || {
-        format!("{answer}, {before} and {runs}: {got}")
+        format!("{answer}, worker {worker}, {before:?} and {runs}")
     });
 }
 

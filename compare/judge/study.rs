@@ -111,7 +111,8 @@ pub struct Sheet {
     pub weights: Vec<f64>,
     pub flags: Vec<i8>,
     pub marks: Vec<u8>,
-    pub tally: u64,
+    /// A count for each worker.
+    pub tally: [u64; 16],
 }
 
 impl Sheet {

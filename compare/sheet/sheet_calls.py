@@ -4,8 +4,10 @@
     sheet_calls.py LIBRARY [LISTS] [SEED]
 
 LIBRARY is libpelmetsavory.so. First the stored lists and open counts of sheet_cases.py, then LISTS random lists (2,000; 60s: for so many
-seconds). After each call the answer, the tally and every byte of weights, flags and marks are compared with the model's program, a NaN's
-payload too. Each list is also played by one call: from marks all 0 it is compared with the model's book, from others with its program.
+seconds). After each call the answer, the sixteen counts and every byte of weights, flags and marks are compared with the model's program, a
+NaN's payload too. Each list is also played by one call: from marks all 0 it is compared with the model's book, from others with its program.
+Every second random list is played with other workers too: unless an answer is 20 or 21, it must end in the same weights, flags, marks and
+answers.
 """
 import ctypes
 import os
@@ -27,6 +29,8 @@ NUMBERS = {"weights": ctypes.c_uint64, "flags": ctypes.c_int8, "marks": ctypes.c
 TOLD = 20
 # What a place for an answer holds before a list is played.
 UNTOUCHED = 99
+# Wrong lengths of a list that is played: how many numbers, answers and counts more than there should be.
+WRONG = ((0, 1, 16), (0, 0, 1), (0, 0, -1), (1, 0, 0), (-1, 0, 0), (0, 1, 0), (0, -1, -16), (0, 0, 16))
 
 
 def array(kind, values):
@@ -62,27 +66,28 @@ class Calls:
         self.library = library
         shape = entries.Shape(s.kind, array(ctypes.c_int64, s.mesh), s.type, *s.bands)
         self.sheet = {n: array(kind, getattr(start, n)) for n, kind in NUMBERS.items()}
-        self.tally = ctypes.c_uint64(start.tally)
+        self.tally = patterns(start.tally)
         self.given = [shape] + lent(wholes(s.addresses), wholes(s.map), wholes(s.table), patterns(s.frequencies1),
                                     patterns(s.frequencies2), patterns(s.points), wholes(s.triplets), *self.sheet.values())
-        self.given.append(ctypes.byref(self.tally))
+        self.given.append(self.tally)
 
     def content(self):
-        return [list(self.sheet[n]) for n in NUMBERS] + [self.tally.value]
+        return [list(self.sheet[n]) for n in NUMBERS] + [list(self.tally)]
 
     def make(self, call):
         if call[0] == "run":
-            return self.library.run_piece(*self.given, entries.Piece(*call[1:]))
+            return self.library.run_piece(*self.given, call[1], entries.Piece(*call[2:]))
         if call[0] == "carry_on":
-            return self.library.carry_on(*self.given)
+            return self.library.carry_on(*self.given, call[1])
         return self.library.average_triplet(*self.given, call[1], *lent(wholes(call[2]), wholes(call[3])))
 
-    def play(self, calls, places):
-        """The status, and for each call a place with its answer and one with the tally after it."""
+    def play(self, calls, wrong=(0, 0, 0)):
+        """The status, and for each call a place with its answer and sixteen with the counts after it; whether the lengths fit."""
         numbers, ids = encoded(calls)
-        told, tallies = patterns([UNTOUCHED] * places), patterns([UNTOUCHED] * places)
-        status = self.library.play(*self.given, *lent(wholes(numbers), wholes(ids), told, tallies))
-        return status, list(told), list(tallies)
+        sizes = [max(0, n + more) for n, more in zip((6 * len(calls), len(calls), m.WORKERS * len(calls)), wrong)]
+        told, tallies = patterns([UNTOUCHED] * sizes[1]), patterns([UNTOUCHED] * sizes[2])
+        status = self.library.play(*self.given, *lent(wholes((numbers + [0])[:sizes[0]]), wholes(ids), told, tallies))
+        return status, list(told), list(tallies), sizes[0] == 6 * sizes[1] and sizes[2] == m.WORKERS * sizes[1]
 
 
 def is_nan(b):
@@ -114,7 +119,7 @@ class Kind:
 class Comparison:
     def __init__(self, path):
         self.library = Library(path)
-        self.kinds = {n: Kind(n) for n in ("stored call lists", "call lists", "played lists", "open counts")}
+        self.kinds = {n: Kind(n) for n in ("stored call lists", "call lists", "played lists", "lists with other workers", "open counts")}
 
     def compare(self, name, s, start, made, steps):
         """A list of calls; steps: the model's answers and sheets."""
@@ -127,16 +132,30 @@ class Comparison:
         self.play(s, start, made)
 
     def play(self, s, start, made):
-        """The whole list by one call: refused with 12 where it has a place too many."""
+        """The whole list by one call: refused with 12 where a length is wrong."""
         kind, calls = self.kinds["played lists"], Calls(self.library, s, start)
         kind.cases += 1
-        places = len(made) + (kind.cases % 16 == 0)
-        want = 12 if places > len(made) else 0
-        steps = [] if want else (m.program if any(start.marks) else m.book)(s, start, made)
+        wrong = WRONG[kind.cases // 16 % len(WRONG)] if kind.cases % 16 == 0 else (0, 0, 0)
+        status, told, tallies, fit = calls.play(made, wrong)
+        want = 0 if fit else 12
+        steps = (m.program if any(start.marks) else m.book)(s, start, made) if fit else []
         last = steps[-1][1] if steps else start
-        expected = [[number_of(a) for a, _ in steps], [x.tally for _, x in steps]] if not want else [[UNTOUCHED] * places] * 2
-        agree = calls.play(made, places) == (want, *expected) and calls.content() == list(last.content())
+        expected = [number_of(a) for a, _ in steps], [c for _, x in steps for c in x.tally]
+        if not fit:
+            expected = [UNTOUCHED] * len(told), [UNTOUCHED] * len(tallies)
+        agree = (status, told, tallies) == (want, *expected) and calls.content() == list(last.content())
         kind.count("list", want, agree)
+
+    def swap(self, s, start, made, others):
+        """Two lists that differ in workers alone, by the library: unless one has 20 or 21, all but the counts are the same."""
+        ends = []
+        for one in (made, others):
+            calls = Calls(self.library, s, start)
+            ends.append((calls.play(one)[1], *calls.content()))
+        if not {20, 21} & {*ends[0][0], *ends[1][0]} and ends[0][-1] != ends[1][-1]:
+            kind = self.kinds["lists with other workers"]
+            kind.cases += 1
+            kind.count("list with other workers", 0, ends[0][:-1] == ends[1][:-1])
 
     def stored(self):
         for c in sheet_cases.cases():
@@ -159,12 +178,14 @@ class Comparison:
         while time.time() - begun < float(limit[:-1]) if limit.endswith("s") else kind.cases < int(limit):
             s = r.random_study(rng)
             start = r.begun(rng, s) if rng.random() < 0.3 else r.random_start(rng, s)
-            made = [r.random_call(rng, s) for _ in range(rng.randint(1, 14))] + [("carry_on",)]
+            made = [r.random_call(rng, s) for _ in range(rng.randint(1, 14))] + [("carry_on", r.random_worker(rng))]
             if rng.random() < 0.2:
                 s = r.spoil_study(rng, s)
             elif rng.random() < 0.1:
                 r.spoil_lengths(rng, start)
             self.compare("call lists", s, start, made, m.program(s, start, made))
+            if kind.cases % 2 == 0:
+                self.swap(s, start, made, r.with_other_workers(rng, made))
 
     def show(self):
         """Prints the counts; whether nothing differs and every answer that a call can give was met."""
@@ -175,7 +196,7 @@ class Comparison:
                 seen[key] = seen.get(key, 0) + times
         print(m.answer_table({(call, n or "done"): times for (call, n), times in seen.items()}))
         print("sheets: %d NaNs compared by their bits" % sum(k.nans for k in self.kinds.values()))
-        asked = {**m.ASKED, "open count": (9, 12, 14), "list": (12,)}
+        asked = {**m.ASKED, "open count": (9, 12, 14), "list": (12,), "list with other workers": ()}
         missing = [(call, n) for call, numbers in asked.items() for n in (0, *numbers) if (call, n) not in seen]
         if missing:
             print("never seen:", missing)

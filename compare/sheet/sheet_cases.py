@@ -5,15 +5,16 @@
 
 cases(seed) yields dicts:
     number      from 0
-    group       work, cut, tally, argument, edge, single, pair, later
+    group       work, cut, tally, worker, swap, argument, edge, single, pair, later
     name        what the list is for
     table       name of the study's table in TABLES
     study       kind, mesh, type, bands, addresses, map, table, frequencies1,
                 frequencies2, points, triplets (flat lists; floats as patterns)
-    start       weights (patterns), flags, marks, tally
-    calls       ("run", triplet, b1, b2), ("carry_on",), ("average", triplet, ids1, ids2)
-    steps       for each call: answer ("done", tally) or ("refused", number), and
-                the whole weights, flags, marks and the tally afterwards
+    start       weights (patterns), flags, marks, tally (sixteen counts)
+    calls       ("run", worker, triplet, b1, b2), ("carry_on", worker),
+                ("average", triplet, ids1, ids2)
+    steps       for each call: answer ("done",) or ("refused", number), and the
+                whole weights, flags, marks and the tally afterwards
     shows       for each call: the numbers of all questions known to say "no"
 open_count_cases(seed) yields dicts: counts (b1, b2, points, triplets), flags,
 triplet, answer ("done", number) or ("refused", number).
@@ -24,12 +25,12 @@ import sys
 import sheet_model as m
 import sheet_selftest as r
 from sheet_model import SIGN, Sheet, Study, bits, power
-from sheet_selftest import DEEP, FAR, STRANGE
+from sheet_selftest import DEEP, FAR, FULL, NO_WORKERS, STRANGE, alone
 
 SEED = 20261115
 WIDE = 1 << 32
-FULL = 1 << 63
 TOP = (1 << 64) - 1
+NONE = (0,) * m.WORKERS
 
 
 # ---------------------------------------------------------------- the fixed tables
@@ -88,7 +89,7 @@ CLEAN = (0, 1, SIGN | 1, power(60), power(60) | SIGN, bits(0.1), bits(-0.3), bit
          bits(1.0 / 3.0), bits(1e-17), bits(-5.25), bits(2.0 ** 53))
 
 
-def start_with(rng, s, states, tally=0):
+def start_with(rng, s, states, tally=NONE):
     """A sheet whose triplets stand as told: open, part, computed, averaged,
     dirty (computed, but with entries that question 19 turns away)."""
     nw, nf, nm = r.lengths(s)
@@ -117,14 +118,16 @@ def start_with(rng, s, states, tally=0):
 # ---------------------------------------------------------------- one case
 
 def later_noes(s, sheet, call):
-    """Which of 14 to 20 say "no", each asked by itself where it can be."""
+    """Which of 14 to 21 say "no", each asked by itself where it can be; for what is
+    no worker 20 is asked of the worker that its lowest four bits name."""
     out = []
     for n in m.ASKED[call[0]]:
         if n < 14:
             continue
-        if n in (15, 18, 19) and not 0 <= call[1] < s.t:
+        if n in (15, 18, 19) and not 0 <= m.triplet_of(call) < s.t:
             continue
-        if not m.QUESTIONS[n](s, sheet, call):
+        asked = call[:1] + (call[1] % m.WORKERS,) + call[2:] if n == 20 else call
+        if not m.QUESTIONS[n](s, sheet, asked):
             out.append(n)
     return out
 
@@ -143,14 +146,14 @@ def case(name, s, start, calls, planted=(), plain=None):
         study, state = plain if planted else (s, before)
         no = sorted(set(planted) | set(later_noes(study, state, call)))
         no = [n for n in m.ASKED[call[0]] if n in no]
-        assert answer == (("refused", no[0]) if no else ("done", sheet.tally)), (name, call, answer, no)
+        assert answer == (("refused", no[0]) if no else ("done",)), (name, call, answer, no)
         shows.append(no)
         out.append({"answer": answer, "weights": list(sheet.weights), "flags": list(sheet.flags),
-                    "marks": list(sheet.marks), "tally": sheet.tally})
+                    "marks": list(sheet.marks), "tally": list(sheet.tally)})
         before = sheet
     return {"name": name, "table": table_name(s.table), "study": s.as_dict(),
             "start": {"weights": list(start.weights), "flags": list(start.flags),
-                      "marks": list(start.marks), "tally": start.tally},
+                      "marks": list(start.marks), "tally": list(start.tally)},
             "calls": calls, "steps": out, "shows": shows}
 
 
@@ -302,8 +305,10 @@ def apply(s, start, *changes):
 
 # Calls on a sheet of two triplets with bands 2,2, the first computed, the second
 # open: three that are accepted, and the same with a wrong argument.
-RIGHT = (("run", 1, 0, 1), ("carry_on",), ("average", 0, (0, 0), (0, 1)))
-WRONG_RUNS = (("run", 2, 0, 0), ("run", 0, -1, 0), ("run", 1, 0, 2))
+RIGHT = (("run", 3, 1, 0, 1), ("carry_on", 3), ("average", 0, (0, 0), (0, 1)))
+WRONG_RUNS = (("run", 3, 2, 0, 0), ("run", 3, 0, -1, 0), ("run", 16, 1, 0, 2),
+              ("run", WIDE + 3, 1, 0, 1), ("run", -1, 0, 0, 1))
+WRONG_CARRIES = (("carry_on", WIDE + 3), ("carry_on", 16))
 WRONG_AVERAGES = (("average", 2, (0, 0), (0, 1)), ("average", 0, (0, 2), (0, 1)),
                   ("average", 1, (0, 1), (0, 0)))
 
@@ -315,7 +320,7 @@ def single_faults(rng):
         for kind in (1, 2) if k == 6 else (rng.choice((1, 2)),):
             mesh = (2, 1, 1) if k in (5, 6) else rng.choice(((1, 1, 1), (2, 1, 1)))
             s = base(rng, kind=kind, mesh=mesh)
-            half = start_with(rng, s, ("computed", "open"), rng.choice((0, 7)))
+            half = start_with(rng, s, ("computed", "open"), alone(3, rng.choice((0, 7))))
             none = half.copy()
             none.marks = [0] * 8
             for i, (label, of_study, of_start) in enumerate(faults(k, s, half)):
@@ -332,7 +337,7 @@ def pair_faults(rng):
         start = start_with(rng, s, (rng.choice(("computed", "dirty")), "open"))
         for j in range(i + 1, 14):
             start = start.copy()
-            start.tally = rng.choice((0, 3, FULL - 1, FULL, TOP))
+            start.tally = alone(3, rng.choice((0, 3, FULL - 1, FULL, TOP)), rng.choice((0, 1)))
             while True:
                 one, two = (rng.choice(faults(k, s, start)) for k in (i, j))
                 fields = [set(x[1]) | set(x[2]) for x in (one, two)]
@@ -340,7 +345,7 @@ def pair_faults(rng):
                         and "1025" not in one[0] + two[0]:
                     break
             bad, bad_start = apply(s, start, one[1:], two[1:])
-            calls = (rng.choice((RIGHT[0],) + WRONG_RUNS), RIGHT[1],
+            calls = (rng.choice((RIGHT[0],) + WRONG_RUNS), rng.choice((RIGHT[1],) + WRONG_CARRIES),
                      rng.choice((RIGHT[2],) + WRONG_AVERAGES))
             yield case("%d and %d: %s; %s" % (i, j, one[0], two[0]), bad, bad_start, calls,
                        (i, j), (s, start))
@@ -355,11 +360,13 @@ def later_faults(rng):
     t = base(rng, bands=(2, 1))
     ids = (0, 0)
     for study, states, tally, calls in (
-            (s, ("averaged", "dirty"), TOP,
-             (("run", 0, 2, 0), ("run", 0, 0, 0), ("carry_on",), ("average", 0, (0, 1, 2), ids),
-              ("average", 2, (), ids), ("average", 1, ids, ids))),
-            (t, ("part", "averaged"), FULL,
-             (("average", 0, ids, (1,)), ("average", 1, ids, (0,)), ("carry_on",)))):
+            (s, ("averaged", "dirty"), alone(6, TOP),
+             (("run", 6, 0, 2, 0), ("run", 22, 0, 0, 0), ("carry_on", 6),
+              ("average", 0, (0, 1, 2), ids), ("average", 2, (), ids), ("average", 1, ids, ids),
+              ("run", 6, 1, 0, 0), ("run", 0, 1, 1, 1))),
+            (t, ("part", "averaged"), alone(0, FULL, 1),
+             (("average", 0, ids, (1,)), ("average", 1, ids, (0,)), ("carry_on", 0),
+              ("run", 16, 0, 1, 0), ("carry_on", 256), ("carry_on", 15)))):
         start = start_with(rng, study, states, tally)
         for k in range(3, 14):
             options = [x for x in faults(k, study, start) if "1025" not in x[0]]
@@ -380,36 +387,38 @@ def argument_lists(rng):
     # one running number.
     for bands in ((2, 2), (2, 3), (1, 1)):
         s = base(rng, bands=bands, triplets=2, table=rng.choice(USUAL))
-        start = start_with(rng, s, ("open", "part"), 4)
+        start = start_with(rng, s, ("open", "part"), [4] * m.WORKERS)
         b1, b2 = bands
-        calls = [("run", -1, 0, 0), ("run", 2, 0, 0), ("run", 0, -1, 0), ("run", 0, b1, 0),
-                 ("run", 0, 0, -1), ("run", 0, 0, b2), ("run", 1, -1, b2 - 1), ("run", 0, b1, -1),
-                 ("run", 1, -1, b2), ("run", FAR, 0, 0), ("run", 0, FAR, 0), ("run", 0, 0, FAR),
-                 ("run", DEEP, 0, 0), ("run", 0, DEEP, 0), ("run", 0, 0, DEEP), ("run", WIDE, 0, 0),
-                 ("run", 0, WIDE, 0), ("run", 0, 0, WIDE), ("run", -1, b1 - 1, b2 - 1)]
-        calls = rng.sample(calls, 12) + [("run", 1, b1 - 1, b2 - 1)]
+        pieces = [(-1, 0, 0), (2, 0, 0), (0, -1, 0), (0, b1, 0), (0, 0, -1), (0, 0, b2),
+                  (1, -1, b2 - 1), (0, b1, -1), (1, -1, b2), (FAR, 0, 0), (0, FAR, 0), (0, 0, FAR),
+                  (DEEP, 0, 0), (0, DEEP, 0), (0, 0, DEEP), (WIDE, 0, 0), (0, WIDE, 0),
+                  (0, 0, WIDE), (-1, b1 - 1, b2 - 1)]
+        calls = [("run", r.random_worker(rng)) + piece for piece in rng.sample(pieces, 12)]
+        calls.append(("run", 11, 1, b1 - 1, b2 - 1))
         yield case("14: pieces off the sheet, bands %d,%d" % bands, s, start, calls)
     s = base(rng)
     ids = (0, 1)
     yield case("14: triplets off the sheet", s, start_with(rng, s, ("computed", "computed")),
                [("average", t, ids, ids) for t in (-1, 2, 3, FAR, DEEP, WIDE)]
                + [("average", 2, (), ids), ("average", -1, ids, (1, 1)), ("average", 1, ids, ids)])
-    # 14 with 15 and 20; 15 with 20.
-    for tally in (0, FULL - 1, FULL, TOP):
+    # 14, 15, 21 and 20 with each other; 18 is no worker, 2 to its lowest four bits.
+    for count in (0, FULL - 1, FULL, TOP):
         s = base(rng)
-        yield case("14, 15, 20 with tally %d" % tally, s,
-                   start_with(rng, s, ("averaged", "part"), tally),
-                   [("run", 0, 2, 0), ("run", 0, 0, -1), ("run", 0, 0, 0), ("run", 1, 2, 1),
-                    ("run", 1, 1, 1), ("average", 0, ids, ids), ("carry_on",), ("run", 0, 1, 1)])
+        yield case("14, 15, 21, 20 with count %d" % count, s,
+                   start_with(rng, s, ("averaged", "part"), alone(2, count, rng.choice((0, 8)))),
+                   [("run", 2, 0, 2, 0), ("run", 18, 0, 0, -1), ("run", 2, 0, 0, 0),
+                    ("run", 18, 0, 0, 0), ("run", 18, 1, 2, 1), ("run", 18, 1, 1, 1),
+                    ("run", 2, 1, 1, 1), ("average", 0, ids, ids), ("carry_on", 18),
+                    ("carry_on", 2), ("run", 2, 0, 1, 1)])
     # 16 to 19 with each other, on unequal bands.
     for bands in ((2, 1), (1, 2), (2, 3)):
         s = base(rng, bands=bands, triplets=3)
         one, two = r.random_ids(rng, bands[0]), r.random_ids(rng, bands[1])
         yield case("16: bands %d,%d" % bands, s,
-                   start_with(rng, s, ("averaged", "part", "dirty"), rng.choice((0, TOP))),
+                   start_with(rng, s, ("averaged", "part", "dirty"), alone(1, rng.choice((0, TOP)))),
                    [("average", 0, one, two), ("average", 0, (), two), ("average", 1, one, two),
                     ("average", 2, one, two), ("average", 3, one, two), ("average", 1, one, (1,)),
-                    ("average", 2, one, one), ("run", 1, 0, 0), ("carry_on",)])
+                    ("average", 2, one, one), ("run", 1, 1, 0, 0), ("carry_on", 1)])
     # 17: wrong lists, alone and with 15, 18, 19.
     wrong3 = ((), (0,), (0, 1), (0, 1, 2, 3), (1, 1, 2), (-1, 1, 2), (0, 2, 2), (0, 0, 1),
               (0, 1, 0), (0, -1, 2), (0, 0, 3), (0, 1, FAR), (DEEP, 1, 2), (WIDE, 1, 2),
@@ -438,8 +447,8 @@ def argument_lists(rng):
     start.marks[3] = 0
     start.marks[4] = 0
     yield case("18 and 19", s, start, [("average", 0, ids, ids), ("average", 1, ids, ids),
-                                       ("run", 0, 1, 1), ("average", 0, ids, ids), ("run", 1, 0, 0),
-                                       ("average", 1, (0, 0), (0, 0))])
+                                       ("run", 12, 0, 1, 1), ("average", 0, ids, ids),
+                                       ("run", 13, 1, 0, 0), ("average", 1, (0, 0), (0, 0))])
     # 19: each sort of entry, at the first and last place of the triplet, and the
     # same just outside it.
     for k, (label, b) in enumerate((
@@ -458,38 +467,130 @@ def argument_lists(rng):
                     ("average", 2, (0, 0), (0, 1))])
 
 
-# ---------------------------------------------------------------- the tally
+# ---------------------------------------------------------------- the counts
 
 def tally_lists(rng):
+    """One worker's count at the limit, beside good ones and beside full ones."""
     ids = (0, 0)
-    for tally in (0, FULL - 2, FULL - 1, FULL, FULL + 1, TOP - 1, TOP):
+    for count in (0, FULL - 2, FULL - 1, FULL, FULL + 1, TOP - 1, TOP):
+        w, others = rng.randrange(m.WORKERS), rng.choice((0, 3, TOP))
+        tally = alone(w, count, others)
         s = base(rng, mesh=(1, 1, 1), triplets=1, table="t1")
-        yield case("tally %d, nothing open" % tally, s, start_with(rng, s, ("computed",), tally),
-                   [("carry_on",), ("run", 0, 1, 0), ("carry_on",), ("average", 0, ids, ids),
-                    ("carry_on",), ("run", 0, 0, 0)])
-        yield case("tally %d, all averaged" % tally, s, start_with(rng, s, ("averaged",), tally),
-                   [("carry_on",), ("run", 0, 1, 0), ("average", 0, ids, ids)])
+        yield case("count %d, nothing open" % count, s, start_with(rng, s, ("computed",), tally),
+                   [("carry_on", w), ("run", w, 0, 1, 0), ("carry_on", w), ("average", 0, ids, ids),
+                    ("carry_on", w), ("run", w, 0, 0, 0)])
+        yield case("count %d, all averaged" % count, s, start_with(rng, s, ("averaged",), tally),
+                   [("carry_on", w), ("run", w, 0, 1, 0), ("average", 0, ids, ids)])
         empty = s.but(triplets=())
-        yield case("tally %d, no triplets" % tally, empty, Sheet((), (), (), tally),
-                   [("carry_on",), ("run", 0, 0, 0), ("average", 0, ids, ids), ("carry_on",)])
+        yield case("count %d, no triplets" % count, empty, Sheet((), (), (), tally),
+                   [("carry_on", w), ("run", w, 0, 0, 0), ("average", 0, ids, ids),
+                    ("carry_on", (w + 1) % m.WORKERS)])
     # Four open pieces: the last number that holds them, and the first that does not.
-    for tally in (FULL - 5, FULL - 4, FULL - 3, FULL - 1, TOP, TOP - 3):
+    for count in (FULL - 5, FULL - 4, FULL - 3, FULL - 1, TOP, TOP - 3):
+        w = rng.randrange(m.WORKERS)
         s = base(rng, mesh=(1, 1, 1), triplets=2, table="t2")
-        yield case("tally %d, four open" % tally, s, start_with(rng, s, ("open", "computed"), tally),
-                   [("carry_on",), ("run", 0, 0, 0), ("carry_on",), ("run", 1, 1, 1), ("run", 0, 1, 1)])
-    for tally in (FULL - 6, FULL - 2):
+        yield case("count %d, four open" % count, s,
+                   start_with(rng, s, ("open", "computed"), alone(w, count)),
+                   [("carry_on", w), ("run", w, 0, 0, 0), ("carry_on", w), ("run", w, 1, 1, 1),
+                    ("run", w, 0, 1, 1)])
+    # The same with one, two, three and eight.
+    for bands, triplets in (((1, 1), 1), ((1, 2), 1), ((3, 1), 1), ((2, 2), 2)):
+        k = bands[0] * bands[1] * triplets
+        w = rng.randrange(m.WORKERS)
+        s = base(rng, mesh=(1, 1, 1), bands=bands, triplets=triplets, table="t2")
+        for count in (FULL - k, FULL - k - 1):
+            yield case("2^63 - %d, %d open" % (FULL - count, k), s,
+                       start_with(rng, s, ("open",) * triplets, alone(w, count, 1)),
+                       [("carry_on", w), ("run", w, 0, 0, 0), ("carry_on", w)])
+    for count in (FULL - 6, FULL - 2):
         s = base(rng, mesh=(1, 1, 1), triplets=1, table="t3")
-        yield case("tally %d, all open" % tally, s, start_with(rng, s, ("open",), tally),
-                   [("run", 0, 0, 1), ("run", 0, 0, 1), ("carry_on",), ("run", 0, 1, 1),
-                    ("average", 0, ids, ids), ("carry_on",)])
+        yield case("count %d, all open" % count, s, start_with(rng, s, ("open",), alone(14, count)),
+                   [("run", 14, 0, 0, 1), ("run", 14, 0, 0, 1), ("carry_on", 14), ("run", 14, 0, 1, 1),
+                    ("average", 0, ids, ids), ("carry_on", 14)])
+    # Others' counts and the sum do not matter.
+    for w, tally in ((0, alone(0, 0, TOP)), (15, alone(15, FULL - 6, FULL)), (9, [FULL - 6] * 16),
+                     (7, [1 << 59] * 16), (8, alone(7, FULL - 1))):
+        s = base(rng, mesh=(1, 1, 1), triplets=1, table="t3")
+        other = (w + 15) % m.WORKERS
+        yield case("others' counts, worker %d" % w, s, start_with(rng, s, ("open",), tally),
+                   [("run", w, 0, 1, 1), ("run", other, 0, 1, 0), ("carry_on", w),
+                    ("carry_on", other), ("average", 0, ids, ids), ("carry_on", w)])
+
+
+# ---------------------------------------------------------------- workers
+
+def worker_lists(rng):
+    everyone = range(m.WORKERS)
+    ids = (0, 1)
+    # All sixteen: a piece each, then one piece again and again, carry-ons with
+    # nothing open.
+    s = base(rng, mesh=(1, 1, 1), triplets=4, type=4)
+    pieces = [(t, b1, b2) for t in range(4) for b1 in (0, 1) for b2 in (0, 1)]
+    yield case("sixteen pieces by sixteen workers", s, start_with(rng, s, ("open",) * 4),
+               [("run", w) + pieces[w] for w in everyone]
+               + [("average", 2, ids, ids), ("carry_on", 4)])
+    s = base(rng, mesh=(1, 1, 1), triplets=1, type=2)
+    yield case("one piece by sixteen workers", s,
+               start_with(rng, s, ("open",), [w * w for w in everyone]),
+               [("run", w, 0, 1, 0) for w in reversed(everyone)] + [("run", 5, 0, 1, 0)] * 2)
+    yield case("carry-ons by sixteen workers", s, start_with(rng, s, ("part",)),
+               [("carry_on", w) for w in rng.sample(everyone, m.WORKERS)])
+    # Carry-ons by turns: each finds what an averaging or a repeat left.
+    s = base(rng, mesh=(2, 1, 1), triplets=3)
+    yield case("by turns", s, start_with(rng, s, ("open", "part", "computed")),
+               [("run", 8, 0, 0, 0), ("run", 9, 0, 0, 0), ("run", 8, 0, 0, 0), ("average", 2, ids, ids),
+                ("carry_on", 9), ("carry_on", 8), ("run", 8, 2, 0, 0), ("run", 10, 1, 1, 1),
+                ("average", 0, (0, 0), (0, 0)), ("carry_on", 10)])
+    # What is no worker: open pieces or none; counts good, just full and full where the
+    # lowest four bits name them.
+    s = base(rng, mesh=(1, 1, 1), triplets=1)
+    full, just = ([x if w in (0, 1, 3, 15) else 0 for w in everyone] for x in (FULL, FULL - 1))
+    for states, tally in ((("part",), NONE), (("part",), full), (("computed",), just),
+                          (("averaged",), alone(0, 2, 3))):
+        calls = [c for w in NO_WORKERS for c in (("run", w, 0, 0, 1), ("carry_on", w))]
+        yield case("no workers, %s, count %d" % (states[0], tally[0]), s,
+                   start_with(rng, s, states, tally), calls + [("run", 3, 0, 0, 1), ("carry_on", 3)])
+    # No worker on no triplets, and off the sheet; bad marks besides.
+    empty = s.but(triplets=())
+    yield case("no workers, no triplets", empty, Sheet((), (), (), alone(0, FULL, 4)),
+               [("carry_on", -1), ("run", 16, 0, 0, 0), ("carry_on", 16), ("carry_on", 0),
+                ("carry_on", 1)])
+    start = start_with(rng, s, ("computed",), alone(0, TOP))
+    for marks in ([1, 1, 3, 1], [1, 2, 1, 1]):
+        bad = start.copy()
+        bad.marks = marks
+        yield case("no workers, bad marks", s, bad, [("run", 16, 0, 0, 0), ("carry_on", 16),
+                                                     ("run", -1, 1, 0, 0), ("carry_on", 0)],
+                   (13,), (s, start))
+
+
+def swap_lists(rng):
+    """A list, the same with names exchanged, and with each call's worker drawn anew."""
+    for i in range(2):
+        s = base(rng, mesh=(1 + i, 1, 1), triplets=2, type=(4, 2)[i])
+        tally = [rng.randrange(50) for _ in NONE]
+        start = (start_with(rng, s, ("part", "computed"), tally) if i
+                 else r.random_start(rng, s, tally=tally))
+        calls = script(rng, s)
+        names = rng.sample(range(m.WORKERS), m.WORKERS)
+        for how, worker in (("as it is", lambda w: w), ("exchanged", lambda w: names[w]),
+                            ("drawn anew", lambda w: rng.randrange(m.WORKERS)),
+                            ("all one", lambda w: 6)):
+            others = [c if c[0] == "average" else c[:1] + (worker(c[1]),) + c[2:] for c in calls]
+            assert how == "as it is" or m.swap_law(s, start, calls, others)
+            yield case("swap %d, %s" % (i, how), s, start, others)
 
 
 # ---------------------------------------------------------------- work
 
 def script(rng, s):
     """Runs, repeats, carry-ons and averagings, also too early and twice."""
+    def worker():
+        return r.random_worker(rng, 0)
+
     def some():
-        return ("run", rng.randrange(s.t), rng.randrange(s.bands[0]), rng.randrange(s.bands[1]))
+        return ("run", worker(), rng.randrange(s.t), rng.randrange(s.bands[0]),
+                rng.randrange(s.bands[1]))
 
     def ids():
         return r.random_ids(rng, s.bands[0]), r.random_ids(rng, s.bands[1])
@@ -497,13 +598,13 @@ def script(rng, s):
     t = rng.randrange(s.t)
     calls = [some()]
     if rng.random() < 0.5:
-        calls.append(calls[0])
-    calls += [some(), ("average", t) + ids(), ("carry_on",)]
-    calls.append(("run", t, rng.randrange(s.bands[0]), rng.randrange(s.bands[1])))
+        calls.append(("run", worker()) + calls[0][2:])
+    calls += [some(), ("average", t) + ids(), ("carry_on", worker())]
+    calls.append(("run", worker(), t, rng.randrange(s.bands[0]), rng.randrange(s.bands[1])))
     one = ids()
-    calls += [("average", t) + one, ("run", t, 0, 0)]
+    calls += [("average", t) + one, ("run", worker(), t, 0, 0)]
     calls.append(("average", t) + (one if rng.random() < 0.5 else ids()))
-    calls.append(("carry_on",))
+    calls.append(("carry_on", worker()))
     other = rng.randrange(s.t)
     calls += [some(), ("average", other, tuple(range(s.bands[0])), (0,) * s.bands[1])]
     if s.t > 1:
@@ -516,26 +617,29 @@ def work_study(rng, i):
     table = {5: "t01", 8: "t230", 13: "t3210", 16: "odd", 18: "t01"}.get(i) or rng.choice(USUAL)
     bands = rng.choice(((1, 1), (2, 2), (2, 2), (3, 3), (2, 1), (1, 3), (3, 2)) if i % 3
                        else ((3, 3), (2, 2)))
+    large = bands == (3, 3)
     return base(rng, kind=1 + i % 2, mesh=rng.choice(((1, 1, 1), (2, 1, 1), (2, 2, 1), (3, 1, 1))),
-                bands=bands, triplets=rng.choice((1, 2, 2, 3)), points=rng.choice((1, 1, 2, 3)),
+                bands=bands, triplets=rng.choice((1, 2) if large else (1, 2, 2, 3)),
+                points=rng.choice((1, 1, 2) if large else (1, 1, 2, 3)),
                 type=(2, 3, 4)[i // 2 % 3], table=table, extra=rng.choice((0, 1, 3)))
 
 
 def work_lists(rng):
-    for i in range(24):
+    for i in range(20):
         s = work_study(rng, i)
-        start = r.random_start(rng, s, tally=rng.choice((0, 0, 0, 11, FULL - 9, FULL - 30)))
+        sorts = (0, 0, 0, 0, 11, FULL - 2, FULL - 9) if i % 3 else (0, 0, 0, 0, 11)
+        start = r.random_start(rng, s, tally=[rng.choice(sorts) for _ in NONE])
         calls = script(rng, s) if i % 4 else [r.random_call(rng, s) for _ in range(10)]
         yield case("work %d" % i, s, start, calls)
     # Averaging at once after a carry-on, then runs, on an all open sheet.
     for i in range(4):
         s = base(rng, kind=1 + i % 2, bands=(3, 3), triplets=1, points=2, type=(2, 3, 4, 3)[i],
                  mesh=(2, 2, 1), table=("t0", "t1", "t2", "t3")[i])
-        start = r.random_start(rng, s, tally=0)
+        start = r.random_start(rng, s, tally=NONE)
         yield case("average after carry-on %d" % i, s, start,
-                   [("carry_on",), ("average", 0, ((0, 0, 2), (0, 1, 1), (0, 0, 0), (0, 1, 2))[i],
-                                    ((0, 0, 0), (0, 0, 2), (0, 1, 1), (0, 0, 0))[i]),
-                    ("run", 0, 1, 1), ("carry_on",), ("average", 0, (0, 1, 2), (0, 1, 2))])
+                   [("carry_on", i), ("average", 0, ((0, 0, 2), (0, 1, 1), (0, 0, 0), (0, 1, 2))[i],
+                                      ((0, 0, 0), (0, 0, 2), (0, 1, 1), (0, 0, 0))[i]),
+                    ("run", i, 0, 1, 1), ("carry_on", 15), ("average", 0, (0, 1, 2), (0, 1, 2))])
     # Means that a second averaging would move; drawn until it is so (of blocks in
     # three bands only three by three can).
     ids = (0, 0, 0)
@@ -547,9 +651,9 @@ def work_lists(rng):
             s = s.but(frequencies1=[bits(rng.uniform(0.0, 2.0)) for _ in s.frequencies1],
                       frequencies2=[bits(rng.uniform(0.0, 2.0)) for _ in s.frequencies2],
                       points=[bits(rng.uniform(0.2, 1.5))])
-            start = r.random_start(rng, s, tally=0)
-            calls = [("carry_on",), ("average", 0, ids, ids), ("average", 0, ids, ids),
-                     ("run", 0, 0, 0)]
+            start = r.random_start(rng, s, tally=NONE)
+            calls = [("carry_on", 10), ("average", 0, ids, ids), ("average", 0, ids, ids),
+                     ("run", 10, 0, 0, 0)]
             after = m.program(s, start, calls[:2])[1][1].weights
             for c in range(s.channels):
                 once = after[9 * c:9 * c + 9]
@@ -561,28 +665,28 @@ def work_lists(rng):
     # flags other than 0 and 1.
     for i in range(6):
         s = base(rng, bands=(3, 3) if i < 3 else (2, 2), triplets=2, points=1 + i % 2)
-        start = start_with(rng, s, ("computed", rng.choice(("open", "dirty", "part"))), 3)
+        start = start_with(rng, s, ("computed", rng.choice(("open", "dirty", "part"))), alone(i, 3))
         nbb = s.bands[0] ** 2
         start.flags[:nbb] = [(2, -1, 1, 127, -128, 1, 5, 9, 1), (2, -1, 0, 127, -128, 1, 5, 9, 1),
                              (1,) * 9][i % 3][:nbb]
         ids = r.random_ids(rng, s.bands[0]), r.random_ids(rng, s.bands[1])
-        calls = [("run", 0, 0, 1), ("average", 0) + ids, ("carry_on",), ("average", 1) + ids]
+        calls = [("run", i, 0, 0, 1), ("average", 0) + ids, ("carry_on", 2 * i), ("average", 1) + ids]
         if i % 2:
-            calls = [calls[1], ("run", 0, 0, 0), calls[2], ("run", 1, 1, 1), calls[3]]
+            calls = [calls[1], ("run", 3, 0, 0, 0), calls[2], ("run", 4, 1, 1, 1), calls[3]]
         yield case("foreign entries %d" % i, s, start, calls)
     # Every piece by hand in descending order, then again, then averaged.
     s = base(rng, triplets=2, points=2)
-    pieces = [("run", t, b1, b2) for t in (1, 0) for b1 in (1, 0) for b2 in (1, 0)]
-    yield case("by hand", s, r.random_start(rng, s, tally=0),
-               pieces + [("carry_on",), pieces[3], ("average", 1, (0, 0), (0, 1)),
-                         ("average", 0, (0, 1), (0, 0)), ("carry_on",), pieces[7]])
+    pieces = [("run", 5 + b1, t, b1, b2) for t in (1, 0) for b1 in (1, 0) for b2 in (1, 0)]
+    yield case("by hand", s, r.random_start(rng, s, tally=NONE),
+               pieces + [("carry_on", 0), pieces[3], ("average", 1, (0, 0), (0, 1)),
+                         ("average", 0, (0, 1), (0, 0)), ("carry_on", 0), pieces[7]])
     # Partly done sheets of every state.
     for i in range(4):
         s = base(rng, triplets=3, bands=(2, 2))
         start = start_with(rng, s, rng.sample(("open", "part", "computed", "averaged", "dirty"), 3),
-                           rng.choice((0, 40)))
+                           [rng.choice((0, 40)) for _ in NONE])
         yield case("partly done %d" % i, s, start,
-                   [r.random_call(rng, s, 0.1) for _ in range(4)] + [("carry_on",)]
+                   [r.random_call(rng, s, 0.1) for _ in range(4)] + [("carry_on", i)]
                    + [("average", t, (0, 0), (0, 0)) for t in range(3)])
 
 
@@ -590,10 +694,10 @@ def cut_lists(rng):
     """A list and the same list ending early, after 0, 1, 2 ... calls."""
     for i in range(2):
         s = base(rng, bands=(2, 2), triplets=2, points=1, type=(2, 3)[i], mesh=(1 + i, 1, 1))
-        start = r.random_start(rng, s, tally=i)
+        start = r.random_start(rng, s, tally=[i] * m.WORKERS)
         ids = ((0, 0), (0, 1))
-        calls = [("run", 1, 0, 1), ("run", 2, 0, 0), ("average", 1) + ids, ("carry_on",),
-                 ("average", 1) + ids, ("run", 1, 0, 1), ("run", 0, 1, 1)]
+        calls = [("run", 1, 1, 0, 1), ("run", 2, 2, 0, 0), ("average", 1) + ids, ("carry_on", 1 + i),
+                 ("average", 1) + ids, ("run", 1, 1, 0, 1), ("run", 13, 0, 1, 1)]
         for end in range(len(calls) + 1):
             yield case("cut %d after %d of %d" % (i, end, len(calls)), s, start, calls[:end])
 
@@ -603,7 +707,7 @@ def cut_lists(rng):
 def edge_lists(rng):
     one = bits(1.0)
     ids = (0, 0)
-    calls = [("run", 0, 0, 1), ("carry_on",), ("average", 0, ids, ids)]
+    calls = [("run", 4, 0, 0, 1), ("carry_on", 9), ("average", 0, ids, ids)]
 
     def fresh(s):
         return start_with(rng, s, ("open",) * s.t)
@@ -684,28 +788,28 @@ def edge_lists(rng):
         start = start_with(rng, s, ("open",))
         plain = (s.but(mesh=(128, 1, 1)), start)
         yield case("mesh %d" % d, s, start,
-                   [("run", 0, 0, 0), ("carry_on",), ("average", 0, (0,), (0,))],
+                   [("run", 15, 0, 0, 0), ("carry_on", 0), ("average", 0, (0,), (0,))],
                    (4,) if d == 129 else (), plain)
     # 64 bands and 1,024 points are accepted: what is asked next says no or all is done.
     s = base(rng, kind=2, mesh=(1, 1, 1), bands=(64, 1), triplets=1, extra=0, type=4, table="t0")
-    yield case("64 bands", s, fresh(s), [("run", 0, 63, 0), ("run", 0, 64, 0), ("carry_on",),
+    yield case("64 bands", s, fresh(s), [("run", 1, 0, 63, 0), ("run", 1, 0, 64, 0), ("carry_on", 2),
                                          ("average", 0, tuple(range(64)), (0,))])
     s = base(rng, kind=2, mesh=(1, 1, 1), triplets=1, extra=0)
     wide = s.but(points=[0] * 1024)
-    yield case("1024 points, empty sheet", wide, Sheet((), (), (), 0), calls, (12,), (s, fresh(s)))
+    yield case("1024 points, empty sheet", wide, Sheet((), (), (), NONE), calls, (12,), (s, fresh(s)))
     wide = s.but(bands=(64, 64), frequencies1=(s.frequencies1 * 32), frequencies2=(s.frequencies2 * 32))
-    yield case("64,64 bands, empty sheet", wide, Sheet((), (), (), 0), calls, (12,), (s, fresh(s)))
+    yield case("64,64 bands, empty sheet", wide, Sheet((), (), (), NONE), calls, (12,), (s, fresh(s)))
     # No triplets, with each study fault all the same, and with buffers not empty.
     s = base(rng, triplets=0)
-    nothing = [("carry_on",), ("run", 0, 0, 0), ("run", -1, 0, 0), ("average", 0, ids, ids)]
-    yield case("no triplets", s, Sheet((), (), (), 9), nothing)
+    nothing = [("carry_on", 1), ("run", 1, 0, 0, 0), ("run", 1, -1, 0, 0), ("average", 0, ids, ids)]
+    blank = Sheet((), (), (), alone(1, 9))
+    yield case("no triplets", s, blank, nothing)
     for of_start in ({"weights": [0]}, {"flags": [1]}, {"marks": [0]}):
-        bad, start = apply(s, Sheet((), (), (), 9), ({}, of_start))
+        bad, start = apply(s, blank, ({}, of_start))
         yield case("no triplets, %s not empty" % list(of_start)[0], bad, start, nothing, (12,),
-                   (s, Sheet((), (), (), 9)))
+                   (s, blank))
     bad = s.but(type=7)
-    yield case("no triplets, type 7", bad, Sheet((), (), (), 9), nothing, (8,),
-               (s, Sheet((), (), (), 9)))
+    yield case("no triplets, type 7", bad, blank, nothing, (8,), (s, blank))
 
 
 # ---------------------------------------------------------------- all
@@ -714,6 +818,7 @@ def cases(seed=SEED):
     rng = random.Random(seed)
     number = 0
     for group, part in (("work", work_lists), ("cut", cut_lists), ("tally", tally_lists),
+                        ("worker", worker_lists), ("swap", swap_lists),
                         ("argument", argument_lists), ("edge", edge_lists),
                         ("single", single_faults), ("pair", pair_faults), ("later", later_faults)):
         for c in part(rng):

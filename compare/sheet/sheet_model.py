@@ -1,5 +1,6 @@
 #!/usr/bin/env python3
-"""Reference model of the run sheet and of the book (document 01).
+"""Reference model of the run sheet and of the book (document 01, sixteen workers
+as in request 2).
 
 Standard library only. Floats cross every interface as 64-bit patterns (ints),
 so a NaN's payload, -0.0 and infinities survive where nothing is written.
@@ -134,14 +135,19 @@ class Study:
         return {2: 2, 3: 3, 4: 1}[self.type]
 
 
+WORKERS = 16
+
+
 class Sheet:
-    """weights: patterns; flags: -128..127; marks: 0..255; tally: 0..2^64-1."""
+    """weights: patterns; flags: -128..127; marks: 0..255; tally: for each worker
+    a count, 0..2^64-1."""
 
     def __init__(self, weights, flags, marks, tally):
+        assert len(tally) == WORKERS
         self.weights = list(weights)
         self.flags = list(flags)
         self.marks = list(marks)
-        self.tally = tally
+        self.tally = list(tally)
 
     def copy(self):
         return Sheet(self.weights, self.flags, self.marks, self.tally)
@@ -326,14 +332,20 @@ def piece(s, t, b1, b2):
 
 # ---------------------------------------------------------------- the questions
 
-# A call: ("run", triplet, b1, b2), ("carry_on",), ("average", triplet, ids1, ids2).
+# A call: ("run", worker, triplet, b1, b2), ("carry_on", worker),
+# ("average", triplet, ids1, ids2).
 # The questions see a study, a sheet (weights, flags, marks, tally) and a call.
 
 ASKED = {
-    "run": tuple(range(3, 16)) + (20,),
-    "carry_on": tuple(range(3, 14)) + (20,),
+    "run": tuple(range(3, 16)) + (21, 20),
+    "carry_on": tuple(range(3, 14)) + (21, 20),
     "average": tuple(range(3, 20)),
 }
+
+
+def triplet_of(call):
+    """The triplet that a run or an averaging names."""
+    return call[2] if call[0] == "run" else call[1]
 
 
 def q3(s, sheet, call):
@@ -407,13 +419,13 @@ def q13(s, sheet, call):
 
 def q14(s, sheet, call):
     if call[0] == "run":
-        return (0 <= call[1] < s.t and 0 <= call[2] < s.bands[0]
-                and 0 <= call[3] < s.bands[1])
+        return (0 <= call[2] < s.t and 0 <= call[3] < s.bands[0]
+                and 0 <= call[4] < s.bands[1])
     return 0 <= call[1] < s.t
 
 
 def q15(s, sheet, call):
-    return all(m != 2 for m in marks_of(s, sheet, call[1]))
+    return all(m != 2 for m in marks_of(s, sheet, triplet_of(call)))
 
 
 def q16(s, sheet, call):
@@ -445,12 +457,16 @@ def q19(s, sheet, call):
 
 def q20(s, sheet, call):
     runs = 1 if call[0] == "run" else sum(1 for m in sheet.marks if m == 0)
-    return sheet.tally + runs < 1 << 63
+    return sheet.tally[call[1]] + runs < 1 << 63
+
+
+def q21(s, sheet, call):
+    return 0 <= call[1] < WORKERS
 
 
 QUESTIONS = {3: q3, 4: q4, 5: q5, 6: q6, 7: q7, 8: q8, 9: q9, 10: q10, 11: q11,
              12: q12, 13: q13, 14: q14, 15: q15, 16: q16, 17: q17, 18: q18,
-             19: q19, 20: q20}
+             19: q19, 20: q20, 21: q21}
 
 # The answer to these depends on the study alone.
 OF_STUDY = range(3, 12)
@@ -481,28 +497,30 @@ def write_piece(s, sheet, t, b1, b2):
     sheet.marks[mark_place(s, t, b1, b2)] = 1
 
 
-def run(s, sheet, t, b1, b2):
-    """Run a named piece. The answer: ("done", tally) or ("refused", number)."""
-    no = first_no(s, sheet, ("run", t, b1, b2))
+def run(s, sheet, worker, t, b1, b2):
+    """Run a named piece. The answer: ("done",) or ("refused", number)."""
+    no = first_no(s, sheet, ("run", worker, t, b1, b2))
     if no is not None:
         return ("refused", no)
     write_piece(s, sheet, t, b1, b2)
-    sheet.tally += 1
-    return ("done", sheet.tally)
+    sheet.tally[worker] += 1
+    return ("done",)
 
 
-def carry_on(s, sheet):
+def carry_on(s, sheet, worker):
     """Run every piece marked 0, ascending."""
-    no = first_no(s, sheet, ("carry_on",))
+    no = first_no(s, sheet, ("carry_on", worker))
     if no is not None:
         return ("refused", no)
+    runs = 0
     for t in range(s.t):
         for b1 in range(s.bands[0]):
             for b2 in range(s.bands[1]):
                 if sheet.marks[mark_place(s, t, b1, b2)] == 0:
                     write_piece(s, sheet, t, b1, b2)
-                    sheet.tally += 1
-    return ("done", sheet.tally)
+                    runs += 1
+    sheet.tally[worker] += runs
+    return ("done",)
 
 
 def degenerate_sets(ids):
@@ -559,7 +577,7 @@ def average(s, sheet, t, ids1, ids2):
         sheet.flags[i:i + nbb] = matrix
     for i in range(t * nbb, (t + 1) * nbb):
         sheet.marks[i] = 2
-    return ("done", sheet.tally)
+    return ("done",)
 
 
 def do(s, sheet, call):
@@ -608,7 +626,7 @@ class Book:
         self.start = start.copy()
         self.words = [OPEN] * len(start.marks)
         self.beside = {}
-        self.tally = start.tally
+        self.ran = []
 
     def pieces(self):
         s = self.s
@@ -642,9 +660,11 @@ class Book:
         return tuple(w), flag
 
     def sheet(self):
-        """The book's entries, words and tally, made from the start's content."""
+        """The book's entries, words and counts, made from the start's content.
+        Each count has grown by its own worker's accepted runs."""
         s = self.s
-        out = Sheet(self.start.weights, self.start.flags, self.words, self.tally)
+        counts = [c + self.ran.count(w) for w, c in enumerate(self.start.tally)]
+        out = Sheet(self.start.weights, self.start.flags, self.words, counts)
         if all(word == OPEN for word in self.words):
             return out
         for (t, b1, b2), word in zip(self.pieces(), self.words):
@@ -665,17 +685,17 @@ class Book:
         if no is not None:
             return ("refused", no)
         for i, (t, b1, b2) in enumerate(self.pieces()):
-            if call[0] == "run" and call[1:] == (t, b1, b2):
+            if call[0] == "run" and call[2:] == (t, b1, b2):
                 self.words[i] = COMPUTED
-                self.tally += 1
+                self.ran.append(call[1])
             elif call[0] == "carry_on" and self.words[i] == OPEN:
                 self.words[i] = COMPUTED
-                self.tally += 1
+                self.ran.append(call[1])
             elif call[0] == "average" and call[1] == t:
                 self.words[i] = AVERAGED
         if call[0] == "average":
             self.beside[call[1]] = (tuple(call[2]), tuple(call[3]))
-        return ("done", self.tally)
+        return ("done",)
 
 
 def book(s, start, calls):
@@ -695,7 +715,7 @@ def patched(s, before, call):
     the call owns the entry, else the old one. Any marks at the start."""
     def owns(t, b1, b2):
         if call[0] == "run":
-            return call[1:] == (t, b1, b2)
+            return call[2:] == (t, b1, b2)
         if call[0] == "carry_on":
             return before.marks[mark_place(s, t, b1, b2)] == 0
         return call[1] == t
@@ -743,8 +763,32 @@ def patched(s, before, call):
         if owns(t, b1, b2):
             out.marks[i] = 2 if call[0] == "average" else 1
             runs += call[0] != "average"
-    out.tally += runs
+    if call[0] != "average":
+        out.tally[call[1]] += runs
     return out
+
+
+# ---------------------------------------------------------------- workers swapped
+
+def same_but_workers(calls, others):
+    """Whether two lists differ in their workers alone."""
+    def bare(call):
+        return call if call[0] == "average" else call[:1] + call[2:]
+
+    return [bare(c) for c in calls] == [bare(c) for c in others]
+
+
+def swap_law(s, start, calls, others):
+    """Two lists that differ in workers alone, no answer of either 20 or 21, must have
+    equal answers, weights, flags and marks after each call. Whether they are such
+    lists, and end in other counts."""
+    assert same_but_workers(calls, others)
+    one, two = program(s, start, calls), program(s, start, others)
+    if not one or any(a in (("refused", 20), ("refused", 21)) for a, _ in one + two):
+        return False
+    for (a, x), (b, y) in zip(one, two):
+        assert a == b and x.content()[:3] == y.content()[:3], (calls, others)
+    return one[-1][1].tally != two[-1][1].tally
 
 
 # ---------------------------------------------------------------- checks
@@ -753,13 +797,13 @@ def check_step(s, before, call, answer, after):
     if answer[0] == "refused":
         assert before.content() == after.content()
     else:
+        assert answer == ("done",)
         assert after.content() == patched(s, before, call).content(), call
-        assert answer[1] == after.tally
 
 
 def answer_table(seen):
     """Lines: kind of call by answer number."""
-    numbers = ["done"] + list(range(3, 21))
+    numbers = ["done"] + list(range(3, 22))
     lines = ["%-9s" % "" + "".join("%6s" % n for n in numbers)]
     for kind in ("run", "carry_on", "average"):
         lines.append("%-9s" % kind + "".join(

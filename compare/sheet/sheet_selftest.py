@@ -8,9 +8,9 @@ import random
 import sys
 
 from sheet_model import (
-    SIGN, Sheet, Study, answer_table, average_flags, average_weights, bits, blocks_of, book,
-    built_in, check_step, div, do, grid_index, neighbour, open_count, piece, power, program,
-    sort_omegas, value, weight, within)
+    SIGN, WORKERS, Sheet, Study, answer_table, average_flags, average_weights, bits, blocks_of,
+    book, built_in, check_step, div, do, grid_index, neighbour, open_count, piece, power, program,
+    sort_omegas, swap_law, value, weight, within)
 
 INFINITY = 0x7FF << 52
 
@@ -118,8 +118,26 @@ STRANGE = (0, SIGN, INFINITY, INFINITY | SIGN, 0x7FF8000000000000,
            0xFFFFFFFFFFFFFFFF, 0x7FFFFFFFFFFFFFFF, 1, SIGN | 1, power(60),
            power(60) | SIGN, power(60) + 1, 0x7FEFFFFFFFFFFFFF, bits(1.0), bits(-2.5))
 
-TALLIES = (0,) * 16 + (1, 5, (1 << 63) - 8, (1 << 63) - 3, (1 << 63) - 2, (1 << 63) - 1,
-           1 << 63, (1 << 63) + 1, (1 << 64) - 1)
+FULL = 1 << 63
+COUNTS = (0,) * 8 + (1, 5, FULL - 30, FULL - 8, FULL - 3, FULL - 2, FULL - 1, FULL, FULL + 1,
+          2 * FULL - 1)
+
+
+def alone(worker, count, others=0):
+    """Sixteen counts: one worker's, and that of all others."""
+    return [count if w == worker else others for w in range(WORKERS)]
+
+
+def random_tally(rng):
+    """All 0, all small, one worker's of any sort beside 0 or full ones, or all of any sort."""
+    how = rng.randrange(6)
+    if how < 2:
+        return [0] * WORKERS
+    if how == 2:
+        return [rng.randrange(1000) for _ in range(WORKERS)]
+    if how == 5:
+        return [rng.choice(COUNTS) for _ in range(WORKERS)]
+    return alone(random_worker(rng, 0), rng.choice(COUNTS), 0 if how == 3 else rng.choice(COUNTS))
 
 
 def lengths(s):
@@ -136,7 +154,7 @@ def random_start(rng, s, marks=None, tally=None):
     return Sheet([rng.choice(STRANGE) if rng.random() < 0.7 else rng.getrandbits(64)
                   for _ in range(nw)],
                  [rng.choice((0, 1, -1, 2, 127, -128)) for _ in range(nf)], marks,
-                 rng.choice(TALLIES) if tally is None else tally)
+                 random_tally(rng) if tally is None else tally)
 
 
 def random_marks(rng, s):
@@ -190,11 +208,23 @@ def wrong_ids(rng, count):
     return tuple(ids)
 
 
+# What is no worker: next to the range, and what narrower numbers take for one.
+NO_WORKERS = (-1, WORKERS, WORKERS + 1, 256, 1 << 32, (1 << 32) + 3, DEEP, FAR)
+
+
+def random_worker(rng, wrong=0.05):
+    """Of all sixteen, the first three more often; with some chance none."""
+    if rng.random() < wrong:
+        return rng.choice(NO_WORKERS)
+    return rng.randrange(rng.choice((3, WORKERS)))
+
+
 def random_call(rng, s, wrong=0.15):
     """Of an accepted study; with some chance with a wrong argument."""
     kind = rng.choice(("run", "run", "run", "carry_on", "average", "average"))
+    worker = random_worker(rng, wrong / 3)
     if kind == "carry_on":
-        return ("carry_on",)
+        return ("carry_on", worker)
     bad = rng.random() < wrong or s.t == 0
 
     def one(count):
@@ -203,7 +233,7 @@ def random_call(rng, s, wrong=0.15):
         return rng.randrange(count) if count else 0
 
     if kind == "run":
-        return ("run", one(s.t), one(s.bands[0]), one(s.bands[1]))
+        return ("run", worker, one(s.t), one(s.bands[0]), one(s.bands[1]))
     t = one(s.t)
     ids1, ids2 = random_ids(rng, s.bands[0]), random_ids(rng, s.bands[1])
     if bad and rng.random() < 0.5:
@@ -211,6 +241,20 @@ def random_call(rng, s, wrong=0.15):
     if bad and rng.random() < 0.3:
         ids2 = wrong_ids(rng, s.bands[1])
     return ("average", t, ids1, ids2)
+
+
+def with_other_workers(rng, calls):
+    """The same calls; every name of a worker exchanged for another, or each call's drawn anew."""
+    names = rng.sample(range(WORKERS), WORKERS)
+    anew = rng.random() < 0.5
+
+    def other(call):
+        if call[0] == "average":
+            return call
+        w = call[1]
+        return call[:1] + (random_worker(rng) if anew else names[w] if 0 <= w < WORKERS else w,) + call[2:]
+
+    return [other(call) for call in calls]
 
 
 def spoil_study(rng, s):
@@ -255,6 +299,38 @@ def spoil_lengths(rng, start):
 
 # ---------------------------------------------------------------- self-test
 
+def workers_to_check(s, sheet):
+    """Request 2, on a sheet with one piece."""
+    def after(tally, mark, *calls):
+        now = Sheet(sheet.weights, sheet.flags, [mark], tally)
+        answers = [do(s, now, call) for call in calls]
+        assert all(a[0] == "done" for a in answers) or now.tally == tally
+        return [a[1] if a[0] == "refused" else 0 for a in answers], now.tally
+
+    # A run and a carry-on move their worker's count only, repeats included.
+    assert after([0] * 16, 0, ("run", 3, 0, 0, 0), ("run", 15, 0, 0, 0), ("run", 3, 0, 0, 0),
+                 ("carry_on", 1)) == ([0] * 4, [0, 0, 0, 2] + [0] * 11 + [1])
+    assert after([7] * 16, 0, ("carry_on", 0), ("carry_on", 1)) == ([0, 0], alone(0, 8, 7))
+    # Whoever is not 0 to 15 is 21, also with nothing open; 20 is of the named count alone.
+    for w in NO_WORKERS:
+        for mark in (0, 1):
+            for tally in ([0] * 16, [FULL] * 16):
+                assert after(tally, mark, ("run", w, 0, 0, 0), ("carry_on", w))[0] == [21, 21]
+        assert after([FULL] * 16, 2, ("run", w, 0, 0, 0), ("carry_on", w))[0] == [15, 21]
+        assert after([FULL] * 16, 3, ("run", w, 0, 0, 0), ("carry_on", w))[0] == [13, 13]
+        assert after([FULL] * 16, 1, ("run", w, 1, 0, 0), ("run", w, 0, -1, 0))[0] == [14, 14]
+    for w in range(16):
+        for mark in (0, 1):
+            for others in (0, FULL, 2 * FULL - 1):
+                for count, want in ((FULL - 2, [0, 0]), (FULL - 1, [20, 0 if mark else 20]),
+                                    (FULL, [20, 20]), (2 * FULL - 1, [20, 20])):
+                    tally = alone(w, count, others)
+                    assert [after(tally, mark, c)[0][0] for c in (("run", w, 0, 0, 0), ("carry_on", w))] == want
+    # The averaging asks neither, and leaves all counts.
+    full = list(range(FULL, FULL + 16))
+    assert after(full, 1, ("average", 0, (0,), (0,))) == ([0], full)
+
+
 def points_to_check():
     """The points of document 01 that concern this model."""
     def same(four, omega):
@@ -296,20 +372,22 @@ def points_to_check():
     average_flags(z, blocks, 2)
     assert [value(b) for b in w] == [2.0, 3.5, 2.0, 3.5] and z == [1, 0, 1, 0]
     # 23 rows, mesh 128 and 129, counts.
-    sheet = Sheet([0] * 4, [0] * 2, [0], 0)
-    assert do(s, sheet.copy(), ("carry_on",)) == ("done", 1)
-    assert do(s.but(table=built_in(0)[:276]), sheet.copy(), ("carry_on",)) == ("refused", 7)
-    for d, want in ((128, ("done", 1)), (129, ("refused", 4))):
+    sheet = Sheet([0] * 4, [0] * 2, [0], [0] * WORKERS)
+    carry_on = ("carry_on", 5)
+    assert do(s, sheet.copy(), carry_on) == ("done",)
+    assert do(s.but(table=built_in(0)[:276]), sheet.copy(), carry_on) == ("refused", 7)
+    for d, want in ((128, ("done",)), (129, ("refused", 4))):
         big = s.but(mesh=(1, d, 1), addresses=[0, 0, 0] * d, map=range(d + 1),
                     frequencies1=[one] * d, frequencies2=[one] * d)
-        assert do(big, sheet.copy(), ("carry_on",)) == want
+        assert do(big, sheet.copy(), carry_on) == want
     for count, want in ((65536, 12), (65537, 9)):
         big = s.but(triplets=[0] * (3 * count))
-        assert do(big, sheet.copy(), ("carry_on",)) == ("refused", want)
-    assert do(s.but(triplets=[0] * (3 * 65536 + 1)), sheet.copy(), ("carry_on",)) == ("refused", 9)
+        assert do(big, sheet.copy(), carry_on) == ("refused", want)
+    assert do(s.but(triplets=[0] * (3 * 65536 + 1)), sheet.copy(), carry_on) == ("refused", 9)
     for count, want in ((1024, 12), (1025, 9)):
         big = s.but(points=[one] * count)
-        assert do(big, sheet.copy(), ("carry_on",)) == ("refused", want)
+        assert do(big, sheet.copy(), carry_on) == ("refused", want)
+    workers_to_check(s, sheet)
     # Open count.
     assert open_count((1, 2, 2, 2), [0, 1, 0, -1, 2, 0, 0, 0], 0) == ("done", 2)
     assert open_count((1, 2, 2, 2), [0, 1, 0, -1, 2, 0, 0, 0], 1) == ("done", 3)
@@ -323,12 +401,13 @@ def points_to_check():
 
 
 def self_test(count, seed):
-    """Program against book (marks all 0 at the start), and program against the
-    patch of each call (any marks at the start)."""
+    """Program against book (marks all 0 at the start), program against the patch
+    of each call (any marks at the start), and lists with their workers swapped
+    (any marks at the start)."""
     points_to_check()
     rng = random.Random(seed)
     seen = {}
-    calls_made = patches = lists = 0
+    calls_made = patches = lists = swaps = 0
     while lists < count:
         s = random_study(rng)
         how = rng.random()
@@ -339,7 +418,7 @@ def self_test(count, seed):
                 spoil_lengths(rng, start)
             calls = [random_call(rng, s) for _ in range(rng.randint(0, 14))]
             if calls and rng.random() < 0.4:
-                calls[rng.randrange(min(3, len(calls)))] = ("carry_on",)
+                calls[rng.randrange(min(3, len(calls)))] = ("carry_on", random_worker(rng))
             a, b = program(study, start, calls), book(study, start, calls)
             before = start
             for call, (answer, sheet), (answer2, sheet2) in zip(calls, a, b):
@@ -351,10 +430,12 @@ def self_test(count, seed):
                 seen[key] = seen.get(key, 0) + 1
             calls_made += len(calls)
             lists += 1
+            swaps += swap_law(study, start, calls, with_other_workers(rng, calls))
         # Any marks at the start: no book, each call against its patch.
         before = begun(rng, s)
-        for _ in range(rng.randint(1, 8)):
-            call = random_call(rng, s)
+        calls = [random_call(rng, s) for _ in range(rng.randint(1, 8))]
+        swaps += swap_law(s, before, calls, with_other_workers(rng, calls))
+        for call in calls:
             sheet = before.copy()
             answer = do(s, sheet, call)
             check_step(s, before, call, answer, sheet)
@@ -362,12 +443,13 @@ def self_test(count, seed):
             patches += 1
             key = (call[0],) + ((answer[1],) if answer[0] == "refused" else ("done",))
             seen[key] = seen.get(key, 0) + 1
-    return lists, calls_made, patches, seen
+    return lists, calls_made, patches, swaps, seen
 
 
 if __name__ == "__main__":
     want = int(sys.argv[1]) if len(sys.argv) > 1 else 3000
-    lists, made, patches, seen = self_test(want, int(sys.argv[2]) if len(sys.argv) > 2 else 1)
+    lists, made, patches, swaps, seen = self_test(want, int(sys.argv[2]) if len(sys.argv) > 2 else 1)
     print("%d lists, %d calls: program and book agree; %d calls on any marks agree with their patch"
           % (lists, made, patches))
+    print("%d lists agree with other workers in all but the counts" % swaps)
     print(answer_table(seen))

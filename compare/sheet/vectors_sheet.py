@@ -18,13 +18,15 @@ KINDS = {"run": 1, "carry_on": 2, "average": 3}
 NAMES = {1: "run of a piece", 2: "carry on", 3: "average of a triplet", 4: "open count", 5: "list of calls"}
 # The kinds that a list reads as an averaging: any number but 0 and 1.
 AVERAGES = (2, -1, 77, 1 << 62)
-# The program's buffers: of a sheet, of whole numbers, of floats; and its flags.
+# What stands where a run or a carry-on names nothing.
+UNNAMED = (0, 0, 3, -1, 0, 16, -(1 << 63), 0, (1 << 63) - 1, 21)
+# The program's buffers: of a sheet, and of the answers of a list, which has sixteen counts for each; of whole numbers, of floats; and its flags.
 ROOM = 256
 NUMBERS = 1500
 REALS = 1100
 FLAGS = (-128, -1, 0, 1, 2, 5, 9, 127)
-# So many lists share a spelled table, at most.
-TOGETHER = 12
+# Lists that share a spelled table have so many bytes, at most.
+TOGETHER = 60000
 
 
 def words(xs):
@@ -75,6 +77,11 @@ def content(sheet):
     return patterns(sheet["weights"]) + words(sheet["flags"]) + words(sheet["marks"])
 
 
+def counts(sheet):
+    """The sixteen."""
+    return ["%x" % c for c in sheet["tally"]]
+
+
 def number_of(answer):
     return answer[1] if answer[0] == "refused" else 0
 
@@ -83,20 +90,17 @@ def list_of_calls(c, seen):
     start = c["start"]
     sizes = [len(start[n]) for n in ("weights", "flags", "marks")]
     assert max(sizes) <= ROOM
-    out = [line(words(sizes), content(start), ["%x" % start["tally"], str(len(c["calls"]))])]
+    out = [line(words(sizes), content(start), counts(start), [str(len(c["calls"]))])]
     before = start
     for call, step in zip(c["calls"], c["steps"]):
         kind, number = KINDS[call[0]], number_of(step["answer"])
         assert set(step["flags"]) <= set(FLAGS) and sizes == [len(step[n]) for n in ("weights", "flags", "marks")]
-        assert number != 0 or step["answer"][1] == step["tally"]
         kept = content(before) == content(step)
         assert number == 0 or (kept and before["tally"] == step["tally"])
-        arguments = []
-        if call[0] == "run":
-            arguments = words(call[1:])
+        arguments = words(call[1:])
         if call[0] == "average":
             arguments = [str(call[1])] + numbers(call[2]) + numbers(call[3])
-        out.append(line([str(kind)], arguments, [str(number), "%x" % step["tally"]], ["0"] if kept else ["1"] + content(step)))
+        out.append(line([str(kind)], arguments, [str(number)], counts(step), ["0"] if kept else ["1"] + content(step)))
         seen[kind, number] = seen.get((kind, number), 0) + 1
         before = step
     return [record(4, "".join(out))]
@@ -106,10 +110,11 @@ def encoded(calls):
     """Six numbers a call, and the ids that the averagings name by their places."""
     out, ids = [], []
     for k, call in enumerate(calls):
+        unnamed = [UNNAMED[(3 * k + i) % len(UNNAMED)] for i in range(4)]
         if call[0] == "run":
-            out += [0, *call[1:], 0, 0]
+            out += [0, *call[1:], unnamed[0]]
         elif call[0] == "carry_on":
-            out += [1, 0, 0, 0, 0, 0]
+            out += [1, call[1], *unnamed]
         else:
             first = len(ids)
             ids += call[2]
@@ -127,14 +132,14 @@ def whole_list(c, seen, extra=0):
     number = 12 if extra else 0
     last = steps[-1] if steps and number == 0 else start
     answers = [number_of(s["answer"]) for s in steps] if number == 0 else [0] * places
-    tallies = [s["tally"] for s in steps] if number == 0 else [0] * places
+    tallies = [x for s in steps for x in counts(s)] if number == 0 else ["0"] * (m.WORKERS * places)
     assert places <= ROOM
     kept = content(last) == content(start)
     sizes = [len(start[n]) for n in ("weights", "flags", "marks")]
     seen[5, number] = seen.get((5, number), 0) + 1
-    return [record(4, line(words(sizes), content(start), ["%x" % start["tally"], "1"])
-                   + line(["5"], numbers(numbers_of), numbers(ids), [str(places)], ["%x" % a for a in answers], ["%x" % t for t in tallies],
-                          [str(number), "%x" % last["tally"]], ["0"] if kept else ["1"] + content(last)))]
+    return [record(4, line(words(sizes), content(start), counts(start), ["1"])
+                   + line(["5"], numbers(numbers_of), numbers(ids), [str(places)], ["%x" % a for a in answers], tallies, [str(number)], counts(last),
+                          ["0"] if kept else ["1"] + content(last)))]
 
 
 def open_count(c, seen):
@@ -146,24 +151,34 @@ def open_count(c, seen):
                            [str(c["triplet"]), str(number), "%x" % (c["answer"][1] if number == 0 else 0)]))]
 
 
+def played(c):
+    """Whether a list is stored a second time, as one call of `play`."""
+    fresh = not any(c["start"]["marks"]) and c["group"] != "single"
+    return fresh or c["group"] in ("worker", "swap") or c["number"] % 8 == 0
+
+
 def groups(seed, seen):
     """Groups of records that need no other: lists with the same table, their grids and studies where they change."""
     by_table = {}
     for c in sheet_cases.cases(seed):
         by_table.setdefault(c["table"], []).append(c)
     for lists in by_table.values():
-        for i in range(0, len(lists), TOGETHER):
-            group, last = [table(lists[i]["study"])], ["", ""]
-            for c in lists[i:i + TOGETHER]:
-                now = [grid(c["study"]), study(c["study"])]
-                group += [x for x, y in zip(now, last) if x != y]
-                last = now
-                group += list_of_calls(c, seen)
-                if not any(c["start"]["marks"]) or c["number"] % 8 == 0:
-                    group += whole_list(c, seen)
-                if c["number"] % 40 == 0:
-                    group += whole_list(c, seen, 1)
-            yield group
+        group = []
+        for c in lists:
+            now = [grid(c["study"]), study(c["study"])]
+            more = list_of_calls(c, seen)
+            if played(c):
+                more += whole_list(c, seen)
+            if c["number"] % 40 == 0:
+                more += whole_list(c, seen, 1)
+            size = sum(map(len, now + more))
+            if not group or held + size > TOGETHER:
+                if group:
+                    yield group
+                group, last, held = [table(c["study"])], ["", ""], 0
+            group += [x for x, y in zip(now, last) if x != y] + more
+            last, held = now, held + size
+        yield group
     for c in sheet_cases.open_count_cases(seed):
         yield open_count(c, seen)
 

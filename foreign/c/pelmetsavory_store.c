@@ -7,9 +7,9 @@
 #include <unistd.h>
 #include "pelmetsavory_store.h"
 
-enum { VERSION_AT = 8, STUDY_AT = 16, SHAPE_AT = 48, BEGAN_AT = 88, TALLY_AT = 96, HEAD = 104, DIGEST = 32 };
+enum { VERSION_AT = 8, STUDY_AT = 16, SHAPE_AT = 48, BEGAN_AT = 88, TALLY_AT = 216, HEAD = 344, DIGEST = 32, WORKERS = 16 };
 static const char magic[] = "PELSHEET", preface[] = "pelmetsavory study 1\n";
-static const uint64_t format = 1;
+static const uint64_t format = 2;
 
 const char *pelmetsavory_store_words(uint64_t status)
 {
@@ -17,12 +17,12 @@ const char *pelmetsavory_store_words(uint64_t status)
     case PELMETSAVORY_STORE_FILE: return "the file could not be read or written";
     case PELMETSAVORY_STORE_MEMORY: return "there is no memory for the bytes of the file";
     case PELMETSAVORY_STORE_MAGIC: return "the file is not a stored sheet";
-    case PELMETSAVORY_STORE_VERSION: return "the stored sheet has another format version than 1";
+    case PELMETSAVORY_STORE_VERSION: return "the stored sheet has another format version than 2";
     case PELMETSAVORY_STORE_LENGTH: return "the stored sheet is cut short or too long";
     case PELMETSAVORY_STORE_CHECKSUM: return "the stored sheet is damaged: its checksum is not right";
     case PELMETSAVORY_STORE_STUDY: return "the sheet is of another study";
     case PELMETSAVORY_STORE_SHAPE: return "the sheet has another shape than the study's";
-    case PELMETSAVORY_STORE_TALLY: return "the worker's sheet is damaged: its tally is below the one that it began with";
+    case PELMETSAVORY_STORE_TALLY: return "the worker's sheet is damaged: a count of its tally is below the one that it began with";
     case PELMETSAVORY_STORE_AVERAGED: return "the worker has averaged a triplet that is not averaged here";
     case PELMETSAVORY_STORE_ITSELF: return "a sheet cannot take over itself";
     default: return pelmetsavory_question(status);
@@ -151,9 +151,11 @@ void pelmetsavory_sheet_shape(const pelmetsavory_study *y, uint64_t shape[5])
     shape[4] = up_to(64, (uint64_t)y->shape.num_band2);
 }
 
-void pelmetsavory_sheet_begin(const pelmetsavory_study *y, pelmetsavory_sheet *s, uint64_t tally)
+void pelmetsavory_sheet_begin(const pelmetsavory_study *y, pelmetsavory_sheet *s, const uint64_t *tally)
 {
-    s->tally = s->began = tally;
+    const uint64_t zeros[WORKERS] = {0};
+    memmove(s->tally, tally ? tally : zeros, sizeof s->tally);
+    memcpy(s->began, s->tally, sizeof s->began);
     pelmetsavory_study_fingerprint(y, s->study);
 }
 
@@ -213,8 +215,8 @@ uint64_t pelmetsavory_store_write(const pelmetsavory_study *y, const pelmetsavor
     put(&at, &format, 8);
     put(&at, s->study, DIGEST);
     put(&at, shape, sizeof shape);
-    put(&at, &s->began, 8);
-    put(&at, &s->tally, 8);
+    put(&at, s->began, sizeof s->began);
+    put(&at, s->tally, sizeof s->tally);
     put(&at, s->weights, s->weights_len * 8);
     put(&at, s->flags, s->flags_len);
     put(&at, s->marks, s->marks_len);
@@ -227,8 +229,9 @@ static uint64_t damage(const uint8_t *bytes, size_t n)
 {
     uint64_t shape[5];
     uint8_t digest[DIGEST];
-    if (n < HEAD + DIGEST || memcmp(bytes, magic, VERSION_AT)) return PELMETSAVORY_STORE_MAGIC;
-    if (number_at(bytes + VERSION_AT) != format) return PELMETSAVORY_STORE_VERSION;
+    if (n < STUDY_AT || memcmp(bytes, magic, VERSION_AT)) return PELMETSAVORY_STORE_MAGIC;
+    if (number_at(bytes + VERSION_AT) != format) return PELMETSAVORY_STORE_VERSION; /* another format has another head */
+    if (n < HEAD + DIGEST) return PELMETSAVORY_STORE_LENGTH;
     memcpy(shape, bytes + SHAPE_AT, sizeof shape);
     if (n != sizes_of(shape).file) return PELMETSAVORY_STORE_LENGTH;
     pelmetsavory_sha256(bytes, n - DIGEST, digest);
@@ -249,8 +252,8 @@ uint64_t pelmetsavory_store_read(const pelmetsavory_study *y, pelmetsavory_sheet
     get(&at, s->weights, s->weights_len * 8);
     get(&at, s->flags, s->flags_len);
     get(&at, s->marks, s->marks_len);
-    s->began = number_at(bytes + BEGAN_AT);
-    s->tally = number_at(bytes + TALLY_AT);
+    memcpy(s->began, bytes + BEGAN_AT, sizeof s->began);
+    memcpy(s->tally, bytes + TALLY_AT, sizeof s->tally);
     memcpy(s->study, bytes + STUDY_AT, DIGEST);
     return 0;
 }
@@ -311,8 +314,23 @@ uint64_t pelmetsavory_store_load(const pelmetsavory_study *y, pelmetsavory_sheet
 
 /* ---- taking over */
 
+/* What keeps a tally from growing as a worker's has since its sheet began; behind `tally` the one that it would be. A count that does not grow
+ * is not asked. */
+static uint64_t not_grown(const pelmetsavory_sheet *s, const pelmetsavory_sheet *worker, uint64_t tally[WORKERS])
+{
+    memcpy(tally, s->tally, sizeof s->tally);
+    for (int k = 0; k < WORKERS; k++)
+        if (worker->tally[k] < worker->began[k]) return PELMETSAVORY_STORE_TALLY;
+    for (int k = 0; k < WORKERS; k++) {
+        const uint64_t runs = worker->tally[k] - worker->began[k];
+        const uint64_t status = runs ? pelmetsavory_tally_add(tally, k, runs) : 0;
+        if (status) return status;
+    }
+    return 0;
+}
+
 /* What keeps a sheet from taking over a worker's; behind `tally` the one that it would have. */
-static uint64_t not_taken(const pelmetsavory_study *y, const pelmetsavory_sheet *s, const pelmetsavory_sheet *worker, uint64_t *tally)
+static uint64_t not_taken(const pelmetsavory_study *y, const pelmetsavory_sheet *s, const pelmetsavory_sheet *worker, uint64_t tally[WORKERS])
 {
     uint64_t shape[5];
     pelmetsavory_sheet_shape(y, shape);
@@ -323,15 +341,13 @@ static uint64_t not_taken(const pelmetsavory_study *y, const pelmetsavory_sheet 
     if (!sound(shape, s->marks) || !sound(shape, worker->marks)) return 13;
     for (uint64_t p = 0; p < z.marks; p++)
         if (worker->marks[p] == 2 && s->marks[p] != 2) return PELMETSAVORY_STORE_AVERAGED;
-    if (worker->tally < worker->began) return PELMETSAVORY_STORE_TALLY;
-    *tally = s->tally;
-    return pelmetsavory_tally_add(tally, worker->tally - worker->began);
+    return not_grown(s, worker, tally);
 }
 
 uint64_t pelmetsavory_sheet_take(const pelmetsavory_study *y, pelmetsavory_sheet *s, pelmetsavory_sheet *worker)
 {
-    uint64_t shape[5], tally;
-    const uint64_t status = not_taken(y, s, worker, &tally);
+    uint64_t shape[5], tally[WORKERS];
+    const uint64_t status = not_taken(y, s, worker, tally);
     if (status) return status;
     pelmetsavory_sheet_shape(y, shape);
     const uint64_t points = shape[2], pairs = shape[3] * shape[4];
@@ -344,7 +360,7 @@ uint64_t pelmetsavory_sheet_take(const pelmetsavory_study *y, pelmetsavory_sheet
         }
         s->marks[p] = 1;
     }
-    s->tally = tally;
-    worker->began = worker->tally;
+    memcpy(s->tally, tally, sizeof s->tally);
+    memcpy(worker->began, worker->tally, sizeof worker->began);
     return 0;
 }

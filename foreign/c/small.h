@@ -4,7 +4,7 @@
 #include <string.h>
 #include "pelmetsavory_store.h"
 
-enum { TRIPLETS = 3, POINTS = 5, BANDS = 3, PIECES = 27, CELLS = 135, ENTRIES = 405 };
+enum { TRIPLETS = 3, POINTS = 5, BANDS = 3, PIECES = 27, CELLS = 135, ENTRIES = 405, COUNTS = 16 };
 
 static const int64_t addresses[36] = {0, 0, 0, 1, 0, 0, -1, 0, 0, 0, 1, 0, 0, -1, 0, 1, 1, 0, 0, 0, 1, 0, 0, -1, 1, 0, 1, 0, 1, 1, 1, 1, 1, -1, -1, -1};
 static const int64_t gp_map[9] = {0, 1, 3, 5, 6, 8, 9, 10, 12};
@@ -39,10 +39,10 @@ static inline pelmetsavory_study small_study(void)
     return y;
 }
 
-/* A sheet with every entry as told, all pieces open. */
-static inline pelmetsavory_sheet new_sheet(const pelmetsavory_study *y, double weight, int8_t flag, uint64_t tally)
+/* A sheet with every entry as told, all pieces open; its counts begin with those of the tally, or with 0. */
+static inline pelmetsavory_sheet new_sheet(const pelmetsavory_study *y, double weight, int8_t flag, const uint64_t *tally)
 {
-    pelmetsavory_sheet s = {malloc(ENTRIES * 8), ENTRIES, malloc(CELLS), CELLS, calloc(PIECES, 1), PIECES, 0, 0, {0}};
+    pelmetsavory_sheet s = {malloc(ENTRIES * 8), ENTRIES, malloc(CELLS), CELLS, calloc(PIECES, 1), PIECES, {0}, {0}, {0}};
     if (!s.weights || !s.flags || !s.marks) stop_at(PELMETSAVORY_STORE_MEMORY, "a sheet");
     for (int k = 0; k < ENTRIES; k++) s.weights[k] = weight;
     memset(s.flags, flag, CELLS);
@@ -52,16 +52,16 @@ static inline pelmetsavory_sheet new_sheet(const pelmetsavory_study *y, double w
 
 static inline void free_sheet(pelmetsavory_sheet *s) { free(s->weights); free(s->flags); free(s->marks); }
 
-/* All that a sheet holds, as bytes. */
-enum { SHEET_BYTES = ENTRIES * 8 + CELLS + PIECES + 8 + 8 + 32 };
+/* All that a sheet holds, as bytes: weights, flags and marks first. */
+enum { CONTENT_BYTES = ENTRIES * 8 + CELLS + PIECES, SHEET_BYTES = CONTENT_BYTES + 2 * COUNTS * 8 + 32 };
 static inline void to_bytes(const pelmetsavory_sheet *s, unsigned char *out)
 {
     memcpy(out, s->weights, ENTRIES * 8);
     memcpy(out += ENTRIES * 8, s->flags, CELLS);
     memcpy(out += CELLS, s->marks, PIECES);
-    memcpy(out += PIECES, &s->tally, 8);
-    memcpy(out += 8, &s->began, 8);
-    memcpy(out + 8, s->study, 32);
+    memcpy(out += PIECES, s->tally, COUNTS * 8);
+    memcpy(out += COUNTS * 8, s->began, COUNTS * 8);
+    memcpy(out + COUNTS * 8, s->study, 32);
 }
 
 static inline pelmetsavory_piece piece_at(int p) { pelmetsavory_piece q = {p / 9, p / 3 % 3, p % 3}; return q; }

@@ -16,7 +16,7 @@ static void whole_sheet(const pelmetsavory_sheet *s)
     floats(s->weights, ENTRIES);
     for (int k = 0; k < CELLS; k++) number(s->flags[k]);
     for (int k = 0; k < PIECES; k++) number(s->marks[k]);
-    number((long long)s->tally);
+    wholes((const int64_t *)s->tally, COUNTS);
 }
 
 /* a file of data/ */
@@ -48,27 +48,27 @@ static int listed(const pelmetsavory_sheet *s)
 static void calls(void)
 {
     y = small_study();
-    pelmetsavory_sheet s = new_sheet(&y, -7.25, 5, 40), t = new_sheet(&y, -7.25, 5, 0);
+    pelmetsavory_sheet s = new_sheet(&y, -7.25, 5, begun), t = new_sheet(&y, -7.25, 5, NULL);
     pelmetsavory_study b;
 
     /* refusals, each of which leaves the sheet as it was; a count one too small is a slice one shorter */
-    b = y; b.shape.bz_grid_type = INT64_MIN; KEPT(3, &s, pelmetsavory_sheet_carry_on(&b, &s));
-    b = y; b.shape.d_diag[1] = 129; KEPT(4, &s, pelmetsavory_sheet_carry_on(&b, &s));
-    b = y; b.addresses_len = 35; KEPT(5, &s, pelmetsavory_sheet_carry_on(&b, &s));
-    b = y; b.addresses = NULL; b.addresses_len = 0; KEPT(5, &s, pelmetsavory_sheet_carry_on(&b, &s));
-    b = y; b.gp_map_len = 8; KEPT(6, &s, pelmetsavory_sheet_carry_on(&b, &s));
-    b = y; b.relative_grid_address_len = 276; KEPT(7, &s, pelmetsavory_sheet_carry_on(&b, &s));
-    b = y; b.shape.tp_type = 5; KEPT(8, &s, pelmetsavory_sheet_carry_on(&b, &s));
-    b = y; b.frequency_points = NULL; b.frequency_points_len = 0; KEPT(9, &s, pelmetsavory_sheet_carry_on(&b, &s));
+    b = y; b.shape.bz_grid_type = INT64_MIN; KEPT(3, &s, pelmetsavory_sheet_carry_on(&b, &s, 2));
+    b = y; b.shape.d_diag[1] = 129; KEPT(4, &s, pelmetsavory_sheet_carry_on(&b, &s, 2));
+    b = y; b.addresses_len = 35; KEPT(5, &s, pelmetsavory_sheet_carry_on(&b, &s, 2));
+    b = y; b.addresses = NULL; b.addresses_len = 0; KEPT(5, &s, pelmetsavory_sheet_carry_on(&b, &s, 2));
+    b = y; b.gp_map_len = 8; KEPT(6, &s, pelmetsavory_sheet_carry_on(&b, &s, 2));
+    b = y; b.relative_grid_address_len = 276; KEPT(7, &s, pelmetsavory_sheet_carry_on(&b, &s, 2));
+    b = y; b.shape.tp_type = 5; KEPT(8, &s, pelmetsavory_sheet_carry_on(&b, &s, 2));
+    b = y; b.frequency_points = NULL; b.frequency_points_len = 0; KEPT(9, &s, pelmetsavory_sheet_carry_on(&b, &s, 2));
     int64_t far[9]; memcpy(far, triplets, sizeof far); far[4] = 12;
-    b = y; b.triplets = far; KEPT(10, &s, pelmetsavory_sheet_carry_on(&b, &s));
-    b = y; b.frequencies1_len = 35; KEPT(11, &s, pelmetsavory_sheet_carry_on(&b, &s));
-    s.weights_len--; KEPT(12, &s, pelmetsavory_sheet_carry_on(&y, &s)); s.weights_len++;
-    s.flags_len--; KEPT(12, &s, pelmetsavory_sheet_carry_on(&y, &s)); s.flags_len++;
-    s.marks_len--; KEPT(12, &s, pelmetsavory_sheet_carry_on(&y, &s)); s.marks_len++;
-    s.marks[19] = 3; KEPT(13, &s, pelmetsavory_sheet_carry_on(&y, &s)); s.marks[19] = 0;
+    b = y; b.triplets = far; KEPT(10, &s, pelmetsavory_sheet_carry_on(&b, &s, 2));
+    b = y; b.frequencies1_len = 35; KEPT(11, &s, pelmetsavory_sheet_carry_on(&b, &s, 2));
+    s.weights_len--; KEPT(12, &s, pelmetsavory_sheet_carry_on(&y, &s, 2)); s.weights_len++;
+    s.flags_len--; KEPT(12, &s, pelmetsavory_sheet_carry_on(&y, &s, 2)); s.flags_len++;
+    s.marks_len--; KEPT(12, &s, pelmetsavory_sheet_carry_on(&y, &s, 2)); s.marks_len++;
+    s.marks[19] = 3; KEPT(13, &s, pelmetsavory_sheet_carry_on(&y, &s, 2)); s.marks[19] = 0;
     const pelmetsavory_piece off[] = {{3, 0, 0}, {0, 3, 0}, {0, 0, 3}, {-1, 0, 0}, {0, INT64_MIN, 0}};
-    for (int k = 0; k < 5; k++) KEPT(14, &s, pelmetsavory_sheet_run_piece(&y, &s, off[k]));
+    for (int k = 0; k < 5; k++) KEPT(14, &s, pelmetsavory_sheet_run_piece(&y, &s, 2, off[k]));
     KEPT(14, &s, pelmetsavory_sheet_average_triplet(&y, &s, 3, ids1, 3, ids2, 3));
     KEPT(18, &s, pelmetsavory_sheet_average_triplet(&y, &s, 0, ids1, 3, ids2, 3));
     KEPT(17, &s, pelmetsavory_sheet_average_triplet(&y, &s, 0, ids1, 2, ids2, 3));
@@ -76,13 +76,16 @@ static void calls(void)
     b = y; b.shape.num_band2 = 2; b.frequencies2_len = 24;
     pelmetsavory_sheet narrow = s; narrow.weights_len = 270; narrow.flags_len = 90; narrow.marks_len = 18;
     KEPT(16, &s, pelmetsavory_sheet_average_triplet(&b, &narrow, 0, ids1, 2, ids2, 2));
-    s.tally = INT64_MAX; KEPT(20, &s, pelmetsavory_sheet_run_piece(&y, &s, piece_at(0))); KEPT(20, &s, pelmetsavory_sheet_carry_on(&y, &s)); s.tally = 40;
+    KEPT(20, &s, pelmetsavory_sheet_run_piece(&y, &s, 9, piece_at(0)));
+    KEPT(20, &s, pelmetsavory_sheet_carry_on(&y, &s, 9));
+    KEPT(21, &s, pelmetsavory_sheet_run_piece(&y, &s, 16, piece_at(0)));
+    KEPT(21, &s, pelmetsavory_sheet_carry_on(&y, &s, -1));
 
-    /* pieces in a mixed order, repeats counted, averages */
-    for (int k = 0; k < PIECES; k++) WANT(0, pelmetsavory_sheet_run_piece(&y, &s, piece_at(k * 5 % PIECES)));
-    YES(listed(&s) && s.tally == 67);
-    WANT(0, pelmetsavory_sheet_run_piece(&y, &s, piece_at(13)));
-    YES(s.tally == 68);
+    /* pieces in a mixed order, of nine workers; repeats counted, averages */
+    for (int k = 0; k < PIECES; k++) WANT(0, pelmetsavory_sheet_run_piece(&y, &s, k % 9, piece_at(k * 5 % PIECES)));
+    YES(listed(&s));
+    WANT(0, pelmetsavory_sheet_run_piece(&y, &s, 15, piece_at(13)));
+    for (int k = 0; k < COUNTS; k++) YES(s.tally[k] == begun[k] + (k < 9 ? 3 : k == 15));
     const pelmetsavory_counts counts = {TRIPLETS, POINTS, BANDS, BANDS};
     uint64_t open = 77;
     name("open");
@@ -90,16 +93,23 @@ static void calls(void)
     end();
     WANT(14, pelmetsavory_open_count(counts, s.flags, CELLS, 3, &open));
     WANT(12, pelmetsavory_open_count(counts, NULL, 0, 0, &open));
-    WANT(0, pelmetsavory_sheet_run_piece(&y, &t, piece_at(7)));
-    WANT(0, pelmetsavory_sheet_carry_on(&y, &t));
-    YES(listed(&t) && t.tally == 27);
+    WANT(0, pelmetsavory_sheet_run_piece(&y, &t, 15, piece_at(7)));
+    WANT(0, pelmetsavory_sheet_carry_on(&y, &t, 0));
+    YES(listed(&t));
+    for (int k = 0; k < COUNTS; k++) YES(t.tally[k] == (k == 0 ? 26u : k == 15));
     double kept = t.weights[CELLS]; uint64_t bits = 0x7ff8000000000001; memcpy(t.weights + CELLS, &bits, 8);
     KEPT(19, &t, pelmetsavory_sheet_average_triplet(&y, &t, 0, ids1, 3, ids2, 3));
     t.weights[CELLS] = kept;
     WANT(0, pelmetsavory_sheet_average_triplet(&y, &s, 1, ids1, 3, ids2, 3));
-    KEPT(15, &s, pelmetsavory_sheet_run_piece(&y, &s, piece_at(9)));
+    KEPT(15, &s, pelmetsavory_sheet_run_piece(&y, &s, 0, piece_at(9)));
     KEPT(15, &s, pelmetsavory_sheet_average_triplet(&y, &s, 1, ids1, 3, ids2, 3));
     name("averaged"); whole_sheet(&s); end();
+    uint8_t file[4096];
+    YES(pelmetsavory_store_size(&y) <= sizeof file);
+    WANT(0, pelmetsavory_store_write(&y, &s, file));
+    name("stored");
+    for (size_t k = 0; k < pelmetsavory_store_size(&y); k++) number(file[k]);
+    end();
 
     /* all triplets, one triplet, its averages */
     double w[ENTRIES], w1[135]; int8_t f[CELLS], f1[45];
@@ -176,18 +186,15 @@ static void calls(void)
     end();
     WANT(8, pelmetsavory_num_channels(1, &channels));
     YES(channels == 1 && index >= 0 && which == 0);
-    uint64_t tally = INT64_MAX - 1;
-    WANT(0, pelmetsavory_tally_add(&tally, 1));
-    WANT(20, pelmetsavory_tally_add(&tally, 1));
-    YES(tally == INT64_MAX);
-
     /* empty arrays, without a pointer: no triplets is a sheet, no grid points is an answer */
     b = y; b.triplets = NULL; b.triplets_len = 0;
-    pelmetsavory_sheet empty = {NULL, 0, NULL, 0, NULL, 0, 3, 3, {0}};
-    WANT(0, pelmetsavory_sheet_carry_on(&b, &empty));
-    WANT(14, pelmetsavory_sheet_run_piece(&b, &empty, piece_at(0)));
+    pelmetsavory_sheet empty = {NULL, 0, NULL, 0, NULL, 0, {0}, {0}, {0}};
+    pelmetsavory_sheet_begin(&b, &empty, begun);
+    WANT(0, pelmetsavory_sheet_carry_on(&b, &empty, 9));
+    WANT(21, pelmetsavory_sheet_carry_on(&b, &empty, 16));
+    WANT(14, pelmetsavory_sheet_run_piece(&b, &empty, 16, piece_at(0)));
     WANT(14, pelmetsavory_sheet_average_triplet(&b, &empty, 0, ids1, 3, ids2, 3));
-    YES(empty.tally == 3);
+    YES(!memcmp(empty.tally, begun, sizeof begun));
     WANT(0, pelmetsavory_integration_weight(PELMETSAVORY_STUDY(&y), NULL, 0, NULL, 0, NULL, 0));
     WANT(0, pelmetsavory_neighboring_grid_points_many(NULL, 0, NULL, 0, steps, 9, grid, addresses, 36, gp_map, 9));
     WANT(0, pelmetsavory_integration_weights_at_grid_points(NULL, 0, two, 2, table, 288, NULL, 0, frequencies1, 12, 3, 4, grid, addresses, 36, gp_map, 9, irreducible, 12, 'I'));
@@ -197,15 +204,20 @@ static void calls(void)
     free_sheet(&s); free_sheet(&t);
 }
 
-enum { CALLS = 14 };
+/* what is no worker */
+enum { NONE = 6 };
+static const int64_t none[NONE] = {-1, 16, 256, INT64_C(1) << 32, INT64_MIN, INT64_MAX};
+
+enum { CALLS = 20 };
 static const int64_t ids[6] = {0, 0, 2, 0, 1, 1};
-static const int64_t list[CALLS][6] = { /* numbers that a call does not read are 9 */
-    {PELMETSAVORY_RUN, 1, 1, 1, 9, 9}, {PELMETSAVORY_RUN, 3, 0, 0, 9, 9}, {PELMETSAVORY_AVERAGE, 1, 0, 3, 3, 6}, {PELMETSAVORY_RUN, 1, 1, 1, 9, 9},
-    {PELMETSAVORY_CARRY_ON, 9, 9, 9, 9, 9}, {PELMETSAVORY_AVERAGE, 1, 0, 3, 3, 6}, {PELMETSAVORY_RUN, 1, 0, 0, 9, 9}, {PELMETSAVORY_AVERAGE, 1, 3, 6, 0, 3},
+static const int64_t list[CALLS][6] = { /* numbers that a call does not read are 99 */
+    {PELMETSAVORY_RUN, 3, 1, 1, 1, 99}, {PELMETSAVORY_RUN, 3, 3, 0, 0, 99}, {PELMETSAVORY_AVERAGE, 1, 0, 3, 3, 6}, {PELMETSAVORY_RUN, 15, 1, 1, 1, 99},
+    {PELMETSAVORY_RUN, 9, 1, 1, 1, 99}, {PELMETSAVORY_RUN, 256, 1, 1, 1, 99}, {PELMETSAVORY_CARRY_ON, 9, 99, 99, 99, 99}, {PELMETSAVORY_CARRY_ON, -1, 99, 99, 99, 99},
+    {PELMETSAVORY_CARRY_ON, 0, 99, 99, 99, 99}, {PELMETSAVORY_AVERAGE, 1, 0, 3, 3, 6}, {PELMETSAVORY_RUN, INT64_MIN, 1, 0, 0, 99}, {PELMETSAVORY_AVERAGE, 1, 3, 6, 0, 3},
     {PELMETSAVORY_AVERAGE, 0, 0, 2, 3, 6}, {PELMETSAVORY_AVERAGE, 0, -1, 3, 3, 6}, {PELMETSAVORY_AVERAGE, 2, 0, 3, 4, 7}, {INT64_MIN, 2, 3, 6, 0, 3},
-    {PELMETSAVORY_CARRY_ON, 9, 9, 9, 9, 9}, {PELMETSAVORY_AVERAGE, INT64_MIN, 0, 3, 3, 6},
+    {PELMETSAVORY_CARRY_ON, 9, 99, 99, 99, 99}, {PELMETSAVORY_CARRY_ON, 16, 99, 99, 99, 99}, {PELMETSAVORY_AVERAGE, INT64_MIN, 0, 3, 3, 6}, {PELMETSAVORY_RUN, 7, 0, 2, 2, 99},
 };
-static const uint64_t statuses[CALLS] = {0, 14, 18, 0, 0, 0, 15, 15, 17, 17, 17, 0, 0, 14};
+static const uint64_t statuses[CALLS] = {0, 14, 18, 0, 20, 21, 20, 21, 0, 0, 15, 15, 17, 17, 17, 0, 0, 21, 14, 0};
 
 /* the ids from start to end; none where the list has no such part */
 static size_t part(int64_t start, int64_t end, const int64_t **from)
@@ -218,9 +230,9 @@ static size_t part(int64_t start, int64_t end, const int64_t **from)
 static uint64_t call(pelmetsavory_sheet *s, const int64_t *c)
 {
     const int64_t *a, *b;
-    const pelmetsavory_piece piece = {c[1], c[2], c[3]};
-    if (c[0] == PELMETSAVORY_RUN) return pelmetsavory_sheet_run_piece(&y, s, piece);
-    if (c[0] == PELMETSAVORY_CARRY_ON) return pelmetsavory_sheet_carry_on(&y, s);
+    const pelmetsavory_piece piece = {c[2], c[3], c[4]};
+    if (c[0] == PELMETSAVORY_RUN) return pelmetsavory_sheet_run_piece(&y, s, c[1], piece);
+    if (c[0] == PELMETSAVORY_CARRY_ON) return pelmetsavory_sheet_carry_on(&y, s, c[1]);
     size_t m = part(c[2], c[3], &a), n = part(c[4], c[5], &b);
     return pelmetsavory_sheet_average_triplet(&y, s, c[1], a, m, b, n);
 }
@@ -228,34 +240,111 @@ static uint64_t call(pelmetsavory_sheet *s, const int64_t *c)
 /* a list of calls in one call: in every bit what the same calls make one by one */
 static void lists(void)
 {
-    pelmetsavory_sheet s = new_sheet(&y, -7.25, 5, 40), t = new_sheet(&y, -7.25, 5, 40);
-    uint64_t answers[CALLS], tallies[CALLS], untouched[CALLS];
+    pelmetsavory_sheet s = new_sheet(&y, -7.25, 5, begun), t = new_sheet(&y, -7.25, 5, begun);
+    uint64_t answers[CALLS], tallies[CALLS][COUNTS], untouched[CALLS][COUNTS];
     memset(answers, 0x55, sizeof answers); memset(tallies, 0x55, sizeof tallies); memset(untouched, 0x55, sizeof untouched);
-#define PLAY(numbers, n, m) pelmetsavory_play(PELMETSAVORY_STUDY(&y), triplets, 9, PELMETSAVORY_SHEET(&s), *list, numbers, ids, 6, answers, n, tallies, m)
-    KEPT(12, &s, PLAY(CALLS * 6 - 1, CALLS, CALLS));
-    KEPT(12, &s, PLAY(CALLS * 6 - 6, CALLS, CALLS));
-    KEPT(12, &s, PLAY(CALLS * 6, CALLS - 1, CALLS - 1));
-    KEPT(12, &s, PLAY(CALLS * 6, CALLS, CALLS - 1));
+#define PLAY(numbers, n, m) pelmetsavory_play(PELMETSAVORY_STUDY(&y), triplets, 9, PELMETSAVORY_SHEET(&s), *list, numbers, ids, 6, answers, n, *tallies, m)
+    KEPT(12, &s, PLAY(CALLS * 6 - 1, CALLS, CALLS * 16));
+    KEPT(12, &s, PLAY(CALLS * 6 - 6, CALLS, CALLS * 16));
+    KEPT(12, &s, PLAY(CALLS * 6, CALLS - 1, CALLS * 16 - 16));
+    const size_t lengths[5] = {0, CALLS, CALLS * 16 - 16, CALLS * 16 - 1, CALLS * 15};
+    for (int k = 0; k < 5; k++) KEPT(12, &s, PLAY(CALLS * 6, CALLS, lengths[k]));
     s.marks[26] = 1;
-    KEPT(12, &s, PLAY(0, CALLS, CALLS));
+    KEPT(12, &s, PLAY(0, CALLS, CALLS * 16));
     KEPT(0, &s, pelmetsavory_sheet_play(&y, &s, 0, NULL, NULL, 0, NULL, NULL));
     s.marks[26] = 0;
     KEPT(0, &s, pelmetsavory_sheet_play(&y, &s, 0, NULL, NULL, 0, NULL, NULL)); /* no call: nothing is written */
     YES(!memcmp(answers, untouched, sizeof answers) && !memcmp(tallies, untouched, sizeof tallies));
     WANT(0, pelmetsavory_sheet_play(&y, &s, CALLS, list, ids, 6, answers, tallies));
-    for (int k = 0; k < CALLS; k++) { WANT(statuses[k], call(&t, list[k])); YES(answers[k] == statuses[k] && tallies[k] == t.tally); }
+    for (int k = 0; k < CALLS; k++) { WANT(statuses[k], call(&t, list[k])); YES(answers[k] == statuses[k] && !memcmp(tallies[k], t.tally, sizeof t.tally)); }
     unsigned char a[SHEET_BYTES], b[SHEET_BYTES];
     to_bytes(&s, a); to_bytes(&t, b);
-    YES(!memcmp(a, b, SHEET_BYTES) && s.tally == 68);
-    pelmetsavory_sheet cut = new_sheet(&y, -7.25, 5, 40);
-    uint64_t told[CALLS], counts[CALLS];
+    YES(!memcmp(a, b, SHEET_BYTES));
+    for (int k = 0; k < COUNTS; k++) YES(s.tally[k] == begun[k] + (k == 0 ? 26u : k == 3 || k == 7 || k == 15));
+    pelmetsavory_sheet cut = new_sheet(&y, -7.25, 5, begun);
+    uint64_t told[CALLS], counts[CALLS][COUNTS];
     WANT(0, pelmetsavory_sheet_play(&y, &cut, 5, list, ids, 6, told, counts));
     WANT(0, pelmetsavory_sheet_play(&y, &cut, CALLS - 5, list + 5, ids, 6, told + 5, counts + 5)); /* resumed where the cut left the sheet */
     to_bytes(&cut, b);
     YES(!memcmp(a, b, SHEET_BYTES) && !memcmp(told, answers, sizeof told) && !memcmp(counts, tallies, sizeof counts));
     free_sheet(&cut);
-    name("list"); wholes((const int64_t *)answers, CALLS); wholes((const int64_t *)tallies, CALLS); whole_sheet(&s); end();
+    name("list"); wholes((const int64_t *)answers, CALLS); wholes((const int64_t *)*tallies, CALLS * COUNTS); whole_sheet(&s); end();
+    s.marks[26] = 3; /* refused whole: every call by the same number, and after every one the counts of the beginning */
+    KEPT(0, &s, pelmetsavory_sheet_play(&y, &s, CALLS, list, ids, 6, answers, tallies));
+    for (int k = 0; k < CALLS; k++) YES(answers[k] == 13 && !memcmp(tallies[k], s.tally, sizeof s.tally));
     free_sheet(&s); free_sheet(&t);
+}
+
+/* a call that moves no count but that of its worker, to the one that is told */
+#define MOVES(worker, count, sheet, call) do { uint64_t c_[COUNTS]; memcpy(c_, (sheet)->tally, sizeof c_); WANT(0, call); c_[worker] = (count); \
+    YES(!memcmp(c_, (sheet)->tally, sizeof c_)); } while (0)
+
+/* a list of a run and a carry-on: their statuses are told, and they change nothing */
+static void listed_as(pelmetsavory_sheet *s, int64_t worker, uint64_t run, uint64_t carry)
+{
+    const int64_t two[2][6] = {{PELMETSAVORY_RUN, worker, 0, 1, 1, 99}, {PELMETSAVORY_CARRY_ON, worker, 99, 99, 99, 99}};
+    uint64_t answers[2], tallies[2][COUNTS];
+    KEPT(0, s, pelmetsavory_sheet_play(&y, s, 2, two, NULL, 0, answers, tallies));
+    YES(answers[0] == run && answers[1] == carry && !memcmp(tallies[0], s->tally, sizeof s->tally) && !memcmp(tallies[1], s->tally, sizeof s->tally));
+}
+
+/* sixteen counts: what is no worker is 21, whatever they are; 20 is asked of the worker's own alone, and the others stay */
+static void workers(void)
+{
+    const uint64_t top = INT64_MAX, full[3] = {top, top + 1, UINT64_MAX};
+    const pelmetsavory_piece piece = {0, 1, 1}, off = {0, 3, 0};
+    for (int f = 0; f < 4; f++) { /* all of them full, and as they begin */
+        pelmetsavory_sheet s = new_sheet(&y, -7.25, 5, begun);
+        uint64_t counts[COUNTS];
+        for (int k = 0; k < COUNTS && f < 3; k++) s.tally[k] = full[f];
+        memcpy(counts, s.tally, sizeof counts);
+        for (int k = 0; k < NONE; k++) {
+            KEPT(21, &s, pelmetsavory_sheet_run_piece(&y, &s, none[k], piece));
+            KEPT(21, &s, pelmetsavory_sheet_carry_on(&y, &s, none[k]));
+            KEPT(14, &s, pelmetsavory_sheet_run_piece(&y, &s, none[k], off));
+            listed_as(&s, none[k], 21, 21);
+            WANT(21, pelmetsavory_tally_add(counts, none[k], 0));
+            WANT(21, pelmetsavory_tally_add(counts, none[k], 1));
+            WANT(21, pelmetsavory_tally_add(counts, none[k], UINT64_MAX));
+        }
+        for (int k = 0; k < COUNTS && f < 3; k++) {
+            KEPT(20, &s, pelmetsavory_sheet_run_piece(&y, &s, k, piece));
+            KEPT(20, &s, pelmetsavory_sheet_carry_on(&y, &s, k));
+            listed_as(&s, k, 20, 20);
+            WANT(20, pelmetsavory_tally_add(counts, k, 1));
+            WANT(20, pelmetsavory_tally_add(counts, k, UINT64_MAX));
+            WANT(f ? 20 : 0, pelmetsavory_tally_add(counts, k, 0));
+        }
+        YES(!memcmp(counts, s.tally, sizeof counts));
+
+        /* nothing is open: both are still asked. An averaged triplet is 15 before either, and averaging asks neither */
+        memset(s.marks, 1, PIECES);
+        for (int k = 0; k < NONE; k++) KEPT(21, &s, pelmetsavory_sheet_carry_on(&y, &s, none[k]));
+        for (int k = 0; k < COUNTS; k++) KEPT(f == 1 || f == 2 ? 20 : 0, &s, pelmetsavory_sheet_carry_on(&y, &s, k));
+        WANT(0, pelmetsavory_sheet_average_triplet(&y, &s, 0, ids1, 3, ids2, 3));
+        YES(!memcmp(counts, s.tally, sizeof counts));
+        for (int k = 0; k < NONE; k++) KEPT(15, &s, pelmetsavory_sheet_run_piece(&y, &s, none[k], piece));
+        KEPT(15, &s, pelmetsavory_sheet_run_piece(&y, &s, 9, piece));
+        free_sheet(&s);
+    }
+    for (int w = 0; w < COUNTS; w++) { /* the others are full: they refuse nobody, and the sum is far beyond 2^63 */
+        pelmetsavory_sheet s = new_sheet(&y, -7.25, 5, NULL);
+        const int64_t two[2][6] = {{PELMETSAVORY_RUN, w, 2, 0, 1, 99}, {PELMETSAVORY_CARRY_ON, w, 99, 99, 99, 99}};
+        uint64_t answers[2], tallies[2][COUNTS];
+        for (int k = 0; k < COUNTS; k++) s.tally[k] = full[(w + k) % 3];
+        s.tally[w] = top - 27; KEPT(0, &s, pelmetsavory_tally_add(s.tally, w, 0));
+        MOVES(w, top - 26, &s, pelmetsavory_sheet_run_piece(&y, &s, w, piece));
+        s.tally[w] = top - 25; KEPT(20, &s, pelmetsavory_sheet_carry_on(&y, &s, w)); s.tally[w] = top - 26; /* 26 are open */
+        MOVES(w, top, &s, pelmetsavory_sheet_carry_on(&y, &s, w));
+        KEPT(0, &s, pelmetsavory_sheet_carry_on(&y, &s, w));
+        KEPT(20, &s, pelmetsavory_sheet_run_piece(&y, &s, w, piece));
+        s.tally[w] = 7; memset(s.marks, 0, PIECES);
+        MOVES(w, 34, &s, pelmetsavory_sheet_play(&y, &s, 2, two, NULL, 0, answers, tallies));
+        YES(!answers[0] && !answers[1] && tallies[0][w] == 8 && tallies[1][w] == 34 && tallies[0][(w + 1) % 16] == s.tally[(w + 1) % 16]);
+        s.tally[w] = top - 1;
+        MOVES(w, top, &s, pelmetsavory_tally_add(s.tally, w, 1));
+        free_sheet(&s);
+    }
 }
 
 /* the answer to a text: the stored listing of the stored study; what lies behind it in the buffer stays */
@@ -290,7 +379,7 @@ static void texts(void)
     text[5] = '7'; answered(text, n, "refused\t3\n", 10); text[5] = '2';
     text[n - 4] = '2'; answered(text, n, "refused\t10\n", 11); text[n - 4] = '1';
     end();
-    YES(pelmetsavory_question(1) && !pelmetsavory_question(21));
+    YES(pelmetsavory_question(1) && pelmetsavory_question(21) && !pelmetsavory_question(22));
 }
 
 /* test frequencies from a start: one chain over three buffers, each filled to its own length and no further; one of no length has no pointer */
@@ -334,8 +423,8 @@ static void *deep(void *sheet)
     static const int64_t three[3] = {0, 7, 11}, irreducible[12];
     static const pelmetsavory_grid grid = {2, {2, 2, 2}};
     static const pelmetsavory_triple second = {{3, 5, 6}};
-    WANT(0, pelmetsavory_sheet_run_piece(&y, sheet, piece_at(0)));
-    WANT(0, pelmetsavory_sheet_carry_on(&y, sheet));
+    WANT(0, pelmetsavory_sheet_run_piece(&y, sheet, 0, piece_at(0)));
+    WANT(0, pelmetsavory_sheet_carry_on(&y, sheet, 0));
     WANT(0, pelmetsavory_sheet_average_triplet(&y, sheet, 0, ids1, 3, ids2, 3));
     WANT(0, pelmetsavory_integration_weight(PELMETSAVORY_STUDY(&y), triplets, 9, weights, ENTRIES, flags, CELLS));
     WANT(0, pelmetsavory_integration_weight_per_triplet(PELMETSAVORY_STUDY(&y), second, w1, 135, f1, 45));
@@ -348,7 +437,7 @@ static void *deep(void *sheet)
 
 static void *deep_list(void *sheet)
 {
-    static uint64_t answers[CALLS], tallies[CALLS];
+    static uint64_t answers[CALLS], tallies[CALLS][COUNTS];
     WANT(0, pelmetsavory_sheet_play(&y, sheet, CALLS, list, ids, 6, answers, tallies));
     return NULL;
 }
@@ -377,7 +466,7 @@ static size_t stack_used(void *(*calls)(void *), void *given)
 
 static void stack_need(void)
 {
-    pelmetsavory_sheet s = new_sheet(&y, 0, 0, 0), t = new_sheet(&y, 0, 0, 0);
+    pelmetsavory_sheet s = new_sheet(&y, 0, 0, NULL), t = new_sheet(&y, 0, 0, NULL);
     size_t length = stored("study.txt", text, sizeof text);
     size_t plain = stack_used(deep, &s), played = stack_used(deep_list, &t), whole = stack_used(deep_answer, &length);
     printf("c: threads used %zu bytes of stack, %zu for a list, %zu for an answer to a text\n", plain, played, whole);
@@ -397,6 +486,7 @@ int main(int argc, char **argv)
     if (getenv("PELMETSAVORY_OUT")) out = fopen(getenv("PELMETSAVORY_OUT"), "w");
     calls();
     lists();
+    workers();
     texts();
     loads();
     if (out) YES(!fclose(out));

@@ -5,7 +5,7 @@
 #include <unistd.h>
 #include "want.h"
 
-enum { FILE_BYTES = 136 + ENTRIES * 8 + CELLS + PIECES, MARKS_AT = 104 + ENTRIES * 8 + CELLS, INPUTS = 15 };
+enum { FILE_BYTES = 376 + CONTENT_BYTES, BEGAN_AT = 88, TALLY_AT = 216, HEAD = 344, MARKS_AT = HEAD + ENTRIES * 8 + CELLS, INPUTS = 15 };
 
 static pelmetsavory_study y;
 static const char *path;
@@ -54,7 +54,8 @@ static pelmetsavory_study changed(int input)
     return b;
 }
 
-static void seal(uint8_t *bytes) { pelmetsavory_sha256(bytes, FILE_BYTES - 32, bytes + FILE_BYTES - 32); }
+static void seal_at(uint8_t *bytes, size_t n) { pelmetsavory_sha256(bytes, n - 32, bytes + n - 32); }
+static void seal(uint8_t *bytes) { seal_at(bytes, FILE_BYTES); }
 
 static void put(const uint8_t *bytes, size_t n)
 {
@@ -67,11 +68,11 @@ static void put(const uint8_t *bytes, size_t n)
 
 static void stored(void)
 {
-    pelmetsavory_sheet s = new_sheet(&y, -7.25, 5, 40), t = new_sheet(&y, 1.5, 1, 3);
+    pelmetsavory_sheet s = new_sheet(&y, -7.25, 5, begun), t = new_sheet(&y, 1.5, 1, NULL);
     uint8_t good[FILE_BYTES], bytes[FILE_BYTES + 1] = {0}, a[SHEET_BYTES], b[SHEET_BYTES];
     char draft[4200];
     YES(pelmetsavory_store_size(&y) == FILE_BYTES);
-    for (int k = 0; k < 12; k++) WANT(0, pelmetsavory_sheet_run_piece(&y, &s, piece_at(k)));
+    for (int k = 0; k < 12; k++) WANT(0, pelmetsavory_sheet_run_piece(&y, &s, k < 8 ? k : 15, piece_at(k)));
     WANT(0, pelmetsavory_sheet_average_triplet(&y, &s, 0, ids1, 3, ids2, 3));
 
     /* what is stored comes back, and no other file stays */
@@ -81,9 +82,10 @@ static void stored(void)
     memset(t.study, 0, sizeof t.study);
     WANT(0, pelmetsavory_store_load(&y, &t, path));
     to_bytes(&s, a); to_bytes(&t, b);
-    YES(!memcmp(a, b, SHEET_BYTES) && t.tally == 52 && t.began == 40);
+    YES(!memcmp(a, b, SHEET_BYTES) && !memcmp(t.began, begun, sizeof begun));
+    for (int k = 0; k < COUNTS; k++) YES(t.tally[k] == begun[k] + (k < 8 ? 1u : k == 15 ? 4u : 0u));
     free_sheet(&t);
-    t = new_sheet(&y, 1.5, 1, 3);
+    t = new_sheet(&y, 1.5, 1, begun);
     WANT(0, pelmetsavory_store_write(&y, &s, good));
     put(good, FILE_BYTES);
     FILE *f = fopen(path, "rb");
@@ -92,10 +94,16 @@ static void stored(void)
     /* no stored sheet, another version, cut, longer, damaged at any byte */
     KEPT(PELMETSAVORY_STORE_FILE, &t, pelmetsavory_store_load(&y, &t, draft));
     REFUSED(PELMETSAVORY_STORE_MAGIC, bytes, 0);
-    REFUSED(PELMETSAVORY_STORE_MAGIC, bytes, 135);
+    REFUSED(PELMETSAVORY_STORE_MAGIC, bytes, 15);
     bytes[7] ^= 1; seal(bytes); REFUSED(PELMETSAVORY_STORE_MAGIC, bytes, FILE_BYTES); memcpy(bytes, good, FILE_BYTES);
-    bytes[8] = 2; seal(bytes); REFUSED(PELMETSAVORY_STORE_VERSION, bytes, FILE_BYTES); memcpy(bytes, good, FILE_BYTES);
-    REFUSED(PELMETSAVORY_STORE_LENGTH, bytes, 136);
+    bytes[8] = 1; seal(bytes); REFUSED(PELMETSAVORY_STORE_VERSION, bytes, FILE_BYTES); memcpy(bytes, good, FILE_BYTES);
+    bytes[8] = 3; seal(bytes); REFUSED(PELMETSAVORY_STORE_VERSION, bytes, FILE_BYTES); memcpy(bytes, good, FILE_BYTES);
+    bytes[8] = 1; memcpy(bytes + 96, good + TALLY_AT, 8); memcpy(bytes + 104, good + HEAD, CONTENT_BYTES); /* format 1: one count, of 8 bytes */
+    seal_at(bytes, 136 + CONTENT_BYTES); REFUSED(PELMETSAVORY_STORE_VERSION, bytes, 136 + CONTENT_BYTES);
+    memset(bytes + 56, 0, 8); seal_at(bytes, 136); REFUSED(PELMETSAVORY_STORE_VERSION, bytes, 136); memcpy(bytes, good, FILE_BYTES);
+    REFUSED(PELMETSAVORY_STORE_LENGTH, bytes, 16);
+    REFUSED(PELMETSAVORY_STORE_LENGTH, bytes, 375);
+    REFUSED(PELMETSAVORY_STORE_LENGTH, bytes, 376);
     REFUSED(PELMETSAVORY_STORE_LENGTH, bytes, FILE_BYTES - 1);
     REFUSED(PELMETSAVORY_STORE_LENGTH, bytes, FILE_BYTES + 1);
     memset(bytes + 48, 0xff, 40); seal(bytes); REFUSED(PELMETSAVORY_STORE_LENGTH, bytes, FILE_BYTES); memcpy(bytes, good, FILE_BYTES);
@@ -104,6 +112,17 @@ static void stored(void)
         bytes[k] ^= 0x10;
         KEPT(want, &t, pelmetsavory_store_read(&y, &t, bytes, FILE_BYTES));
         bytes[k] ^= 0x10;
+    }
+
+    /* each count in its own place, any number */
+    for (int k = 0; k < 2 * COUNTS; k++) {
+        memset(bytes + BEGAN_AT + 8 * k, 0xff, 8); seal(bytes);
+        pelmetsavory_sheet v = new_sheet(&y, 1.5, 1, NULL);
+        WANT(0, pelmetsavory_store_read(&y, &v, bytes, FILE_BYTES));
+        memcpy(a, s.began, sizeof s.began); memcpy(a + sizeof s.began, s.tally, sizeof s.tally); memset(a + 8 * k, 0xff, 8);
+        YES(!memcmp(a, v.began, sizeof v.began) && !memcmp(a + sizeof v.began, v.tally, sizeof v.tally));
+        free_sheet(&v);
+        memcpy(bytes, good, FILE_BYTES);
     }
 
     /* another study, by each of its numbers and arrays; another shape; marks that are not sound */
@@ -141,13 +160,17 @@ static void stored(void)
     /* no triplets is a sheet too */
     pelmetsavory_study none = y;
     none.triplets = NULL; none.triplets_len = 0;
-    pelmetsavory_sheet empty = {NULL, 0, NULL, 0, NULL, 0, 0, 0, {0}};
-    pelmetsavory_sheet_begin(&none, &empty, 9);
-    YES(pelmetsavory_store_size(&none) == 136);
+    pelmetsavory_sheet empty = {NULL, 0, NULL, 0, NULL, 0, {0}, {0}, {0}};
+    pelmetsavory_sheet_begin(&none, &empty, begun);
+    empty.tally[4] = 5;
+    YES(pelmetsavory_store_size(&none) == 376);
     WANT(0, pelmetsavory_store_save(&none, &empty, path));
-    empty.tally = empty.began = 0;
+    pelmetsavory_sheet_begin(&none, &empty, NULL);
+    for (int k = 0; k < COUNTS; k++) YES(empty.tally[k] == 0 && empty.began[k] == 0);
     WANT(0, pelmetsavory_store_load(&none, &empty, path));
-    YES(empty.tally == 9 && empty.began == 9);
+    for (int k = 0; k < COUNTS; k++) YES(empty.tally[k] == (k == 4 ? 5 : begun[k]) && empty.began[k] == begun[k]);
+    pelmetsavory_sheet_begin(&none, &empty, empty.tally); /* it goes on from its own counts */
+    YES(empty.tally[4] == 5 && !memcmp(empty.began, empty.tally, sizeof empty.began));
     unlink(path);
     free_sheet(&s); free_sheet(&t);
 }
@@ -158,13 +181,16 @@ static void stored(void)
 
 static void taken(void)
 {
-    pelmetsavory_sheet s = new_sheet(&y, -7.25, 5, 40), w = new_sheet(&y, 0.5, 3, 7), one = new_sheet(&y, -7.25, 5, 40);
+    uint64_t counts[COUNTS], before[COUNTS];
+    for (uint64_t k = 0; k < COUNTS; k++) counts[k] = 7 + k;
+    counts[14] = UINT64_MAX; /* full, and idle */
+    pelmetsavory_sheet s = new_sheet(&y, -7.25, 5, begun), w = new_sheet(&y, 0.5, 3, counts), one = new_sheet(&y, -7.25, 5, begun);
     unsigned char a[SHEET_BYTES], b[SHEET_BYTES];
-    WANT(0, pelmetsavory_sheet_run_piece(&y, &s, piece_at(0)));
-    for (int k = 0; k < 3; k++) WANT(0, pelmetsavory_sheet_run_piece(&y, &w, piece_at(k)));
-    WANT(0, pelmetsavory_sheet_run_piece(&y, &w, piece_at(2)));
+    WANT(0, pelmetsavory_sheet_run_piece(&y, &s, 0, piece_at(0)));
+    for (int k = 0; k < 3; k++) WANT(0, pelmetsavory_sheet_run_piece(&y, &w, 3, piece_at(k)));
+    WANT(0, pelmetsavory_sheet_run_piece(&y, &w, 15, piece_at(2)));
 
-    /* another study, another shape, unsound marks, an average of the worker, a tally that went back, one at the top, the sheet itself */
+    /* another study, another shape, unsound marks, an average of the worker, a count that went back, one at the top, the sheet itself */
     for (int k = 0; k < INPUTS; k++) {
         pelmetsavory_study other = changed(k);
         NOT_TAKEN(PELMETSAVORY_STORE_STUDY, &other, &s, &w);
@@ -181,30 +207,46 @@ static void taken(void)
     s.marks[20] = 3; NOT_TAKEN(13, &y, &s, &w); s.marks[20] = 2; NOT_TAKEN(13, &y, &s, &w); s.marks[20] = 0;
     w.marks[20] = 3; NOT_TAKEN(13, &y, &s, &w); w.marks[20] = 2; NOT_TAKEN(13, &y, &s, &w); w.marks[20] = 0;
     memset(w.marks + 18, 2, 9); NOT_TAKEN(PELMETSAVORY_STORE_AVERAGED, &y, &s, &w); memset(w.marks + 18, 0, 9);
-    w.tally = 6; NOT_TAKEN(PELMETSAVORY_STORE_TALLY, &y, &s, &w); w.tally = 11;
-    s.tally = INT64_MAX - 3; NOT_TAKEN(20, &y, &s, &w); s.tally = UINT64_MAX; NOT_TAKEN(20, &y, &s, &w); s.tally = 41;
+    memcpy(before, s.tally, sizeof before);
+    memcpy(counts, w.tally, sizeof counts);
+    for (int k = 0; k < COUNTS; k++) {
+        w.tally[k] = w.began[k] - 1; NOT_TAKEN(PELMETSAVORY_STORE_TALLY, &y, &s, &w);
+        s.tally[3] = INT64_MAX; NOT_TAKEN(PELMETSAVORY_STORE_TALLY, &y, &s, &w);
+        memcpy(w.tally, counts, sizeof counts); memcpy(s.tally, before, sizeof before);
+    }
+    const uint64_t top = INT64_MAX, full[4] = {top - 2, top, top + 1, UINT64_MAX};
+    for (int k = 0; k < 4; k++) {
+        s.tally[3] = full[k]; NOT_TAKEN(20, &y, &s, &w); s.tally[3] = before[3]; /* it grows by 3 */
+        s.tally[15] = k ? full[k] : top; NOT_TAKEN(20, &y, &s, &w); s.tally[15] = before[15]; /* the last one: the others are not changed before */
+    }
+    w.tally[6] = UINT64_MAX; NOT_TAKEN(20, &y, &s, &w); w.tally[6] = counts[6];
     NOT_TAKEN(PELMETSAVORY_STORE_ITSELF, &y, &s, &s);
 
     /* what is open here is taken over, what is not stays; repeats are counted; taking it again adds nothing */
     w.weights[0] = 99; w.flags[0] = 99; /* of piece 0, which this sheet has */
     WANT(0, pelmetsavory_sheet_take(&y, &s, &w));
-    for (int k = 0; k < 3; k++) WANT(0, pelmetsavory_sheet_run_piece(&y, &one, piece_at(k)));
-    one.tally = 45;
+    for (int k = 0; k < 3; k++) WANT(0, pelmetsavory_sheet_run_piece(&y, &one, k ? 3 : 0, piece_at(k)));
+    one.tally[3] = before[3] + 3; one.tally[15] = before[15] + 1;
     to_bytes(&s, a); to_bytes(&one, b);
-    YES(!memcmp(a, b, SHEET_BYTES) && w.began == 11);
+    YES(!memcmp(a, b, SHEET_BYTES) && !memcmp(w.began, w.tally, sizeof w.began) && !memcmp(w.tally, counts, sizeof counts));
     KEPT(0, &s, pelmetsavory_sheet_take(&y, &s, &w));
 
-    /* a triplet that is averaged here takes nothing over, and the worker's runs count */
-    for (int k = 3; k < 9; k++) WANT(0, pelmetsavory_sheet_run_piece(&y, &s, piece_at(k)));
+    /* a triplet that is averaged here takes nothing over, and the worker's runs count; the counts that do not grow are full, and are not asked */
+    for (int k = 3; k < 9; k++) WANT(0, pelmetsavory_sheet_run_piece(&y, &s, 1, piece_at(k)));
     WANT(0, pelmetsavory_sheet_average_triplet(&y, &s, 0, ids1, 3, ids2, 3));
-    WANT(0, pelmetsavory_sheet_run_piece(&y, &w, piece_at(1)));
-    to_bytes(&s, a);
-    s.tally = INT64_MAX - 1;
-    WANT(0, pelmetsavory_sheet_take(&y, &s, &w));
-    YES(s.tally == INT64_MAX);
-    s.tally = 51;
-    to_bytes(&s, b);
-    YES(!memcmp(a, b, SHEET_BYTES));
+    for (int f = 1; f < 4; f++) {
+        WANT(0, pelmetsavory_sheet_run_piece(&y, &w, 5, piece_at(1)));
+        to_bytes(&s, a);
+        memcpy(before, s.tally, sizeof before);
+        for (int k = 0; k < COUNTS; k++) s.tally[k] = full[f];
+        s.tally[5] = top - 1;
+        WANT(0, pelmetsavory_sheet_take(&y, &s, &w));
+        for (int k = 0; k < COUNTS; k++) YES(s.tally[k] == (k == 5 ? top : full[f]));
+        KEPT(0, &s, pelmetsavory_sheet_take(&y, &s, &w)); /* nothing grows: nothing is asked */
+        memcpy(s.tally, before, sizeof before);
+        to_bytes(&s, b);
+        YES(!memcmp(a, b, SHEET_BYTES));
+    }
 
     /* and an average of both is no hindrance */
     memset(w.marks, 2, 9);

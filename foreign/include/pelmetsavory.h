@@ -5,9 +5,11 @@
  * What is written (buffers, tally) must not overlap anything else that the call is given; inputs may overlap one another.
  * Nothing else may write these arrays while a call runs.
  * Any values in arrays and structs are taken: what is wrong is told by the status, 0 or the number of the first question that is
- * answered no (pelmetsavory_question gives its words). After a refusal every buffer and the tally are as they were. pelmetsavory_answer
- * has no status but the length of its answer, and writes a refusal as a line of text; pelmetsavory_all_relative_grid_address and
- * pelmetsavory_fill_frequencies refuse nothing, and have no status.
+ * answered no (pelmetsavory_question gives its words). After a refusal every buffer and all counts of the tally are as they were.
+ * pelmetsavory_answer has no status but the length of its answer, and writes a refusal as a line of text;
+ * pelmetsavory_all_relative_grid_address and pelmetsavory_fill_frequencies refuse nothing, and have no status.
+ * A tally has sixteen counts, one for each worker. A run and a carry-on name their worker, 0 to 15, and move that count alone; any other
+ * number is refused by question 21, and a worker's count that would reach 2^63 by question 20. Averaging names no worker.
  * A function letter 'I' names the weight of the density; any other byte names J, that of the number of states.
  * Call pelmetsavory_ready before anything else, in each thread. Floats: the thread must round to nearest, without flush-to-zero (FTZ) and
  * denormals-are-zero (DAZ). The library must be of the header's interface version.
@@ -62,8 +64,8 @@ typedef struct {
     double *weights; size_t weights_len;  /* by channel, triplet, point, b1, b2 */
     int8_t *flags; size_t flags_len;      /* by triplet, point, b1, b2 */
     uint8_t *marks; size_t marks_len;     /* by triplet, b1, b2: 0 open, 1 computed, 2 averaged */
-    uint64_t tally;
-    uint64_t began;                       /* the tally that the sheet began with, and the fingerprint of its study: for storing and taking */
+    uint64_t tally[16];                   /* by worker: how many of its runs were accepted, repeats included */
+    uint64_t began[16];                   /* the tally that the sheet began with, and the fingerprint of its study: for storing and taking */
     uint8_t study[32];                    /* over (pelmetsavory_store.h); the calls below do not compare: give every one the same study */
 } pelmetsavory_sheet;
 
@@ -72,16 +74,17 @@ typedef struct {
     (y)->relative_grid_address_len, (y)->frequencies1, (y)->frequencies1_len, (y)->frequencies2, (y)->frequencies2_len, \
     (y)->frequency_points, (y)->frequency_points_len
 #define PELMETSAVORY_SHEET(s) \
-    (s)->weights, (s)->weights_len, (s)->flags, (s)->flags_len, (s)->marks, (s)->marks_len, &(s)->tally
+    (s)->weights, (s)->weights_len, (s)->flags, (s)->flags_len, (s)->marks, (s)->marks_len, (s)->tally
 
-static inline uint64_t pelmetsavory_sheet_run_piece(const pelmetsavory_study *y, pelmetsavory_sheet *s, pelmetsavory_piece piece)
+static inline uint64_t pelmetsavory_sheet_run_piece(const pelmetsavory_study *y, pelmetsavory_sheet *s, int64_t worker,
+    pelmetsavory_piece piece)
 {
-    return pelmetsavory_run_piece(PELMETSAVORY_STUDY(y), y->triplets, y->triplets_len, PELMETSAVORY_SHEET(s), piece);
+    return pelmetsavory_run_piece(PELMETSAVORY_STUDY(y), y->triplets, y->triplets_len, PELMETSAVORY_SHEET(s), worker, piece);
 }
 
-static inline uint64_t pelmetsavory_sheet_carry_on(const pelmetsavory_study *y, pelmetsavory_sheet *s)
+static inline uint64_t pelmetsavory_sheet_carry_on(const pelmetsavory_study *y, pelmetsavory_sheet *s, int64_t worker)
 {
-    return pelmetsavory_carry_on(PELMETSAVORY_STUDY(y), y->triplets, y->triplets_len, PELMETSAVORY_SHEET(s));
+    return pelmetsavory_carry_on(PELMETSAVORY_STUDY(y), y->triplets, y->triplets_len, PELMETSAVORY_SHEET(s), worker);
 }
 
 static inline uint64_t pelmetsavory_sheet_average_triplet(const pelmetsavory_study *y, pelmetsavory_sheet *s, int64_t triplet,
@@ -91,17 +94,18 @@ static inline uint64_t pelmetsavory_sheet_average_triplet(const pelmetsavory_stu
         ids1, ids1_len, ids2, ids2_len);
 }
 
-/* The kinds of a call in a list, the first of its six numbers. Behind it stand triplet, b1, b2 (run), nothing (carry on), or the triplet and
- * the start and end in `ids` of the first id list and of the second (average, and any other kind). What is left of the six is not read. */
+/* The kinds of a call in a list, the first of its six numbers. Behind it stand worker, triplet, b1, b2 (run), the worker (carry on), or the
+ * triplet and the start and end in `ids` of the first id list and of the second (average, and any other kind). What is left of the six is
+ * not read. */
 enum { PELMETSAVORY_RUN = 0, PELMETSAVORY_CARRY_ON = 1, PELMETSAVORY_AVERAGE = 2 };
 
-/* Plays `calls` calls on a sheet with any marks: the status of each, and the tally after it. The status of the list is 0 (12, which is its
- * own, asks for the lengths that this call gives); what a call asks goes to its place alone. What all of them ask is asked once. */
+/* Plays `calls` calls on a sheet with any marks: the status of each, and the sixteen counts after it. The status of the list is 0 (12, which
+ * is its own, asks for the lengths that this call gives); what a call asks goes to its place alone. What all of them ask is asked once. */
 static inline uint64_t pelmetsavory_sheet_play(const pelmetsavory_study *y, pelmetsavory_sheet *s, size_t calls, const int64_t (*list)[6],
-    const int64_t *ids, size_t ids_len, uint64_t *answers, uint64_t *tallies)
+    const int64_t *ids, size_t ids_len, uint64_t *answers, uint64_t (*tallies)[16])
 {
     return pelmetsavory_play(PELMETSAVORY_STUDY(y), y->triplets, y->triplets_len, PELMETSAVORY_SHEET(s), calls ? *list : NULL, calls * 6,
-        ids, ids_len, answers, calls, tallies, calls);
+        ids, ids_len, answers, calls, calls ? *tallies : NULL, calls * 16);
 }
 
 /* The greatest answer to a text, in bytes: the length of `out` of pelmetsavory_answer. */

@@ -5,7 +5,7 @@
 #include <stdint.h>
 
 /* The interface version that this header was made for: that of the library must be the same (pelmetsavory_ready). */
-#define PELMETSAVORY_INTERFACE_VERSION 3
+#define PELMETSAVORY_INTERFACE_VERSION 4
 
 /* A piece as a caller names it: any numbers. */
 typedef struct {
@@ -97,7 +97,7 @@ void pelmetsavory_fill_frequencies(
     double *frequency_points,
     size_t frequency_points_len);
 
-/* Plays a list of calls, six numbers a call, on a sheet with any marks, and counts the runs behind `tally`. Each call's status goes to its place in `answers`, the tally after it to its place in `tallies`. The status is 0, or 12: has the list six numbers for each of `answers` and of `tallies`? What a call asks is told in its place alone. */
+/* Plays a list of calls, six numbers a call, on a sheet with any marks, and counts the runs behind `tally`. Each call's status goes to its place in `answers`, the sixteen counts after it to their places in `tallies`. The status is 0, or 12: has the list six numbers, and `tallies` sixteen, for each of `answers`? What a call asks is told in its place alone. */
 uint64_t pelmetsavory_play(
     pelmetsavory_shape shape,
     const int64_t *addresses,
@@ -120,7 +120,7 @@ uint64_t pelmetsavory_play(
     size_t flags_len,
     uint8_t *marks,
     size_t marks_len,
-    uint64_t *tally,
+    uint64_t tally[16],
     const int64_t *list,
     size_t list_len,
     const int64_t *ids,
@@ -130,7 +130,7 @@ uint64_t pelmetsavory_play(
     uint64_t *tallies,
     size_t tallies_len);
 
-/* Runs one piece, and counts it behind `tally`. Questions 3 to 15, 20. */
+/* Runs one piece, and counts it behind `tally` for its worker, 0 to 15. Questions 3 to 15, 21, 20. */
 uint64_t pelmetsavory_run_piece(
     pelmetsavory_shape shape,
     const int64_t *addresses,
@@ -153,10 +153,11 @@ uint64_t pelmetsavory_run_piece(
     size_t flags_len,
     uint8_t *marks,
     size_t marks_len,
-    uint64_t *tally,
+    uint64_t tally[16],
+    int64_t worker,
     pelmetsavory_piece piece);
 
-/* Runs all pieces marked 0, in ascending order, and counts them behind `tally`. Questions 3 to 13, 20. */
+/* Runs all pieces marked 0, in ascending order, and counts them behind `tally` for their worker, 0 to 15. Questions 3 to 13, 21, 20. */
 uint64_t pelmetsavory_carry_on(
     pelmetsavory_shape shape,
     const int64_t *addresses,
@@ -179,9 +180,10 @@ uint64_t pelmetsavory_carry_on(
     size_t flags_len,
     uint8_t *marks,
     size_t marks_len,
-    uint64_t *tally);
+    uint64_t tally[16],
+    int64_t worker);
 
-/* Averages a triplet over the degenerate sets of two id lists; the tally stays. Questions 3 to 19. */
+/* Averages a triplet over the degenerate sets of two id lists; all counts stay, and it names no worker. Questions 3 to 19. */
 uint64_t pelmetsavory_average_triplet(
     pelmetsavory_shape shape,
     const int64_t *addresses,
@@ -204,7 +206,7 @@ uint64_t pelmetsavory_average_triplet(
     size_t flags_len,
     uint8_t *marks,
     size_t marks_len,
-    uint64_t *tally,
+    uint64_t tally[16],
     int64_t triplet,
     const int64_t *degenerate_ids1,
     size_t degenerate_ids1_len,
@@ -219,9 +221,10 @@ uint64_t pelmetsavory_open_count(
     int64_t triplet,
     uint64_t *count);
 
-/* Adds runs behind `tally`. Question 20. */
+/* Adds a worker's runs behind `tally`. Questions 21, 20. */
 uint64_t pelmetsavory_tally_add(
-    uint64_t *tally,
+    uint64_t tally[16],
+    int64_t worker,
     uint64_t runs);
 
 /* The weights of each band at each frequency point, for each grid point; `letter` 'I' (73) asks for the density's weight, any other byte for that of the number of states, J. Questions 3 to 7, 9 to 12. */
@@ -369,7 +372,8 @@ static inline const char *pelmetsavory_question(uint64_t status)
     case 17: return "Have both id lists that length, each id its own place or the id before it?";
     case 18: return "Are all the triplet's marks 1?";
     case 19: return "Are its weights finite, magnitude at most 2^60, none a negative zero?";
-    case 20: return "Does the tally stay below 2^63 after all runs of this call?";
+    case 20: return "Does the worker's count stay below 2^63 after all runs of this call?";
+    case 21: return "Is the worker 0 to 15?";
     default: return NULL;
     }
 }

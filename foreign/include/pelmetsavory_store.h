@@ -3,8 +3,8 @@
  * The file's format is in foreign/README.md; C, Rust and Python write the same bytes. Nothing here prints or ends the program. A status is
  * 0, the number of a question (13, 20), or one of those below; pelmetsavory_store_words gives its words. What is wrong is found before
  * anything is written: after a status that is not 0 both sheets are as they were.
- * A sheet knows its study by a fingerprint, of every number and array of it, and the tally that it began with: pelmetsavory_sheet_begin
- * notes both, and every call below is given the study and compares. */
+ * A sheet knows its study by a fingerprint, of every number and array of it, and the tally that it began with, a count for each worker:
+ * pelmetsavory_sheet_begin notes both, and every call below is given the study and compares. */
 #ifndef PELMETSAVORY_STORE_H
 #define PELMETSAVORY_STORE_H
 #include "pelmetsavory.h"
@@ -22,7 +22,7 @@ enum {
     PELMETSAVORY_STORE_CHECKSUM,   /* damaged */
     PELMETSAVORY_STORE_STUDY,      /* of another study */
     PELMETSAVORY_STORE_SHAPE,      /* not of the study's size */
-    PELMETSAVORY_STORE_TALLY,      /* a tally below the one that the sheet began with */
+    PELMETSAVORY_STORE_TALLY,      /* a count below the one that the sheet began with */
     PELMETSAVORY_STORE_AVERAGED,   /* a triplet that only the worker has averaged */
     PELMETSAVORY_STORE_ITSELF      /* a sheet was to take over itself */
 };
@@ -40,8 +40,9 @@ void pelmetsavory_study_fingerprint(const pelmetsavory_study *y, uint8_t fingerp
  * sheet are as long as its products: weights all five, flags all but the channels, marks triplets, b1, b2. */
 void pelmetsavory_sheet_shape(const pelmetsavory_study *y, uint64_t shape[5]);
 
-/* Notes the study and the tally that a sheet begins with. The arrays are the caller's, and stay as they are. */
-void pelmetsavory_sheet_begin(const pelmetsavory_study *y, pelmetsavory_sheet *s, uint64_t tally);
+/* Notes the study and the sixteen counts that a sheet begins with: zeros where `tally` is NULL; it may be the sheet's own. The arrays are the
+ * caller's, and stay as they are. */
+void pelmetsavory_sheet_begin(const pelmetsavory_study *y, pelmetsavory_sheet *s, const uint64_t *tally);
 
 /* How many bytes a stored sheet of the study has. */
 size_t pelmetsavory_store_size(const pelmetsavory_study *y);
@@ -55,9 +56,10 @@ uint64_t pelmetsavory_store_read(const pelmetsavory_study *y, pelmetsavory_sheet
 uint64_t pelmetsavory_store_save(const pelmetsavory_study *y, const pelmetsavory_sheet *s, const char *path);
 uint64_t pelmetsavory_store_load(const pelmetsavory_study *y, pelmetsavory_sheet *s, const char *path);
 
-/* Takes over the pieces that a worker's sheet of the same study has computed and this one has open: their weights, flags and marks. The
- * tally grows by the runs that the worker has counted since its sheet began, repeats included. The worker's sheet then counts as taken: it
- * begins with its tally, and taking it again adds nothing. */
+/* Takes over the pieces that a worker's sheet of the same study has computed and this one has open: their weights, flags and marks. Each of
+ * the sixteen counts grows by what that count has grown in the worker's sheet since it began, repeats included. Question 20 is asked of the
+ * counts that grow alone: one that is full and idle, in either sheet, keeps nobody from taking over. The worker's sheet then counts as taken:
+ * it begins with its tally, and taking it again adds nothing. */
 uint64_t pelmetsavory_sheet_take(const pelmetsavory_study *y, pelmetsavory_sheet *s, pelmetsavory_sheet *worker);
 
 #ifdef __cplusplus

@@ -2,15 +2,24 @@
 import pelmetsavory as pm
 from queue_example import addresses, grid, n, study, table
 
+BEGUN = [40, 43, 46, 49, 52, 55, 58, 61, 64, 2**63 - 1, 70, 73, 76, 79, 82, 85]  # what the counts of a test begin with: worker 9's is full
+FULL = 2**63 - 1, 2**63, 2**64 - 1  # counts that take no run
+NONE = -1, 16, 256, 2**32, -(2**63), 2**63 - 1  # what is no worker
+
 
 def other(grid=grid, table=table, tp_type=3, f1=(n % 17 + 1) / 8, f2=(n % 13 - 1) / 8, points=(0, 0.5, 1.25, 3, 9), triplets=study.triplets):
     """The study with a change."""
     return pm.Study(grid, table, tp_type, f1, f2, points, triplets)
 
 
+def plus(tally, added):
+    """A tally, as a list, in which some counts are greater by so many."""
+    return [int(count) + added.get(worker, 0) for worker, count in enumerate(tally)]
+
+
 def held(sheet):
     """All that a sheet holds, in every bit."""
-    return sheet.weights.tobytes(), sheet.flags.tobytes(), sheet.marks.tobytes(), sheet.tally
+    return sheet.weights.tobytes(), sheet.flags.tobytes(), sheet.marks.tobytes(), sheet.tally.tolist(), sheet.began.tolist()
 
 
 def raises(error, words, call, *sheets):

@@ -7,7 +7,7 @@ import pickle
 import numpy as np
 
 import pelmetsavory as pm
-from small import addresses, grid, held, n, other, raises, refused, run, study, table
+from small import BEGUN, FULL, NONE, addresses, grid, held, n, other, plus, raises, refused, run, study, table
 
 F1, F2 = (n % 17 + 1) / 8, (n % 13 - 1) / 8
 TWO = np.array([(0, 1, 2), (3, 5, 6)])
@@ -16,7 +16,7 @@ TWO = np.array([(0, 1, 2), (3, 5, 6)])
 def carried(y):
     """What a new sheet of the study holds after a carry-on."""
     sheet = pm.Sheet(y)
-    sheet.carry_on()
+    sheet.carry_on(0)
     return held(sheet)
 
 
@@ -30,7 +30,7 @@ def test_assigned_attributes_count_at_the_next_call():
     sheet = pm.Sheet(y)
     y.frequencies1 = y.frequencies1 * 2
     assert held(sheet)[0] == bytes(8 * sheet.weights.size)
-    sheet.carry_on()
+    sheet.carry_on(0)
     assert held(sheet) == carried(other(f1=F1 * 2)) and pm.integration_weight(y)[0].tobytes() == held(sheet)[0]
     for name, given, changed in (
         ("frequencies2", F2 * 3, other(f2=F2 * 3)),
@@ -49,7 +49,7 @@ def test_assigned_attributes_count_at_the_next_call():
     y.grid = given = pm.Grid(2, [2, 2, 2], addresses, grid.gp_map)
     assert carried(y) == carried(study)
     given.kind = 3  # a grid is not copied
-    refused(3, pm.Sheet(y).carry_on)
+    refused(3, lambda: pm.Sheet(y).carry_on(0))
 
 
 def test_changes_in_place_count_and_a_caller_s_array_is_not_held():
@@ -76,8 +76,8 @@ def test_no_call_reads_memory_that_was_given_back():
     copied = pickle.loads(pickle.dumps(sheet))
     wanted = pm.Sheet(other(table=np.tile(table, (2, 1, 1)), f1=wide * 2, f2=wide * 3, points=points + 1, triplets=study.triplets[::-1]))
     for s in sheet, copied, wanted:
-        s.run_piece(0, 1, 0)
-        s.run_piece(2, 0, 10)
+        s.run_piece(3, 0, 1, 0)
+        s.run_piece(15, 2, 0, 10)
         assert held(s) == held(sheet)
 
 
@@ -104,35 +104,95 @@ def test_a_failed_assignment_changes_nothing():
 def test_a_sheet_is_of_one_study():
     y = own()
     sheet = pm.Sheet(y)
-    sheet.run_piece(0, 0, 0)
+    sheet.run_piece(0, 0, 0, 0)
     y.frequencies1 *= 2
-    ids = [0, 0, 2], [0, 1, 1]
-    for call in (sheet.carry_on, lambda: sheet.run_piece(1, 0, 0), lambda: sheet.average_triplet(0, *ids), lambda: sheet.play([]), sheet.to_bytes):
+    ids, carry_on = ([0, 0, 2], [0, 1, 1]), lambda: sheet.carry_on(0)
+    for call in (carry_on, lambda: sheet.run_piece(0, 1, 0, 0), lambda: sheet.average_triplet(0, *ids), lambda: sheet.play([]), sheet.to_bytes):
         raises(ValueError, "the study was changed after", call, sheet)
     y.frequencies1 /= 2
-    sheet.carry_on()
+    sheet.carry_on(0)
     assert held(sheet) == carried(study)
     y.points = [1, 2]
-    raises(ValueError, "the study was changed after", sheet.carry_on, sheet)
+    raises(ValueError, "the study was changed after", carry_on, sheet)
     fresh = pm.Sheet(y)
     y.points = [1, 2, 3]
-    refused(12, fresh.carry_on, fresh)
+    refused(12, lambda: fresh.carry_on(0), fresh)
     raises(ValueError, ["weights", "(3, 3, 2, 3, 3)", "(3, 3, 3, 3, 3)"], fresh.to_bytes, fresh)
 
 
 def test_copies_of_a_sheet_have_arrays_and_a_tally_of_their_own():
-    sheet = pm.Sheet(own(), tally=5)
-    sheet.run_piece(0, 0, 0)
+    sheet = pm.Sheet(own(), tally=BEGUN)
+    sheet.run_piece(7, 0, 0, 0)
     for copied in (copy.deepcopy(sheet), copy.copy(sheet), pickle.loads(pickle.dumps(sheet))):
         before = held(sheet)
         assert held(copied) == before
-        copied.carry_on()
-        assert held(sheet) == before and copied.tally == 32 and held(copied)[:3] == carried(study)[:3]
-        assert not any(np.shares_memory(getattr(sheet, a), getattr(copied, a)) for a in ("weights", "flags", "marks"))
+        copied.carry_on(4)
+        assert held(sheet) == before and copied.tally.tolist() == plus(BEGUN, {7: 1, 4: 26}) and held(copied)[:3] == carried(study)[:3]
+        assert not any(np.shares_memory(getattr(sheet, a), getattr(copied, a)) for a in ("weights", "flags", "marks", "_tally", "_began"))
     assert copy.copy(sheet).study is sheet.study and copy.deepcopy(sheet).study is not sheet.study
     again = copy.copy(sheet)
-    sheet.carry_on()
-    assert again.tally == 6 and again.marks.sum() == 1
+    sheet.carry_on(0)
+    assert again.tally.tolist() == plus(BEGUN, {7: 1}) and again.marks.sum() == 1
+
+
+def test_a_tally_has_sixteen_counts_and_is_given_as_a_copy():
+    assert pm.Sheet(study).tally.tolist() == pm.Sheet(study, tally=None).began.tolist() == [0] * 16
+    most = [2**64 - 1, *range(1, 16)]  # an array of such a list has floats
+    for given in (BEGUN, tuple(BEGUN), np.array(BEGUN), np.array(BEGUN, np.uint64), np.array(BEGUN, object), [np.uint64(x) for x in BEGUN], most, range(16), [2**64 - 1] * 16):
+        sheet = pm.Sheet(study, tally=given)
+        sheet.began = given
+        for counts in sheet.tally, sheet.began:
+            assert counts.shape == (16,) and counts.dtype == np.uint64 and counts.tolist() == [int(x) for x in given]
+    given = np.array(BEGUN, np.uint64)
+    sheet = pm.Sheet(study, tally=given)
+    before, given[...] = held(sheet), 5
+    for counts in sheet.tally, sheet.began, sheet.play([("carry_on", 16)])[1]:
+        counts += np.uint64(1)
+    assert held(sheet) == before
+    raises(AttributeError, "", lambda: setattr(sheet, "tally", [0] * 16), sheet)
+    for name, call in ("tally", lambda given: pm.Sheet(study, tally=given)), ("began", lambda given: setattr(sheet, "began", given)):
+        for error, bad in (
+            (ValueError, (40, 0, 1.0, "0", [], BEGUN[:15], BEGUN + [0], [BEGUN], np.zeros((4, 4), int), [[0]] * 16, set(range(16)), dict.fromkeys(range(16)), iter(BEGUN))),
+            (ValueError, ([BEGUN[:1], BEGUN[:2], *BEGUN[2:]],)),
+            (OverflowError, ([-1] + [0] * 15, [0] * 15 + [2**64], [0] * 15 + [-(2**63)], np.full(16, -1), [10**30] * 16)),
+            (TypeError, (np.zeros(16), [0] * 15 + [1.0], [True] + [0] * 15, np.zeros(16, bool), [None] * 16, ["0"] * 16, np.ma.zeros(16, int))),
+        ):
+            for given in bad:
+                raises(error, name, lambda: call(given), sheet)
+    raises(ValueError, "began has the shape (); (16,) is wanted", lambda: setattr(sheet, "began", None), sheet)
+
+
+def test_a_worker_is_named_and_is_a_whole_number():
+    sheet = pm.Sheet(study, tally=BEGUN)
+    calls = {
+        "run_piece": lambda *worker: sheet.run_piece(*worker, 0, 1, 1),
+        "carry_on": lambda *worker: sheet.carry_on(*worker),
+        "run_pieces": lambda *worker: sheet.run_pieces(*worker, [(0, 1, 1)]),
+        "a run in a list": lambda *worker: sheet.play([("run_piece", *worker, 0, 1, 1)]),
+        "a carry-on in a list": lambda *worker: sheet.play([("carry_on", *worker)]),
+    }
+    for name, call in calls.items():
+        raises(TypeError, "missing 1 required positional argument", call, sheet)  # a forgotten worker is not worker 0
+        for worker in 0.0, 3.0, np.float64(3), float("nan"), True, np.True_, "3", b"3", None, [3], (3,), np.array([3]), np.array(3.0), 3 + 0j:
+            raises(TypeError, "worker: a whole number is wanted, not ", lambda: call(worker), sheet)
+        for worker in 2**63, 2**64, 2**64 + 3, -(2**63) - 1, 10**30, np.uint64(2**63), np.uint64(2**64 - 1):
+            raises(OverflowError, f"worker: {worker} is not a signed number of 64 bits", lambda: call(worker), sheet)
+        for worker in (*NONE, np.int64(-1), np.int8(16), np.uint64(256)):  # it is asked for by the library, whole
+            if "list" in name or name == "run_pieces":
+                before = held(sheet)
+                assert [a.tolist() for a in call(worker)] == [[21], [BEGUN]] and held(sheet) == before
+            else:
+                refused(21, lambda: call(worker), sheet)
+    for worker in 0, np.int8(1), np.uint64(2), np.array(3), np.int64(15):
+        sheet.run_piece(worker, 0, 0, 0)
+        sheet.run_pieces(worker, [(0, 0, 0), (1, 0, 0)])
+        sheet.play([("run_piece", worker, 2, 0, 0), ("carry_on", worker)])
+    assert sheet.tally.tolist() == plus(BEGUN, {0: 4 + 24, 1: 4, 2: 4, 3: 4, 15: 4})
+    assert sheet.run_pieces(16, [])[1].shape == (0, 16)
+    for count in FULL:
+        other_full = pm.Sheet(study, tally=[count] * 15 + [0])
+        other_full.carry_on(15)
+        assert other_full.tally.tolist() == [count] * 15 + [27]
 
 
 def test_copies_of_a_study_have_arrays_of_their_own():
@@ -151,9 +211,9 @@ def in_another_process(y):
     """A study that was sent, assigned to there; its sheet, and a refusal, are sent back."""
     y.frequencies1 = y.frequencies1 * 2
     sheet = pm.Sheet(y)
-    sheet.run_piece(2, 1, 0)
+    sheet.run_piece(0, 2, 1, 0)
     try:
-        sheet.run_piece(3, 0, 0)
+        sheet.run_piece(0, 3, 0, 0)
     except pm.Refused as refusal:
         return sheet, refusal
 
@@ -162,8 +222,8 @@ def test_other_processes():
     for how in ("spawn", "fork"):
         with multiprocessing.get_context(how).Pool(2) as pool:
             for sheet, refusal in pool.map_async(in_another_process, [own(), own()]).get(timeout=120):
-                assert sheet.tally == 1 and sheet.marks.sum() == 1 and refusal.number == 14 and str(refusal) == str(pm.Refused(14))
-                sheet.carry_on()
+                assert sheet.tally.tolist() == [1] + [0] * 15 and sheet.marks.sum() == 1 and refusal.number == 14 and str(refusal) == str(pm.Refused(14))
+                sheet.carry_on(0)
                 assert held(sheet) == carried(other(f1=F1 * 2))
 
 
@@ -220,9 +280,6 @@ def test_nothing_wraps_and_nothing_is_rounded():
     g, sheet = grid, pm.Sheet(study)
     big = 2**63
     for error, words, call in (
-        (OverflowError, "tally", lambda: pm.Sheet(study, tally=-1)),
-        (OverflowError, "tally", lambda: pm.Sheet(study, tally=2**64)),
-        (TypeError, "", lambda: pm.Sheet(study, tally=1.0)),
         (TypeError, "addresses", lambda: pm.Grid(2, [2, 2, 2], np.array(addresses) * 1.0, g.gp_map)),
         (TypeError, "gp_map", lambda: pm.Grid(2, [2, 2, 2], addresses, g.gp_map * 1.0)),
         (TypeError, "gp_map", lambda: pm.Grid(2, [2, 2, 2], addresses, g.gp_map.astype(np.uint64))),
@@ -240,11 +297,12 @@ def test_nothing_wraps_and_nothing_is_rounded():
         (TypeError, "omega", lambda: pm.tetrahedra_integration_weight(2**53 + 1, [[0, 4, 4, 4]] * 24)),
         (TypeError, "omega", lambda: pm.tetrahedra_integration_weight("2", [[0, 4, 4, 4]] * 24)),
         (ValueError, "'I' or 'J'", lambda: pm.tetrahedra_integration_weight(2, [[0, 4, 4, 4]] * 24, "i")),
-        (OverflowError, "triplet", lambda: sheet.run_piece(big, 0, 0)),
-        (OverflowError, "b2", lambda: sheet.run_piece(0, 0, -big - 1)),
-        (OverflowError, "triplet", lambda: sheet.play([("run_piece", big, 0, 0)])),
-        (TypeError, "", lambda: sheet.run_piece(0.0, 0, 0)),
-        (TypeError, "b2", lambda: sheet.play([("run_piece", 0, 0)])),
+        (OverflowError, "triplet", lambda: sheet.run_piece(0, big, 0, 0)),
+        (OverflowError, "b2", lambda: sheet.run_piece(0, 0, 0, -big - 1)),
+        (OverflowError, "triplet", lambda: sheet.play([("run_piece", 0, big, 0, 0)])),
+        (TypeError, "rows", lambda: sheet.play_list([(0, big, 0, 0, 0, 0)], [])),
+        (TypeError, "", lambda: sheet.run_piece(0, 0.0, 0, 0)),
+        (TypeError, "b2", lambda: sheet.play([("run_piece", 0, 0, 0)])),
         (KeyError, "run", lambda: sheet.play([("run",)])),
         (TypeError, "", lambda: pm.answer("text")),
     ):
@@ -261,12 +319,12 @@ def test_a_sheet_s_arrays_must_be_fit_to_be_written():
     raises(ValueError, ["weights has", "(3, 5, 3, 3)"], lambda: setattr(sheet, "weights", np.zeros((3, 5, 3, 3))), sheet)
     mine = np.full(sheet.weights.shape, 7.0)
     sheet.weights = mine
-    sheet.run_piece(0, 0, 0)
+    sheet.run_piece(0, 0, 0, 0)
     assert sheet.weights is mine and (mine[:, 0, :, 0, 0] != 7).all() and (mine[:, 1:] == 7).all()
     sheet.weights.flags.writeable = False
-    raises(TypeError, "writable", sheet.carry_on, sheet)
+    raises(TypeError, "writable", lambda: sheet.carry_on(0), sheet)
     sheet.weights.flags.writeable = True
-    sheet.carry_on()
+    sheet.carry_on(0)
     assert held(sheet) == carried(study)
 
 

@@ -88,7 +88,7 @@ def test_examples():
 
 
 def test_a_refusal_says_its_question():
-    assert sorted(pm.QUESTIONS) == list(range(1, 21))
+    assert sorted(pm.QUESTIONS) == list(range(1, 22))
     for number, words in pm.QUESTIONS.items():
         assert str(pm.Refused(number)) == f"question {number} is answered no: {words}" and pm.Refused(number).number == number
 

@@ -8,11 +8,14 @@ import tempfile
 import numpy as np
 
 import pelmetsavory as pm
-from small import addresses, grid, held, n, other, raises, refused, run, study, table
+from small import BEGUN, FULL, addresses, grid, held, n, other, plus, raises, refused, run, study, table
 
 F1, F2 = (n % 17 + 1) / 8, (n % 13 - 1) / 8
 IDS = [0, 0, 2], [0, 1, 1]
 FOLDER = tempfile.TemporaryDirectory()
+COUNTS = [*range(7, 21), 2**64 - 1, 22]  # what a worker's counts begin with: worker 14's is full, and idle
+RUNS = (3, 0, 0, 0), (3, 2, 1, 0), (15, 2, 1, 0)  # of workers 3 and 15
+GROWN = {3: 2, 15: 1}
 OTHERS = {  # each differs from the study in one place
     "kind": lambda: other(grid=pm.Grid(1, [2, 2, 2], addresses, grid.gp_map)),
     "mesh": lambda: other(grid=pm.Grid(2, [2, 4, 1], addresses, grid.gp_map)),
@@ -34,11 +37,11 @@ SHAPES = {  # and in its shape: channels, triplets, points, bands
 }
 
 
-def worker(y=study, tally=0, pieces=((0, 0, 0), (2, 1, 0), (2, 1, 0))):
+def worker(y=study, tally=None, runs=RUNS):
     """A worker's sheet with some pieces run, one of them twice."""
     sheet = pm.Sheet(y, tally=tally)
-    for piece in pieces:
-        sheet.run_piece(*piece)
+    for run in runs:
+        sheet.run_piece(*run)
     return sheet
 
 
@@ -62,26 +65,30 @@ def stored(data):
 
 
 def test_the_format():
-    sheet = worker(tally=40)
+    sheet = worker(tally=BEGUN)
     records = [[2, 2, 2, 2, 3, 3, 3], addresses, grid.gp_map, table, F1, F2, [0, 0.5, 1.25, 3, 9], study.triplets]
     print_of = b"pelmetsavory study 1\n"
     for k, r in enumerate(records):
         a = np.array(r, "<f8" if 4 <= k <= 6 else "<i8")
         print_of += struct.pack("<Q", a.size) + a.tobytes()
     assert study.fingerprint() == hashlib.sha256(print_of).digest()
-    body = b"PELSHEET" + struct.pack("<Q", 1) + study.fingerprint() + struct.pack("<5Q", 3, 3, 5, 3, 3) + struct.pack("<QQ", 40, 43)
+    body = b"PELSHEET" + struct.pack("<Q", 2) + study.fingerprint() + struct.pack("<5Q", 3, 3, 5, 3, 3) + struct.pack("<32Q", *BEGUN, *plus(BEGUN, GROWN))
     body += sheet.weights.astype("<f8").tobytes() + sheet.flags.tobytes() + sheet.marks.tobytes()
-    assert sheet.to_bytes() == signed(body) and len(body) == 104 + 8 * 405 + 135 + 27
+    assert sheet.to_bytes() == signed(body) and len(body) == 344 + 8 * 405 + 135 + 27
     folder = tempfile.mkdtemp(dir=FOLDER.name)
     path = os.path.join(folder, "whole")
     sheet.save(path)
     assert open(path, "rb").read() == signed(body) and os.listdir(folder) == ["whole"]
     again = pm.Sheet.load(study, path)
-    assert held(again) == held(sheet) and (again.began, again.tally) == (40, 43) and again.to_bytes() == sheet.to_bytes()
-    again.carry_on()
-    assert again.tally == 68
-    empty = pm.Sheet(other(triplets=[]))
-    assert pm.Sheet.from_bytes(empty.study, empty.to_bytes()).to_bytes() == empty.to_bytes() and len(empty.to_bytes()) == 136
+    assert held(again) == held(sheet) and again.began.tolist() == BEGUN and again.to_bytes() == sheet.to_bytes()
+    again.carry_on(6)
+    assert again.tally.tolist() == plus(BEGUN, {**GROWN, 6: 25}) and again.began.tolist() == BEGUN
+    empty = pm.Sheet(other(triplets=[]), tally=BEGUN)
+    assert pm.Sheet.from_bytes(empty.study, empty.to_bytes()).to_bytes() == empty.to_bytes() and len(empty.to_bytes()) == 376
+    for k in range(32):  # each count in its own place, any number
+        again, counts = pm.Sheet.from_bytes(study, edited(sheet.to_bytes(), 88 + 8 * k, "<Q", 2**64 - 1)), [*sheet.began.tolist(), *sheet.tally.tolist()]
+        counts[k] = 2**64 - 1
+        assert [*again.began.tolist(), *again.tally.tolist()] == counts
 
 
 def test_load_refuses_another_study_or_shape():
@@ -94,87 +101,96 @@ def test_load_refuses_another_study_or_shape():
         shape[place] = 1
         channels, triplets, points, b1, b2 = shape
         pieces = triplets * b1 * b2
-        head = worker().to_bytes()[:48] + struct.pack("<7Q", *shape, 0, 0)
+        head = worker().to_bytes()[:48] + struct.pack("<37Q", *shape, *[0] * 32)
         raises(ValueError, ["shape", str(tuple(shape))], lambda: pm.Sheet.load(study, stored(signed(head + bytes((8 * channels + 1) * pieces * points + pieces)))))
 
 
 def test_load_refuses_what_is_no_whole_sheet():
-    data = worker().to_bytes()
+    data = worker(tally=BEGUN).to_bytes()
+    first = data[:8] + struct.pack("<Q", 1) + data[16:96] + data[216:224] + data[344:-32]  # format 1: one count, of 8 bytes
     for words, bad in (
         ("not a stored sheet", b""),
-        ("not a stored sheet", data[:135]),
+        ("not a stored sheet", data[:15]),
         ("not a stored sheet", b"pelsheet" + data[8:]),
         ("not a stored sheet", worker().weights.tobytes()),
-        ("format 2", edited(data, 8, "<Q", 2)),
+        ("format 1; format 2 is read", signed(first)),
+        ("format 1", signed(first[:56] + bytes(8) + first[64:104])),  # without triplets
+        ("format 1", edited(data, 8, "<Q", 1)),
+        ("format 3", edited(data, 8, "<Q", 3)),
         ("format 0", data[:8] + bytes(8) + data[16:]),
         ("cut short", data[:-1]),
-        ("cut short", data[:136]),
+        ("cut short", data[:16]),
+        ("cut short", data[:375]),
+        ("cut short", data[:376]),
         ("too long", data + b"\0"),
         ("too long", signed(data)),
         ("too long", data * 2),
         ("cut short", edited(data, 48, "<Q", 2**63)),
     ):
         raises(ValueError, words, lambda: pm.Sheet.load(study, stored(bad)))
-    for at in [*range(16, 48), *range(88, len(data), 97), len(data) - 33, len(data) - 1]:  # one byte damaged
+    for at in [*range(16, 48), *range(88, 344), *range(344, len(data), 97), len(data) - 33, len(data) - 1]:  # one byte damaged
         raises(ValueError, "checksum", lambda: pm.Sheet.load(study, stored(data[:at] + bytes([data[at] ^ 1]) + data[at + 1 :])))
     raises(FileNotFoundError, "", lambda: pm.Sheet.load(study, os.path.join(FOLDER.name, "none")))
 
 
 def test_load_refuses_unsound_marks():
-    data, marks = worker().to_bytes(), 104 + 8 * 405 + 135
+    data, marks = worker().to_bytes(), 344 + 8 * 405 + 135
     for at, value in ((0, 3), (5, 255), (1, 2)):
         refused(13, lambda: pm.Sheet.load(study, stored(edited(data, marks + at, "B", value))))
-    full = pm.Sheet.load(study, stored(edited(data, 96, "<Q", 2**63)))
-    refused(20, full.carry_on, full)
+    for k in range(16):
+        full = pm.Sheet.load(study, stored(edited(data, 216 + 8 * k, "<Q", 2**63)))
+        refused(20, lambda: full.carry_on(k), full)
+        full.run_piece((k + 1) % 16, 1, 1, 1)
 
 
 def test_take_takes_over_what_is_open():
-    sheet, own = worker(pieces=[(0, 0, 0)], tally=7), worker(tally=100)
+    sheet, own = worker(runs=[(0, 0, 0, 0)], tally=BEGUN), worker(tally=COUNTS)
     own.weights[:, 0, :, 0, 0] = 55  # not open here: not taken
     one = pm.Sheet(study)
-    one.carry_on()
+    one.carry_on(6)
     sheet.take(own)
-    assert sheet.tally == 8 + 3 and sheet.marks.sum() == 2 and sheet.marks[2, 1, 0] == 1
+    assert sheet.tally.tolist() == plus(BEGUN, {0: 1, **GROWN}) and sheet.marks.sum() == 2 and sheet.marks[2, 1, 0] == 1
+    assert own.tally.tolist() == own.began.tolist() == plus(COUNTS, GROWN) and sheet.began.tolist() == BEGUN
     assert (sheet.weights[:, 2, :, 1, 0] == one.weights[:, 2, :, 1, 0]).all() and (sheet.weights[:, 0, :, 0, 0] == one.weights[:, 0, :, 0, 0]).all()
     assert (sheet.flags[2, :, 1, 0] == one.flags[2, :, 1, 0]).all()
     assert not sheet.weights[:, 1].any() and not sheet.flags[1].any()
     once = held(sheet)
     sheet.take(own)  # counts as taken
     assert held(sheet) == once
-    own.run_piece(2, 1, 0)
+    own.run_piece(8, 2, 1, 0)
     sheet.take(own)  # repeats are counted
-    assert held(sheet)[:3] == once[:3] and sheet.tally == 12
+    assert held(sheet)[:3] == once[:3] and sheet.tally.tolist() == plus(once[3], {8: 1})
     late = worker()
-    sheet.carry_on()
+    sheet.carry_on(6)
     for t in range(3):
         sheet.average_triplet(t, *IDS)
     before = held(sheet)
     sheet.take(late)
-    assert held(sheet)[:3] == before[:3] and sheet.tally == before[3] + 3
+    assert held(sheet)[:3] == before[:3] and sheet.tally.tolist() == plus(before[3], GROWN)
     done = copy.deepcopy(sheet)
     done.began = done.tally
     sheet.take(done)
-    assert held(sheet)[:3] == before[:3] and sheet.tally == before[3] + 3
+    assert held(sheet)[:3] == before[:3] and sheet.tally.tolist() == plus(before[3], GROWN)
 
 
 def test_take_by_way_of_a_file():
-    sheet, path = pm.Sheet(study, tally=2), os.path.join(FOLDER.name, "worker")
-    worker(tally=40).save(path)
+    sheet, path = pm.Sheet(study, tally=BEGUN), os.path.join(FOLDER.name, "worker")
+    worker(tally=COUNTS).save(path)
     sheet.take(pm.Sheet.load(study, path))
-    assert sheet.tally == 5 and sheet.marks.sum() == 2
+    assert sheet.tally.tolist() == plus(BEGUN, GROWN) and sheet.marks.sum() == 2
     own = copy.copy(sheet)  # a worker that goes on from a copy
     own.began = own.tally
-    own.carry_on()
+    own.carry_on(6)
     sheet.take(own)
     one = pm.Sheet(study)
-    one.carry_on()
-    assert held(sheet)[:3] == held(one)[:3] and sheet.tally == 30
+    one.carry_on(6)
+    assert held(sheet)[:3] == held(one)[:3] and sheet.tally.tolist() == plus(BEGUN, {**GROWN, 6: 25})
 
 
 def test_take_refuses_another_study_or_shape():
     for name, make in {**OTHERS, **SHAPES}.items():
         for marks in (0, 1):
-            sheet, own = worker(tally=7), pm.Sheet(make())
+            sheet, own = worker(tally=BEGUN), pm.Sheet(make())
             own.marks[...] = marks
             own.weights[...] = 9
             raises(ValueError, "another study", lambda: sheet.take(own), sheet, own)
@@ -190,22 +206,24 @@ def test_take_refuses_another_study_or_shape():
 
 def test_take_refuses_what_is_not_sound():
     for at, value in (((0, 0, 0), 3), ((1, 0, 2), 255), ((1, 0, 2), 2)):
-        sheet, own = worker(tally=7), worker()
+        sheet, own = worker(tally=BEGUN), worker()
         own.marks[at] = value
         refused(13, lambda: sheet.take(own), sheet, own)
         refused(13, lambda: own.take(sheet), sheet, own)
-    sheet, own = worker(tally=7), worker()
-    own.carry_on()
+    sheet, own = worker(tally=BEGUN), worker()
+    own.carry_on(6)
     own.average_triplet(1, *IDS)
     raises(ValueError, "averaged in the other", lambda: sheet.take(own), sheet, own)
-    own = worker()
-    own.began = own.tally + 1
-    raises(ValueError, "damaged", lambda: sheet.take(own), sheet, own)
+    for k in range(16):
+        for tally in BEGUN, [2**63] * 16:  # before question 20
+            sheet, own = worker(runs=(), tally=tally), worker()
+            own.began = [count + 1 if j == k else 0 for j, count in enumerate(own.tally.tolist())]
+            raises(ValueError, f"damaged: its count of worker {k} is below", lambda: sheet.take(own), sheet, own)
 
 
 def test_take_refuses_what_cannot_be_written():
     for name in ("weights", "flags", "marks"):
-        sheet, own = pm.Sheet(study, tally=7), worker()
+        sheet, own = pm.Sheet(study, tally=BEGUN), worker()
         getattr(sheet, name).flags.writeable = False
         raises(ValueError, "read-only", lambda: sheet.take(own), sheet, own)
 
@@ -218,18 +236,31 @@ def test_a_changed_study_stores_nothing():
     assert os.listdir(folder) == []
 
 
-def test_take_keeps_the_tally_below_2_63():
+def test_take_keeps_every_count_that_grows_below_2_63():
     own = worker()
-    for tally in (2**63 - 4, 2**63 - 1, 2**63, 2**64 - 1):
-        sheet = pm.Sheet(study, tally=tally)
-        if tally + 3 < 2**63:
-            sheet.take(copy.deepcopy(own))
-            assert sheet.tally == tally + 3 and sheet.marks.sum() == 2
-        else:
-            refused(20, lambda: sheet.take(own), sheet, own)
-    sheet, huge = pm.Sheet(study), pm.Sheet(study, tally=2**64 - 1)
-    huge.began = 0
-    refused(20, lambda: sheet.take(huge), sheet, huge)
+    for k, runs in GROWN.items():  # 15 is the last one: the others are not changed before
+        for count in (2**63 - 1 - runs, 2**63 - runs, *FULL):
+            sheet = pm.Sheet(study, tally=[count if j == k else 5 for j in range(16)])
+            if count + runs < 2**63:
+                sheet.take(copy.deepcopy(own))
+                assert sheet.tally.tolist() == plus([count if j == k else 5 for j in range(16)], GROWN) and sheet.marks.sum() == 2
+            else:
+                refused(20, lambda: sheet.take(own), sheet, own)
+    for k in range(16):
+        sheet, huge = pm.Sheet(study), pm.Sheet(study, tally=[2**64 - 1] * 16)
+        huge.began = [0 if j == k else 2**64 - 1 for j in range(16)]
+        refused(20, lambda: sheet.take(huge), sheet, huge)
+
+
+def test_take_asks_no_count_that_is_idle():
+    for count in FULL:
+        tally = [5 if k in GROWN else count for k in range(16)]
+        sheet, own = pm.Sheet(study, tally=tally), worker(tally=tally)
+        sheet.take(own)
+        assert sheet.tally.tolist() == plus(tally, GROWN) and sheet.marks.sum() == 2
+        sheet, before = pm.Sheet(study, tally=[count] * 16), held(own)
+        sheet.take(own)  # taken before: no count grows, and the pieces are taken over
+        assert sheet.tally.tolist() == [count] * 16 and sheet.marks.sum() == 2 and held(own) == before
 
 
 if __name__ == "__main__":

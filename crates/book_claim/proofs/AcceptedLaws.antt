@@ -30,8 +30,8 @@ numbered-join [] rest h k = k
 numbered-join (asks n b ∷ qs) rest h k = (h .0, numbered-join qs rest (h .1) k)
 
 own-numbered : (g : Study) (s : Sheet) (c : Call) → Numbered (ownQuestions g s c)
-own-numbered g s (run t b1 b2) = (omega arith, (omega arith, (omega arith, tt)))
-own-numbered g s carry = (omega arith, tt)
+own-numbered g s (run worker t b1 b2) = (omega arith, (omega arith, (omega arith, (omega arith, tt))))
+own-numbered g s (carry worker) = (omega arith, (omega arith, tt))
 own-numbered g s (average t ids1 ids2) = (omega arith, (omega arith, (omega arith, (omega arith, (omega arith, (omega arith, tt))))))
 
 pub call-numbered : (g : Study) (s : Sheet) (c : Call) → Numbered (callQuestions g s c)
@@ -75,7 +75,7 @@ pub piece-in : (z : Sizes) (t b1 b2 : ℤ) → z .pairs ≡ z .bands1 * z .bands
 piece-in z t b1 b2 e h = let n : _ = piece-on z t b1 b2 h in (n .0, rw e (digits-lt (n .1 .0) (n .1 .1)))
 
 -- a named piece that is run is one of the pieces
-pub named : (g : Study) (s : Sheet) (t b1 b2 : ℤ) → Accepted g s (run t b1 b2) → pieceOf (sizesOf g) t b1 b2 < piecesOf (sizesOf g)
-named g s t b1 b2 a =
+pub named : (g : Study) (s : Sheet) (worker t b1 b2 : ℤ) → Accepted g s (run worker t b1 b2) → pieceOf (sizesOf g) t b1 b2 < piecesOf (sizesOf g)
+named g s worker t b1 b2 a =
     let h : _ = piece-in (sizesOf g) t b1 b2 (counts a .pairs-are) (a .own .0) in
     digits-lt (h .0) (h .1)

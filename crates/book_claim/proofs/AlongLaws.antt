@@ -2,11 +2,11 @@
 use mathlib.Core.Path.{_≡_, refl, sym, ap, _∙_}
 use mathlib.Core.Bool.{Bool, true, false, not, _&&_, _||_, cond}
 use mathlib.Core.List.{List, [], _∷_}
-use Prim.Native.Nat.{ℕ, zero, suc, _+_, _/_}
+use Prim.Native.Nat.{ℕ, zero, suc, _+_, _/_, _<_}
 use native.Mathlib.Omega.{arith}
 use lib.Dec.{eqb}
 use lib.IntN.{ℤ}
-use lib.ListN.{length}
+use lib.ListN.{length, getD}
 use lib.Signed.{mag}
 use borrow.Author.Tests.{eqb-true}
 use Rattle.list_laws.proofs.BoolLaws.{clash}
@@ -14,10 +14,11 @@ use Rattle.list_laws.proofs.PatchLaws.{getD-patch}
 use Rattle.list_laws.specs.Lists.{oneIf}
 use Rattle.ask.specs.Ask.{afterCall}
 use Rattle.triplet_study.specs.Study.{Study, sizesOf}
+use Rattle.sheet_marks.proofs.TallyLaws.{length-moved, count-moved}
 use Rattle.sheet_step.specs.Steps.{Sheet, Call, run, carry, average}
-use Rattle.book_claim.specs.Book.{wordAt, Word, fresh, computed, averagedBy, Book, isOpen, writes, bookNo, turn, booked}
+use Rattle.book_claim.specs.Book.{wordAt, Word, fresh, computed, averagedBy, Book, isOpen, openWords, writes, bookNo, turn, booked}
 use Rattle.book_claim.specs.Counts.{runsOf, runsAccepted, runsPiece, hasRun, averages, averagings, AveragedBy, isAveraged}
-use Rattle.book_claim.proofs.TurnLaws.{On, on-word, turn-long, kept, averaged-turn, open-turn}
+use Rattle.book_claim.proofs.TurnLaws.{On, on-word, turn-long, yes, kept, averaged-turn, open-turn}
 
 -- ---- words by their lists
 
@@ -100,8 +101,8 @@ module _ (g : Study) (start : Sheet) where
 
       go : (c : Call) (n : ℕ) → bookNo g start b c ≡ n → afterCall n (oneIf (averages (q / sizesOf g .pairs) c)) 0 ≡ 1 → wordAt (afterCall n (writes g b c) b) q ≡ averagedBy ids1 ids2
           → (t : ℤ) × ((c ≡ average t ids1 ids2) × ((q / sizesOf g .pairs ≡ mag t) × (bookNo g start b c ≡ 0)))
-      go (run t b1 b2) zero z s w = absurd (omega arith)
-      go carry zero z s w = absurd (omega arith)
+      go (run worker t b1 b2) zero z s w = absurd (omega arith)
+      go (carry worker) zero z s w = absurd (omega arith)
       go (average t j1 j2) zero z s w = at-average t j1 j2 z (eqb (q / sizesOf g .pairs) (mag t)) refl s w
       go c (suc n) z s w = absurd (omega arith)
 
@@ -151,19 +152,34 @@ module _ (g : Study) (start : Sheet) where
 
   -- ---- the tally
 
-  tally-turn : (b : Book) (c : Call) → turn g start b c .tally ≡ b .tally + afterCall (bookNo g start b c) (runsOf b c) 0
+  tally-turn : (b : Book) (c : Call) (w : ℕ) → w < length (b .tally)
+      → getD (turn g start b c .tally) w 0 ≡ getD (b .tally) w 0 + afterCall (bookNo g start b c) (runsOf b w c) 0
   unfolding turn writes
-  tally-turn b c = go c (bookNo g start b c)
+  tally-turn b c w h = go c (bookNo g start b c) refl
     where
       none : (n : ℕ) → n ≡ n + 0
       none n = omega arith
 
-      go : (c : Call) (n : ℕ) → afterCall n (writes g b c) b .tally ≡ b .tally + afterCall n (runsOf b c) 0
-      go (run t b1 b2) zero = refl
-      go carry zero = refl
-      go (average t ids1 ids2) zero = none (b .tally)
-      go c (suc n) = none (b .tally)
+      go : (c : Call) (n : ℕ) → bookNo g start b c ≡ n → getD (afterCall n (writes g b c) b .tally) w 0 ≡ getD (b .tally) w 0 + afterCall n (runsOf b w c) 0
+      go (run worker t b1 b2) zero e = count-moved (b .tally) worker 1 w (yes g start b (run worker t b1 b2) e .own .1 .1 .0) h
+      go (carry worker) zero e = count-moved (b .tally) worker (openWords (b .words)) w (yes g start b (carry worker) e .own .0) h
+      go (average t ids1 ids2) zero e = none (getD (b .tally) w 0)
+      go c (suc n) e = none (getD (b .tally) w 0)
 
-  pub tally-along : (b : Book) (calls : List Call) → booked g start b calls .tally ≡ b .tally + runsAccepted g start b calls
-  tally-along b [] = omega arith
-  tally-along b (c ∷ calls) = let one : _ = tally-turn b c in let rest : _ = tally-along (turn g start b c) calls in omega arith
+  pub tally-long : (b : Book) (c : Call) → length (turn g start b c .tally) ≡ length (b .tally)
+  unfolding turn writes
+  tally-long b c = go c (bookNo g start b c)
+    where
+      go : (c : Call) (n : ℕ) → length (afterCall n (writes g b c) b .tally) ≡ length (b .tally)
+      go (run worker t b1 b2) zero = length-moved (b .tally) worker 1
+      go (carry worker) zero = length-moved (b .tally) worker (openWords (b .words))
+      go (average t ids1 ids2) zero = refl
+      go c (suc n) = refl
+
+  pub tally-along : (b : Book) (calls : List Call) (w : ℕ) → w < length (b .tally)
+      → getD (booked g start b calls .tally) w 0 ≡ getD (b .tally) w 0 + runsAccepted g start b w calls
+  tally-along b [] w h = omega arith
+  tally-along b (c ∷ calls) w h =
+      let one : _ = tally-turn b c w h in
+      let rest : _ = tally-along (turn g start b c) calls w (rw (tally-long b c) h) in
+      omega arith

@@ -121,11 +121,11 @@ module _ (g : Study) (start : Sheet) (unmarked : start .marks ≡ replicate (len
       → markAt (played g start calls .marks) q ≡ 2
   averaged-mark q ids1 ids2 h a = mark-is q (averaged-placed g start calls (q / sizesOf g .pairs) ids1 ids2 a .marks q h) ∙ ap markOf (averaged g start calls q ids1 ids2 h a)
 
-  -- ---- the tally has grown by exactly the accepted runs
+  -- ---- "each of the sixteen has grown by exactly its own worker's accepted runs, repeats included"
 
-  pub tally-is : played g start calls .tally ≡ start .tally + runsAccepted g start (opened g start) calls
+  pub tally-is : (w : ℕ) → w < length (start .tally) → getD (played g start calls .tally) w 0 ≡ getD (start .tally) w 0 + runsAccepted g start (opened g start) w calls
   unfolding render opened
-  tally-is = ap (λ (s : Sheet). s .tally) is-book ∙ tally-along g start (opened g start) calls
+  tally-is w h = ap (λ (s : Sheet). getD (s .tally) w 0) is-book ∙ tally-along g start (opened g start) calls w h
 
   -- ---- a list cut anywhere and carried on is the list: the sheet after the cut and the calls that follow is the book's of the whole
 
@@ -143,7 +143,7 @@ module _ (g : Study) (s : Sheet) (calls : List Call) where
   refused-stays r = all-refused g s calls r
 
   -- "A carry-on that ends with pieces open, by demand 3's marks: after an accepted one no 0 is left."
-  pub none-open-left : verdict g (played g s calls) carry ≡ 0 → (q : ℕ) → q < piecesOf (sizesOf g)
-      → markAt (played g s (calls ++ (carry ∷ [])) .marks) q ≡ 0 → ⊥
-  none-open-left e q h z =
-      none-open g (played g s calls) e q h (subst (λ (x : Sheet). markAt (x .marks) q ≡ 0) (played-cut g s calls (carry ∷ [])) z)
+  pub none-open-left : (worker : ℤ) → verdict g (played g s calls) (carry worker) ≡ 0 → (q : ℕ) → q < piecesOf (sizesOf g)
+      → markAt (played g s (calls ++ (carry worker ∷ [])) .marks) q ≡ 0 → ⊥
+  none-open-left worker e q h z =
+      none-open g (played g s calls) worker e q h (subst (λ (x : Sheet). markAt (x .marks) q ≡ 0) (played-cut g s calls (carry worker ∷ [])) z)

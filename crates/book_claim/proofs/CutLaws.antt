@@ -5,6 +5,7 @@ use mathlib.Core.List.{List, [], _∷_, _++_}
 use Prim.Native.Nat.{ℕ, zero, suc, _<_}
 use native.Mathlib.Omega.{arith}
 use lib.Dec.{eqb}
+use lib.IntN.{ℤ}
 use borrow.Author.Tests.{eqb-false}
 use Rattle.triplet_study.specs.Study.{Study, sizesOf}
 use Rattle.sheet_marks.specs.declared.SheetAnswer.{SheetAnswer}
@@ -61,9 +62,9 @@ module _ (g : Study) where
       go true e z = omega arith
       go false e z = eqb-false m 0 e z
 
-  pub none-open : (s : Sheet) → verdict g s carry ≡ 0 → (q : ℕ) → q < piecesOf (sizesOf g) → markAt (step g s carry .marks) q ≡ 0 → ⊥
+  pub none-open : (s : Sheet) (worker : ℤ) → verdict g s (carry worker) ≡ 0 → (q : ℕ) → q < piecesOf (sizesOf g) → markAt (step g s (carry worker) .marks) q ≡ 0 → ⊥
   unfolding effect
-  none-open s e q h z =
-      let read : markAt (effect g s carry .marks) q ≡ closed (markAt (s .marks) q)
-      = carried-mark (piecesOf (sizesOf g)) q (s .marks) h (place-in (piecesOf (sizesOf g)) (s .marks) q (accepted g s carry e .marked) h) in
-      closed-not-open (markAt (s .marks) q) (sym read ∙ subst (λ (x : Sheet). markAt (x .marks) q ≡ 0) (sym (done-sheet g s carry e)) z)
+  none-open s worker e q h z =
+      let read : markAt (effect g s (carry worker) .marks) q ≡ closed (markAt (s .marks) q)
+      = carried-mark (piecesOf (sizesOf g)) q (s .marks) h (place-in (piecesOf (sizesOf g)) (s .marks) q (accepted g s (carry worker) e .marked) h) in
+      closed-not-open (markAt (s .marks) q) (sym read ∙ subst (λ (x : Sheet). markAt (x .marks) q ≡ 0) (sym (done-sheet g s (carry worker) e)) z)

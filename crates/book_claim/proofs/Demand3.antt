@@ -22,8 +22,8 @@ use Rattle.book_claim.proofs.AverageLaws.{average-same}
 module _ (g : Study) (start : Sheet) where
   -- one accepted call on the sheet that a book stands for
   same-effect : (b : Book) → length (b .words) ≡ piecesOf (sizesOf g) → (c : Call) → Accepted g (render g start b) c → effect g (render g start b) c ≡ render g start (writes g b c)
-  same-effect b long (run t b1 b2) a = run-same g start b long t b1 b2 a
-  same-effect b long carry a = carry-same g start b long a
+  same-effect b long (run worker t b1 b2) a = run-same g start b long worker t b1 b2 a
+  same-effect b long (carry worker) a = carry-same g start b long worker a
   same-effect b long (average t ids1 ids2) a = average-same g start b long t ids1 ids2 a
 
   -- one call on it: the step, and the book's turn

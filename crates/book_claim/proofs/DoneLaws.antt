@@ -12,6 +12,7 @@ use Rattle.ask.specs.Ask.{afterCall}
 use Rattle.triplet_study.specs.Study.{Study, sizesOf}
 use Rattle.sheet_marks.specs.declared.SheetAnswer.{SheetAnswer}
 use Rattle.ask.specs.Answers.{answerOf}
+use Rattle.list_laws.specs.Signed.{isNat}
 use Rattle.marks.specs.Marks.{isOpenMark}
 use Rattle.marks.proofs.MarkLaws.{open-at}
 use Rattle.sheet_step.specs.Steps.{Sheet, Call, run, carry, average, piecesOf, step, stepAnswer}
@@ -48,27 +49,27 @@ module _ (g : Study) (start : Sheet) where
       go zero e = e refl
       go (suc n) e = refl
 
-  same-runs : (b : Book) (c : Call) → length (b .words) ≡ piecesOf (sizesOf g) → bookNo g start b c ≡ 0 → runsOn g (render g start b) c ≡ runsOf b c
-  same-runs b (run t b1 b2) long z = refl
-  same-runs b carry long z = open-runs g start b long (yes g start b carry z)
-  same-runs b (average t ids1 ids2) long z = refl
+  same-runs : (b : Book) (w : ℕ) (c : Call) → length (b .words) ≡ piecesOf (sizesOf g) → bookNo g start b c ≡ 0 → runsOn g (render g start b) w c ≡ runsOf b w c
+  same-runs b w (run worker t b1 b2) long z = refl
+  same-runs b w (carry worker) long z = ap (λ (n : ℕ). cond (isNat worker w) n 0) (open-runs g start b long worker (yes g start b (carry worker) z))
+  same-runs b w (average t ids1 ids2) long z = refl
 
   same-piece : (b : Book) (q : ℕ) (c : Call) → On g start b q → bookNo g start b c ≡ 0 → runsPieceOn g (render g start b) q c ≡ runsPiece g b q c
   unfolding render isOpenMark
-  same-piece b q (run t b1 b2) h z = refl
-  same-piece b q carry h z =
+  same-piece b q (run worker t b1 b2) h z = refl
+  same-piece b q (carry worker) h z =
       open-at (piecesOf (sizesOf g)) q (render g start b .marks) (h .1)
-      ∙ ap (λ (m : ℕ). eqb m 0) (mark-word (piecesOf (sizesOf g)) (b .words) (start .marks) q (h .1) (mark-on g start b carry (yes g start b carry z) q (h .1)))
+      ∙ ap (λ (m : ℕ). eqb m 0) (mark-word (piecesOf (sizesOf g)) (b .words) (start .marks) q (h .1) (mark-on g start b (carry worker) (yes g start b (carry worker) z) q (h .1)))
       ∙ open-mark (wordAt b q)
   same-piece b q (average t ids1 ids2) h z = refl
 
   -- ---- a list of calls, from any book
 
-  runs-along : (calls : List Call) (b : Book) → length (b .words) ≡ piecesOf (sizesOf g) → (s : Sheet) → s ≡ render g start b → runsDone g s calls ≡ runsAccepted g start b calls
-  runs-along [] b long s e = refl
-  runs-along (c ∷ calls) b long s e =
-      ap₂ (λ (m n : ℕ). m + n) (rw e (counted b c (runsOn g (render g start b) c) (runsOf b c) 0 (same-runs b c long)))
-      (runs-along calls (turn g start b c) (turn-long g start b c ∙ long) (step g s c) (rw e (same-step g start b long c)))
+  runs-along : (w : ℕ) (calls : List Call) (b : Book) → length (b .words) ≡ piecesOf (sizesOf g) → (s : Sheet) → s ≡ render g start b → runsDone g s w calls ≡ runsAccepted g start b w calls
+  runs-along w [] b long s e = refl
+  runs-along w (c ∷ calls) b long s e =
+      ap₂ (λ (m n : ℕ). m + n) (rw e (counted b c (runsOn g (render g start b) w c) (runsOf b w c) 0 (same-runs b w c long)))
+      (runs-along w calls (turn g start b c) (turn-long g start b c ∙ long) (step g s c) (rw e (same-step g start b long c)))
 
   ran-along : (q : ℕ) (calls : List Call) (b : Book) (s : Sheet) → s ≡ render g start b → On g start b q → ranDone g s q calls ≡ hasRun g start b q calls
   ran-along q [] b s e h = refl
@@ -97,13 +98,13 @@ module _ (g : Study) (start : Sheet) (unmarked : start .marks ≡ replicate (len
   unfolding bookNo
   accepted-done c = rw (is-book g start unmarked calls) (done-zero (bookNo g start (booked g start (opened g start) calls) c))
 
-  -- the accepted runs are those answered Done, "repeats included"
-  pub runs-done : runsAccepted g start (opened g start) calls ≡ runsDone g start calls
-  runs-done = sym (runs-along g start calls (opened g start) (opened-long g start) start (opened-is g start unmarked))
+  -- a worker's accepted runs are those answered Done, "repeats included"
+  pub runs-done : (w : ℕ) → runsAccepted g start (opened g start) w calls ≡ runsDone g start w calls
+  runs-done w = sym (runs-along g start w calls (opened g start) (opened-long g start) start (opened-is g start unmarked))
 
-  -- and by so many the tally has grown
-  pub tally-done : played g start calls .tally ≡ start .tally + runsDone g start calls
-  tally-done = rw (← runs-done) (tally-is g start unmarked calls)
+  -- and by so many its count has grown
+  pub tally-done : (w : ℕ) → w < length (start .tally) → getD (played g start calls .tally) w 0 ≡ getD (start .tally) w 0 + runsDone g start w calls
+  tally-done w h = rw (← runs-done w) (tally-is g start unmarked calls w h)
 
   -- a piece has run where a call answered Done has run it
   pub ran-done : (q : ℕ) → q < piecesOf (sizesOf g) → hasRun g start (opened g start) q calls ≡ ranDone g start q calls

@@ -15,3 +15,4 @@ pub mod Words
 pub mod Corollaries
 pub mod MarkLaws
 pub mod DoneLaws
+pub mod SwapLaws

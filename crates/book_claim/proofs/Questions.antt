@@ -48,8 +48,8 @@ module _ (g : Study) (s : Sheet) (t : ℤ) (averaged : isAveragedAt (s .marks) (
   pub no-average : (ids1 ids2 : List ℤ) → verdict g s (average t ids1 ids2) ≡ 0 → ⊥
   no-average ids1 ids2 e = clash (sym fifteen ∙ accepted g s (average t ids1 ids2) e .own .1 .0)
 
-  pub no-run : (b1 b2 : ℤ) → verdict g s (run t b1 b2) ≡ 0 → ⊥
-  no-run b1 b2 e = clash (sym fifteen ∙ accepted g s (run t b1 b2) e .own .1 .0)
+  pub no-run : (worker b1 b2 : ℤ) → verdict g s (run worker t b1 b2) ≡ 0 → ⊥
+  no-run worker b1 b2 e = clash (sym fifteen ∙ accepted g s (run worker t b1 b2) e .own .1 .0)
 
 -- ---- and where the questions before say yes, both are refused with 15
 
@@ -63,8 +63,8 @@ module _ (g : Study) (s : Sheet) (t : ℤ) (study : firstNo (studyQuestions g) �
       group-yes (studyQuestions g) (sheetQuestions (sizesOf g) (length (s .weights)) (length (s .flags)) (s .marks) ++ ownQuestions g s (average t ids1 ids2)) (study-numbered g) study
       ∙ rw (lengths, marks, on, fifteen g s t averaged)
 
-  pub averaged-run : (b1 b2 : ℤ) → isPiece (sizesOf g) t b1 b2 ≡ true → verdict g s (run t b1 b2) ≡ 15
+  pub averaged-run : (worker b1 b2 : ℤ) → isPiece (sizesOf g) t b1 b2 ≡ true → verdict g s (run worker t b1 b2) ≡ 15
   unfolding verdict firstNo
-  averaged-run b1 b2 on =
-      group-yes (studyQuestions g) (sheetQuestions (sizesOf g) (length (s .weights)) (length (s .flags)) (s .marks) ++ ownQuestions g s (run t b1 b2)) (study-numbered g) study
+  averaged-run worker b1 b2 on =
+      group-yes (studyQuestions g) (sheetQuestions (sizesOf g) (length (s .weights)) (length (s .flags)) (s .marks) ++ ownQuestions g s (run worker t b1 b2)) (study-numbered g) study
       ∙ rw (lengths, marks, on, fifteen g s t averaged)

@@ -1,6 +1,6 @@
 -- A run and a carry-on that are accepted on the book's sheet make the sheet of the book that is written. Assumes nothing.
 use mathlib.Core.Path.{_≡_, refl, sym, ap, subst, _∙_}
-use Prim.Native.Nat.{ℕ, _+_, _*_, _%_, _<_}
+use Prim.Native.Nat.{ℕ, _*_, _%_, _<_}
 use native.Mathlib.Nat.{mod-lt}
 use lib.IntN.{ℤ}
 use mathlib.Core.List.{map}
@@ -13,6 +13,7 @@ use Rattle.triplet_study.specs.Study.{Study, sizesOf}
 use Rattle.marks.specs.Bytes.{placesIn, Holds}
 use Rattle.marks.specs.Marks.{openPieces}
 use Rattle.marks.proofs.BytesLaws.{all-in, place-in, holds-same}
+use Rattle.sheet_marks.specs.Tallies.{withRuns}
 use Rattle.sheet_step.specs.Steps.{Sheet, sheet, Call, run, carry, piecesOf, pieceOf, effect}
 use Rattle.book_claim.specs.Book.{fresh, Book, isOpen, openWords, carried, weightBy, flagBy, wordOfWeight, wordOfFlag, render, writes}
 use Rattle.book_claim.proofs.EntryLaws.{length-each, patch-each}
@@ -63,19 +64,19 @@ module _ (g : Study) (start : Sheet) (b : Book) where
 
   module _ (long : length (b .words) ≡ piecesOf (sizesOf g)) where
     -- the open pieces of the marks are those of the words
-    pub open-runs : Accepted g (render g start b) carry → openPieces (piecesOf (sizesOf g)) (render g start b .marks) ≡ openWords (b .words)
+    pub open-runs : (worker : ℤ) → Accepted g (render g start b) (carry worker) → openPieces (piecesOf (sizesOf g)) (render g start b .marks) ≡ openWords (b .words)
     unfolding render openWords
-    open-runs a =
-        open-count (piecesOf (sizesOf g)) (b .words) (start .marks) (all-in (piecesOf (sizesOf g)) (start .marks) (all-marked carry a))
+    open-runs worker a =
+        open-count (piecesOf (sizesOf g)) (b .words) (start .marks) (all-in (piecesOf (sizesOf g)) (start .marks) (all-marked (carry worker) a))
         ∙ ap (λ (n : ℕ). countBelow n (λ q. isOpen (getD (b .words) q fresh))) (sym long)
 
     -- ---- a run
 
-    pub run-same : (t b1 b2 : ℤ) → Accepted g (render g start b) (run t b1 b2) → effect g (render g start b) (run t b1 b2) ≡ render g start (writes g b (run t b1 b2))
+    pub run-same : (worker t b1 b2 : ℤ) → Accepted g (render g start b) (run worker t b1 b2) → effect g (render g start b) (run worker t b1 b2) ≡ render g start (writes g b (run worker t b1 b2))
     unfolding effect render writes computedWeights computedFlags weightBy flagBy
-    run-same t b1 b2 a =
+    run-same worker t b1 b2 a =
         let q : ℕ = pieceOf (sizesOf g) t b1 b2 in
-        let on : q < piecesOf (sizesOf g) = named g (render g start b) t b1 b2 a in
+        let on : q < piecesOf (sizesOf g) = named g (render g start b) worker t b1 b2 a in
         let h : q < length (b .words) = rw long on in
         sheet-same
         (patch-each _ _ _ _ (start .weights)
@@ -86,15 +87,15 @@ module _ (g : Study) (start : Sheet) (b : Book) where
 
     -- ---- a carry-on
 
-    pub carry-same : Accepted g (render g start b) carry → effect g (render g start b) carry ≡ render g start (writes g b carry)
+    pub carry-same : (worker : ℤ) → Accepted g (render g start b) (carry worker) → effect g (render g start b) (carry worker) ≡ render g start (writes g b (carry worker))
     unfolding effect render writes computedWeights computedFlags weightBy flagBy
-    carry-same a =
+    carry-same worker a =
         sheet-same
         (patch-each _ _ _ _ (start .weights)
-        (λ i h x. let on : pieceAt (sizesOf g .points) (sizesOf g .pairs) (i % sizesOf g .cells) < piecesOf (sizesOf g) = weight-on carry a i h in
-        carry-entry (b .words) (start .marks) (piecesOf (sizesOf g)) (pieceAt (sizesOf g .points) (sizesOf g .pairs) (i % sizesOf g .cells)) (λ w old. weightBy g w i old) _ x on (rw long on) (mark-on carry a _ on) refl))
+        (λ i h x. let on : pieceAt (sizesOf g .points) (sizesOf g .pairs) (i % sizesOf g .cells) < piecesOf (sizesOf g) = weight-on (carry worker) a i h in
+        carry-entry (b .words) (start .marks) (piecesOf (sizesOf g)) (pieceAt (sizesOf g .points) (sizesOf g .pairs) (i % sizesOf g .cells)) (λ w old. weightBy g w i old) _ x on (rw long on) (mark-on (carry worker) a _ on) refl))
         (patch-each _ _ _ _ (start .flags)
-        (λ j h x. let on : pieceAt (sizesOf g .points) (sizesOf g .pairs) j < piecesOf (sizesOf g) = flag-on carry a j h in
-        carry-entry (b .words) (start .marks) (piecesOf (sizesOf g)) (pieceAt (sizesOf g .points) (sizesOf g .pairs) j) (λ w old. flagBy g w j old) _ x on (rw long on) (mark-on carry a _ on) refl))
+        (λ j h x. let on : pieceAt (sizesOf g .points) (sizesOf g .pairs) j < piecesOf (sizesOf g) = flag-on (carry worker) a j h in
+        carry-entry (b .words) (start .marks) (piecesOf (sizesOf g)) (pieceAt (sizesOf g .points) (sizesOf g .pairs) j) (λ w old. flagBy g w j old) _ x on (rw long on) (mark-on (carry worker) a _ on) refl))
         (carry-marks (piecesOf (sizesOf g)) (b .words) (start .marks) (map carried (b .words)) (λ q l. getD-map-lt carried (b .words) q fresh fresh (rw long l)))
-        (ap (λ (n : ℕ). b .tally + n) (open-runs a))
+        (ap (withRuns (b .tally) worker) (open-runs worker a))

@@ -98,8 +98,8 @@ module _ (g : Study) (start : Sheet) (b : Book) where
   turn-long c = go c (bookNo g start b c)
     where
       go : (c : Call) (n : ℕ) → length (afterCall n (writes g b c) b .words) ≡ length (b .words)
-      go (run t b1 b2) zero = length-set (b .words) (pieceOf (sizesOf g) t b1 b2) computed
-      go carry zero = length-map (b .words) carried
+      go (run worker t b1 b2) zero = length-set (b .words) (pieceOf (sizesOf g) t b1 b2) computed
+      go (carry worker) zero = length-map (b .words) carried
       go (average t ids1 ids2) zero = length-patch (λ q. eqb (q / sizesOf g .pairs) (mag t)) (λ q. averagedBy ids1 ids2) (b .words)
       go c (suc n) = refl
 
@@ -110,11 +110,11 @@ module _ (g : Study) (start : Sheet) (b : Book) where
 
   module _ (q : ℕ) (h : On g start b q) where
     -- an accepted run is not of an averaged piece
-    run-open : (t b1 b2 : ℤ) → Accepted g (render g start b) (run t b1 b2) → q ≡ pieceOf (sizesOf g) t b1 b2 → isAveraged (wordAt b q) ≡ false
+    run-open : (worker t b1 b2 : ℤ) → Accepted g (render g start b) (run worker t b1 b2) → q ≡ pieceOf (sizesOf g) t b1 b2 → isAveraged (wordAt b q) ≡ false
     unfolding render
-    run-open t b1 b2 a e =
+    run-open worker t b1 b2 a e =
         let in-row : _ = piece-in (sizesOf g) t b1 b2 (counts a .pairs-are) (a .own .0) in
-        none-averaged (b .words) (start .marks) (piecesOf (sizesOf g)) (all-in (piecesOf (sizesOf g)) (start .marks) (all-marked g start b (run t b1 b2) a)) (sizesOf g .pairs) (mag t) q (a .fine) (a .own .1 .0) (rw e (digits-div (mag t) (in-row .1))) (h .1)
+        none-averaged (b .words) (start .marks) (piecesOf (sizesOf g)) (all-in (piecesOf (sizesOf g)) (start .marks) (all-marked g start b (run worker t b1 b2) a)) (sizesOf g .pairs) (mag t) q (a .fine) (a .own .1 .0) (rw e (digits-div (mag t) (in-row .1))) (h .1)
 
     -- an accepted averaging is of computed pieces
     average-computed : (t : ℤ) (ids1 ids2 : List ℤ) → Accepted g (render g start b) (average t ids1 ids2) → q / sizesOf g .pairs ≡ mag t → wordAt b q ≡ computed
@@ -137,10 +137,10 @@ module _ (g : Study) (start : Sheet) (b : Book) where
     unfolding turn writes
     kept c av = go c (bookNo g start b c) refl
       where
-        at-run : (t b1 b2 : ℤ) → Accepted g (render g start b) (run t b1 b2) → (u : Bool) → eqb q (pieceOf (sizesOf g) t b1 b2) ≡ u
+        at-run : (worker t b1 b2 : ℤ) → Accepted g (render g start b) (run worker t b1 b2) → (u : Bool) → eqb q (pieceOf (sizesOf g) t b1 b2) ≡ u
             → getD (set (b .words) (pieceOf (sizesOf g) t b1 b2) computed) q fresh ≡ wordAt b q
-        at-run t b1 b2 a true e = clash (sym (run-open t b1 b2 a (eqb-true q (pieceOf (sizesOf g) t b1 b2) e)) ∙ av)
-        at-run t b1 b2 a false e = getD-set-other (b .words) (pieceOf (sizesOf g) t b1 b2) q computed fresh (eqb-false q (pieceOf (sizesOf g) t b1 b2) e)
+        at-run worker t b1 b2 a true e = clash (sym (run-open worker t b1 b2 a (eqb-true q (pieceOf (sizesOf g) t b1 b2) e)) ∙ av)
+        at-run worker t b1 b2 a false e = getD-set-other (b .words) (pieceOf (sizesOf g) t b1 b2) q computed fresh (eqb-false q (pieceOf (sizesOf g) t b1 b2) e)
 
         at-average : (t : ℤ) (ids1 ids2 : List ℤ) → Accepted g (render g start b) (average t ids1 ids2) → (u : Bool) → eqb (q / sizesOf g .pairs) (mag t) ≡ u
             → cond u (averagedBy ids1 ids2) (wordAt b q) ≡ wordAt b q
@@ -148,8 +148,8 @@ module _ (g : Study) (start : Sheet) (b : Book) where
         at-average t ids1 ids2 a false e = refl
 
         go : (c : Call) (n : ℕ) → bookNo g start b c ≡ n → wordAt (afterCall n (writes g b c) b) q ≡ wordAt b q
-        go (run t b1 b2) zero e = at-run t b1 b2 (yes (run t b1 b2) e) (eqb q (pieceOf (sizesOf g) t b1 b2)) refl
-        go carry zero e = getD-map-lt carried (b .words) q fresh fresh (on-word g start b q h) ∙ carried-kept (wordAt b q) av
+        go (run worker t b1 b2) zero e = at-run worker t b1 b2 (yes (run worker t b1 b2) e) (eqb q (pieceOf (sizesOf g) t b1 b2)) refl
+        go (carry worker) zero e = getD-map-lt carried (b .words) q fresh fresh (on-word g start b q h) ∙ carried-kept (wordAt b q) av
         go (average t ids1 ids2) zero e =
             getD-patch (λ q. eqb (q / sizesOf g .pairs) (mag t)) (λ q. averagedBy ids1 ids2) (b .words) q fresh (on-word g start b q h)
             ∙ at-average t ids1 ids2 (yes (average t ids1 ids2) e) (eqb (q / sizesOf g .pairs) (mag t)) refl
@@ -165,13 +165,13 @@ module _ (g : Study) (start : Sheet) (b : Book) where
         none : (x : Bool) → oneIf x + 0 ≡ oneIf x
         none x = omega arith
 
-        at-run : (t b1 b2 : ℤ) → Accepted g (render g start b) (run t b1 b2) → (u : Bool) → eqb q (pieceOf (sizesOf g) t b1 b2) ≡ u
+        at-run : (worker t b1 b2 : ℤ) → Accepted g (render g start b) (run worker t b1 b2) → (u : Bool) → eqb q (pieceOf (sizesOf g) t b1 b2) ≡ u
             → isAveraged (wordAt b q) ≡ isAveraged (getD (set (b .words) (pieceOf (sizesOf g) t b1 b2) computed) q fresh)
-        at-run t b1 b2 a true e =
+        at-run worker t b1 b2 a true e =
             let p : q ≡ pieceOf (sizesOf g) t b1 b2 = eqb-true q (pieceOf (sizesOf g) t b1 b2) e in
             let w : getD (set (b .words) (pieceOf (sizesOf g) t b1 b2) computed) q fresh ≡ computed = rw (← p) (getD-set-same (b .words) q computed fresh (on-word g start b q h)) in
-            run-open t b1 b2 a p ∙ sym (ap isAveraged w)
-        at-run t b1 b2 a false e = ap isAveraged (sym (getD-set-other (b .words) (pieceOf (sizesOf g) t b1 b2) q computed fresh (eqb-false q (pieceOf (sizesOf g) t b1 b2) e)))
+            run-open worker t b1 b2 a p ∙ sym (ap isAveraged w)
+        at-run worker t b1 b2 a false e = ap isAveraged (sym (getD-set-other (b .words) (pieceOf (sizesOf g) t b1 b2) q computed fresh (eqb-false q (pieceOf (sizesOf g) t b1 b2) e)))
 
         at-average : (t : ℤ) (ids1 ids2 : List ℤ) → Accepted g (render g start b) (average t ids1 ids2) → (u : Bool) → eqb (q / sizesOf g .pairs) (mag t) ≡ u
             → oneIf (isAveraged (wordAt b q)) + oneIf u ≡ oneIf (isAveraged (cond u (averagedBy ids1 ids2) (wordAt b q)))
@@ -180,8 +180,8 @@ module _ (g : Study) (start : Sheet) (b : Book) where
 
         go : (c : Call) (n : ℕ) → bookNo g start b c ≡ n
             → oneIf (isAveraged (wordAt b q)) + afterCall n (oneIf (averages (q / sizesOf g .pairs) c)) 0 ≡ oneIf (isAveraged (wordAt (afterCall n (writes g b c) b) q))
-        go (run t b1 b2) zero e = none (isAveraged (wordAt b q)) ∙ ap oneIf (at-run t b1 b2 (yes (run t b1 b2) e) (eqb q (pieceOf (sizesOf g) t b1 b2)) refl)
-        go carry zero e = none (isAveraged (wordAt b q)) ∙ ap oneIf (sym (ap isAveraged (getD-map-lt carried (b .words) q fresh fresh (on-word g start b q h)) ∙ carried-averaged (wordAt b q)))
+        go (run worker t b1 b2) zero e = none (isAveraged (wordAt b q)) ∙ ap oneIf (at-run worker t b1 b2 (yes (run worker t b1 b2) e) (eqb q (pieceOf (sizesOf g) t b1 b2)) refl)
+        go (carry worker) zero e = none (isAveraged (wordAt b q)) ∙ ap oneIf (sym (ap isAveraged (getD-map-lt carried (b .words) q fresh fresh (on-word g start b q h)) ∙ carried-averaged (wordAt b q)))
         go (average t ids1 ids2) zero e =
             at-average t ids1 ids2 (yes (average t ids1 ids2) e) (eqb (q / sizesOf g .pairs) (mag t)) refl
             ∙ ap (λ (w : Word). oneIf (isAveraged w)) (sym (getD-patch (λ q. eqb (q / sizesOf g .pairs) (mag t)) (λ q. averagedBy ids1 ids2) (b .words) q fresh (on-word g start b q h)))
@@ -193,13 +193,13 @@ module _ (g : Study) (start : Sheet) (b : Book) where
     unfolding turn writes
     open-turn c = go c (bookNo g start b c) refl
       where
-        at-run : (t b1 b2 : ℤ) (u : Bool) → eqb q (pieceOf (sizesOf g) t b1 b2) ≡ u
+        at-run : (worker t b1 b2 : ℤ) (u : Bool) → eqb q (pieceOf (sizesOf g) t b1 b2) ≡ u
             → isOpen (getD (set (b .words) (pieceOf (sizesOf g) t b1 b2) computed) q fresh) ≡ (isOpen (wordAt b q) && not u)
-        at-run t b1 b2 true e =
+        at-run worker t b1 b2 true e =
             let p : q ≡ pieceOf (sizesOf g) t b1 b2 = eqb-true q (pieceOf (sizesOf g) t b1 b2) e in
             let w : getD (set (b .words) (pieceOf (sizesOf g) t b1 b2) computed) q fresh ≡ computed = rw (← p) (getD-set-same (b .words) q computed fresh (on-word g start b q h)) in
             ap isOpen w ∙ and-false (isOpen (wordAt b q))
-        at-run t b1 b2 false e =
+        at-run worker t b1 b2 false e =
             ap isOpen (getD-set-other (b .words) (pieceOf (sizesOf g) t b1 b2) q computed fresh (eqb-false q (pieceOf (sizesOf g) t b1 b2) e)) ∙ and-true (isOpen (wordAt b q))
 
         at-average : (t : ℤ) (ids1 ids2 : List ℤ) → Accepted g (render g start b) (average t ids1 ids2) → (u : Bool) → eqb (q / sizesOf g .pairs) (mag t) ≡ u
@@ -209,8 +209,8 @@ module _ (g : Study) (start : Sheet) (b : Book) where
 
         go : (c : Call) (n : ℕ) → bookNo g start b c ≡ n
             → isOpen (wordAt (afterCall n (writes g b c) b) q) ≡ (isOpen (wordAt b q) && not (afterCall n (runsPiece g b q c) false))
-        go (run t b1 b2) zero e = at-run t b1 b2 (eqb q (pieceOf (sizesOf g) t b1 b2)) refl
-        go carry zero e = ap isOpen (getD-map-lt carried (b .words) q fresh fresh (on-word g start b q h)) ∙ carried-open (wordAt b q)
+        go (run worker t b1 b2) zero e = at-run worker t b1 b2 (eqb q (pieceOf (sizesOf g) t b1 b2)) refl
+        go (carry worker) zero e = ap isOpen (getD-map-lt carried (b .words) q fresh fresh (on-word g start b q h)) ∙ carried-open (wordAt b q)
         go (average t ids1 ids2) zero e =
             ap isOpen (getD-patch (λ q. eqb (q / sizesOf g .pairs) (mag t)) (λ q. averagedBy ids1 ids2) (b .words) q fresh (on-word g start b q h))
             ∙ at-average t ids1 ids2 (yes (average t ids1 ids2) e) (eqb (q / sizesOf g .pairs) (mag t)) refl

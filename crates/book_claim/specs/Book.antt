@@ -16,7 +16,7 @@ use Rattle.triplet_piece.specs.Layout.{pieceAt}
 use Rattle.triplet_piece.specs.Weights.{weightAt, flagAt}
 use Rattle.triplet_study.specs.Study.{Study, sizesOf}
 use Rattle.sheet_marks.specs.declared.SheetAnswer.{SheetAnswer}
-use Rattle.sheet_marks.specs.Tallies.{sheetAnswer}
+use Rattle.sheet_marks.specs.Tallies.{sheetAnswer, withRuns}
 use Rattle.sheet_step.specs.Steps.{Sheet, sheet, Call, run, carry, average, piecesOf, verdict, pieceOf, averagedAt, averagedFlagAt}
 
 -- ---- what the book holds
@@ -27,13 +27,13 @@ pub data Word : Type 0 where
   computed : Word
   averagedBy : List ℤ → List ℤ → Word
 
--- "It holds a word for each piece .., and a tally"; the words lie as the marks do
+-- "It holds a word for each piece .., and a tally"; the words lie as the marks do, the tally has a count for each worker
 pub record Book : Type 0 where
   pub words : List Word
-  pub tally : ℕ
+  pub tally : List ℕ
 
 -- a book from its parts
-abbrev pub book : List Word → ℕ → Book
+abbrev pub book : List Word → List ℕ → Book
 book words tally = record { words = words; tally = tally }
 
 -- "The book is fed the study, the sheet and tally at the start": "a word for each piece, at first open, and a tally"
@@ -124,12 +124,12 @@ abbrev pub carried : Word → Word
 carried word = cond (isOpen word) computed word
 
 -- What an accepted call writes.
--- "Running a piece: its word becomes computed, the tally goes up by one."
--- "Carrying on: each open piece becomes computed, the tally goes up by their number."
+-- "Running a piece: its word becomes computed, the tally goes up by one", in its worker's count.
+-- "Carrying on: each open piece becomes computed, the tally goes up by their number", in its worker's count.
 -- "Averaging: the triplet's pieces become averaged, this call's id lists are written beside them, the tally stays."
 unfoldable pub writes : Study → Book → Call → Book
-writes g b (run t b1 b2) = book (set (b .words) (pieceOf (sizesOf g) t b1 b2) computed) (b .tally + 1)
-writes g b carry = book (map carried (b .words)) (b .tally + openWords (b .words))
+writes g b (run worker t b1 b2) = book (set (b .words) (pieceOf (sizesOf g) t b1 b2) computed) (withRuns (b .tally) worker 1)
+writes g b (carry worker) = book (map carried (b .words)) (withRuns (b .tally) worker (openWords (b .words)))
 writes g b (average t ids1 ids2) = book (patch (λ q. eqb (q / sizesOf g .pairs) (mag t)) (λ q. averagedBy ids1 ids2) (b .words)) (b .tally)
 
 -- "A call is asked its questions with the book's words as marks, the book's entries (below) as weights, and the book's tally.": the number

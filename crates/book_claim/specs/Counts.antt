@@ -1,5 +1,5 @@
 -- What the readers' statements count along a list of calls: accepted runs, the runs of one piece, the averagings of one triplet, refusals.
-use mathlib.Core.Bool.{Bool, true, false, _||_}
+use mathlib.Core.Bool.{Bool, true, false, _||_, cond}
 use mathlib.Core.List.{List, [], _∷_, _++_}
 use mathlib.Core.Path.{_≡_}
 use Prim.Native.Nat.{ℕ, _+_}
@@ -7,6 +7,7 @@ use lib.Dec.{eqb}
 use lib.IntN.{ℤ}
 use lib.Signed.{mag}
 use Rattle.list_laws.specs.Lists.{oneIf}
+use Rattle.list_laws.specs.Signed.{isNat}
 use Rattle.ask.specs.Ask.{afterCall}
 use Rattle.triplet_study.specs.Study.{Study, sizesOf}
 use Rattle.ask.specs.declared.Answer.{Answer}
@@ -15,25 +16,25 @@ use Rattle.sheet_marks.specs.declared.SheetAnswer.{SheetAnswer}
 use Rattle.sheet_step.specs.Steps.{Sheet, Call, run, carry, average, pieceOf}
 use Rattle.book_claim.specs.Book.{wordAt, Word, fresh, computed, averagedBy, Book, isOpen, openWords, bookNo, turn, booked}
 
--- ---- "The tally counts accepted runs, repeats included"
+-- ---- "each of the sixteen has grown by exactly its own worker's accepted runs, repeats included"
 
--- how many runs a call makes: a run of a piece one, a carry-on one for each open piece, an averaging none
-abbrev pub runsOf : Book → Call → ℕ
-runsOf b (run t b1 b2) = 1
-runsOf b carry = openWords (b .words)
-runsOf b (average t ids1 ids2) = 0
+-- how many runs a call makes for worker w: a run that names it one, a carry-on that names it one for each open piece, any other call none
+abbrev pub runsOf : Book → ℕ → Call → ℕ
+runsOf b w (run worker t b1 b2) = cond (isNat worker w) 1 0
+runsOf b w (carry worker) = cond (isNat worker w) (openWords (b .words)) 0
+runsOf b w (average t ids1 ids2) = 0
 
--- the accepted runs of a list of calls
-abbrev pub runsAccepted : Study → Sheet → Book → List Call → ℕ
-runsAccepted g start b [] = 0
-runsAccepted g start b (c ∷ calls) = afterCall (bookNo g start b c) (runsOf b c) 0 + runsAccepted g start (turn g start b c) calls
+-- its accepted runs in a list of calls
+abbrev pub runsAccepted : Study → Sheet → Book → ℕ → List Call → ℕ
+runsAccepted g start b w [] = 0
+runsAccepted g start b w (c ∷ calls) = afterCall (bookNo g start b c) (runsOf b w c) 0 + runsAccepted g start (turn g start b c) w calls
 
 -- ---- one piece: whether it has been run
 
 -- whether a call runs piece q: it names it, or carries on while the piece is open
 abbrev pub runsPiece : Study → Book → ℕ → Call → Bool
-runsPiece g b q (run t b1 b2) = eqb q (pieceOf (sizesOf g) t b1 b2)
-runsPiece g b q carry = isOpen (wordAt b q)
+runsPiece g b q (run worker t b1 b2) = eqb q (pieceOf (sizesOf g) t b1 b2)
+runsPiece g b q (carry worker) = isOpen (wordAt b q)
 runsPiece g b q (average t ids1 ids2) = false
 
 -- whether an accepted call of the list has run it
@@ -45,8 +46,8 @@ hasRun g start b q (c ∷ calls) = afterCall (bookNo g start b c) (runsPiece g b
 
 -- whether a call averages triplet t
 abbrev pub averages : ℕ → Call → Bool
-averages t (run t′ b1 b2) = false
-averages t carry = false
+averages t (run worker t′ b1 b2) = false
+averages t (carry worker) = false
 averages t (average t′ ids1 ids2) = eqb t (mag t′)
 
 -- the accepted averagings of triplet t in a list of calls

@@ -4,6 +4,7 @@ use mathlib.Core.List.{List, [], _∷_}
 use Prim.Native.Nat.{ℕ, _+_}
 use lib.Dec.{eqb}
 use Rattle.list_laws.specs.Lists.{oneIf}
+use Rattle.list_laws.specs.Signed.{isNat}
 use Rattle.triplet_study.specs.Study.{Study, sizesOf}
 use Rattle.ask.specs.declared.Answer.{Answer}
 use Rattle.ask.specs.declared.Answer.the-variants.{Done, Refused}
@@ -16,21 +17,22 @@ abbrev pub isDone : Answer → Bool
 isDone Done = true
 isDone (Refused n) = false
 
--- how many runs a call makes on a sheet: a run of a piece one, a carry-on one for each mark 0, an averaging none
-abbrev pub runsOn : Study → Sheet → Call → ℕ
-runsOn g s (run t b1 b2) = 1
-runsOn g s carry = openPieces (piecesOf (sizesOf g)) (s .marks)
-runsOn g s (average t ids1 ids2) = 0
+-- how many runs a call makes for worker w on a sheet: a run that names it one, a carry-on that names it one for each mark 0, any other
+-- call none
+abbrev pub runsOn : Study → Sheet → ℕ → Call → ℕ
+runsOn g s w (run worker t b1 b2) = cond (isNat worker w) 1 0
+runsOn g s w (carry worker) = cond (isNat worker w) (openPieces (piecesOf (sizesOf g)) (s .marks)) 0
+runsOn g s w (average t ids1 ids2) = 0
 
--- the runs of the calls that were answered Done
-abbrev pub runsDone : Study → Sheet → List Call → ℕ
-runsDone g s [] = 0
-runsDone g s (c ∷ calls) = cond (isDone (stepAnswer g s c .answer)) (runsOn g s c) 0 + runsDone g (step g s c) calls
+-- its runs in the calls that were answered Done
+abbrev pub runsDone : Study → Sheet → ℕ → List Call → ℕ
+runsDone g s w [] = 0
+runsDone g s w (c ∷ calls) = cond (isDone (stepAnswer g s c .answer)) (runsOn g s w c) 0 + runsDone g (step g s c) w calls
 
 -- whether a call runs piece q of a sheet: it names it, or carries on while its mark is 0
 abbrev pub runsPieceOn : Study → Sheet → ℕ → Call → Bool
-runsPieceOn g s q (run t b1 b2) = eqb q (pieceOf (sizesOf g) t b1 b2)
-runsPieceOn g s q carry = isOpenAt (piecesOf (sizesOf g)) (s .marks) q
+runsPieceOn g s q (run worker t b1 b2) = eqb q (pieceOf (sizesOf g) t b1 b2)
+runsPieceOn g s q (carry worker) = isOpenAt (piecesOf (sizesOf g)) (s .marks) q
 runsPieceOn g s q (average t ids1 ids2) = false
 
 -- whether a call that was answered Done has run it

@@ -4,3 +4,4 @@ pub mod Lists
 pub mod Counts
 pub mod Marked
 pub mod Done
+pub mod Workers

@@ -11,8 +11,8 @@ use sheet_list::Shape;
 use sheet_list::Tally;
 
 // Plays a list of calls, six numbers a call, on a sheet with any marks, and counts the runs behind `tally`. Each call's status goes to its
-// place in `answers`, the tally after it to its place in `tallies`. The status is 0, or 12: has the list six numbers for each of `answers`
-// and of `tallies`? What a call asks is told in its place alone.
+// place in `answers`, the sixteen counts after it to their places in `tallies`. The status is 0, or 12: has the list six numbers, and
+// `tallies` sixteen, for each of `answers`? What a call asks is told in its place alone.
 #[no_mangle]
 pub extern "C" fn pelmetsavory_play(
     shape: Shape,
@@ -26,7 +26,7 @@ pub extern "C" fn pelmetsavory_play(
     weights: &mut [f64],
     flags: &mut [i8],
     marks: &mut [u8],
-    tally: &mut u64,
+    tally: &mut [u64; 16],
     list: &[i64],
     ids: &[i64],
     answers: &mut [u64],
@@ -57,7 +57,8 @@ pub extern "C" fn pelmetsavory_play(
         tallies,
     );
     let after = done.tally;
-    *tally = after.runs;
+    let counts = after.runs;
+    *tally = counts;
     let answer = done.answer;
     number_of(answer)
 }

@@ -1,13 +1,13 @@
 // The run sheet: its calls, the open count, the tally.
 ghost use mathlib.Core.Path.{_≡_};
-ghost use Prim.Native.Nat.{_*_, _+_};
+ghost use Prim.Native.Nat.{_*_};
 ghost use lib.ListN.{length};
 ghost use lib.Signed.{mag};
 ghost use Rattle.ask.specs.Ask.{firstNo, afterCall};
 ghost use Rattle.triplet_study.specs.Lent.{studyIn};
 ghost use Rattle.sheet_step.specs.Lent.{sheetIn, sheetOut};
 ghost use Rattle.sheet_step.specs.Steps.{run, carry, average, Called};
-ghost use Rattle.sheet_marks.specs.Tallies.{tallyQuestions};
+ghost use Rattle.sheet_marks.specs.Tallies.{tallyQuestions, withRuns};
 ghost use Rattle.sheet_marks.specs.OpenCount.{openQuestions, zerosFrom, cellsPerTriplet};
 use crate::Piece;
 use ask::kernel::number_of;
@@ -15,7 +15,7 @@ use sheet::Counts;
 use sheet::Shape;
 use sheet::Tally;
 
-// Runs one piece, and counts it behind `tally`. Questions 3 to 15, 20.
+// Runs one piece, and counts it behind `tally` for its worker, 0 to 15. Questions 3 to 15, 21, 20.
 #[no_mangle]
 pub extern "C" fn pelmetsavory_run_piece(
     shape: Shape,
@@ -29,11 +29,12 @@ pub extern "C" fn pelmetsavory_run_piece(
     weights: &mut [f64],
     flags: &mut [i8],
     marks: &mut [u8],
-    tally: &mut u64,
+    tally: &mut [u64; 16],
+    worker: i64,
     piece: Piece,
 ) -> u64
     ensures { λ r. ⌜ Called (studyIn shape addresses «gp_map» «relative_grid_address» frequencies1 frequencies2 «frequency_points» triplets)
-        (sheetIn weights flags marks (now (tally .entry))) (run (piece .triplet) (piece .b1) (piece .b2)) r (sheetOut weights flags marks (now (tally .exit))) ⌝ }
+        (sheetIn weights flags marks (now (tally .entry))) (run worker (piece .triplet) (piece .b1) (piece .b2)) r (sheetOut weights flags marks (now (tally .exit))) ⌝ }
 {
     let runs = *tally;
     let before = Tally { runs };
@@ -53,17 +54,20 @@ pub extern "C" fn pelmetsavory_run_piece(
         flags,
         marks,
         before,
+        worker,
         triplet,
         b1,
         b2,
     );
     let after = done.tally;
-    *tally = after.runs;
+    let counts = after.runs;
+    *tally = counts;
     let answer = done.answer;
     number_of(answer)
 }
 
-// Runs all pieces marked 0, in ascending order, and counts them behind `tally`. Questions 3 to 13, 20.
+// Runs all pieces marked 0, in ascending order, and counts them behind `tally` for their worker, 0 to 15.
+// Questions 3 to 13, 21, 20.
 #[no_mangle]
 pub extern "C" fn pelmetsavory_carry_on(
     shape: Shape,
@@ -77,10 +81,11 @@ pub extern "C" fn pelmetsavory_carry_on(
     weights: &mut [f64],
     flags: &mut [i8],
     marks: &mut [u8],
-    tally: &mut u64,
+    tally: &mut [u64; 16],
+    worker: i64,
 ) -> u64
     ensures { λ r. ⌜ Called (studyIn shape addresses «gp_map» «relative_grid_address» frequencies1 frequencies2 «frequency_points» triplets)
-        (sheetIn weights flags marks (now (tally .entry))) carry r (sheetOut weights flags marks (now (tally .exit))) ⌝ }
+        (sheetIn weights flags marks (now (tally .entry))) (carry worker) r (sheetOut weights flags marks (now (tally .exit))) ⌝ }
 {
     let runs = *tally;
     let before = Tally { runs };
@@ -97,14 +102,16 @@ pub extern "C" fn pelmetsavory_carry_on(
         flags,
         marks,
         before,
+        worker,
     );
     let after_all = done.tally;
-    *tally = after_all.runs;
+    let counts = after_all.runs;
+    *tally = counts;
     let answer = done.answer;
     number_of(answer)
 }
 
-// Averages a triplet over the degenerate sets of two id lists; the tally stays. Questions 3 to 19.
+// Averages a triplet over the degenerate sets of two id lists; all counts stay, and it names no worker. Questions 3 to 19.
 #[no_mangle]
 pub extern "C" fn pelmetsavory_average_triplet(
     shape: Shape,
@@ -118,7 +125,7 @@ pub extern "C" fn pelmetsavory_average_triplet(
     weights: &mut [f64],
     flags: &mut [i8],
     marks: &mut [u8],
-    tally: &mut u64,
+    tally: &mut [u64; 16],
     triplet: i64,
     degenerate_ids1: &[i64],
     degenerate_ids2: &[i64],
@@ -146,7 +153,8 @@ pub extern "C" fn pelmetsavory_average_triplet(
         degenerate_ids2,
     );
     let same = done.tally;
-    *tally = same.runs;
+    let counts = same.runs;
+    *tally = counts;
     let answer = done.answer;
     number_of(answer)
 }
@@ -166,11 +174,11 @@ pub extern "C" fn pelmetsavory_open_count(
     statuses::sheets::open_count(counts, flags, triplet, count)
 }
 
-// Adds runs behind `tally`. Question 20.
+// Adds a worker's runs behind `tally`. Questions 21, 20.
 #[no_mangle]
-pub extern "C" fn pelmetsavory_tally_add(tally: &mut u64, runs: u64) -> u64
-    ensures { λ r. ⌜ r ≡ firstNo (tallyQuestions (now (tally .entry)) runs) ⌝ }
-    ensures { λ r. ⌜ now (tally .exit) ≡ afterCall (firstNo (tallyQuestions (now (tally .entry)) runs)) (now (tally .entry) + runs) (now (tally .entry)) ⌝ }
+pub extern "C" fn pelmetsavory_tally_add(tally: &mut [u64; 16], worker: i64, runs: u64) -> u64
+    ensures { λ r. ⌜ r ≡ firstNo (tallyQuestions (now (tally .entry)) worker runs) ⌝ }
+    ensures { λ r. ⌜ now (tally .exit) ≡ afterCall (firstNo (tallyQuestions (now (tally .entry)) worker runs)) (withRuns (now (tally .entry)) worker runs) (now (tally .entry)) ⌝ }
 {
-    statuses::sheets::tally_add(tally, runs)
+    statuses::sheets::tally_add(tally, worker, runs)
 }

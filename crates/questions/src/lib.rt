@@ -41,3 +41,5 @@ pub const NOT_COMPUTED: u64 = 18;
 pub const BAD_WEIGHT: u64 = 19;
 
 pub const TALLY_FULL: u64 = 20;
+
+pub const BAD_WORKER: u64 = 21;

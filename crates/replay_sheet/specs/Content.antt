@@ -55,6 +55,10 @@ sameMarks text at marks = allBelow (length marks) (λ k. eqb (getD marks k 0) (m
 unfoldable pub sameAnswers : List ℕ → ℕ → List ℕ → Bool
 sameAnswers text at answers = allBelow (length answers) (λ k. eqb (getD answers k 0) (bitsFrom text at k))
 
+-- the sixteen counts of a tally are the stored ones
+unfoldable pub sameCounts : List ℕ → ℕ → List ℕ → Bool
+sameCounts text at tally = allBelow 16 (λ k. eqb (getD tally k 0) (bitsFrom text at k))
+
 -- a sheet is the stored one: its weights, then its flags, then its marks
 unfoldable pub sameSheet : List ℕ → ℕ → List Float → List ℤ → List ℕ → Bool
 sameSheet text at weights flags marks =

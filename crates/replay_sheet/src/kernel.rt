@@ -1,6 +1,7 @@
 // A sheet's content: read, and held to the stored one.
 pub mod counts;
 pub mod open;
+pub mod tallies;
 
 ghost use Prim.Native.Nat.{_≤_, min};
 ghost use mathlib.Core.Path.{_≡_};
@@ -31,11 +32,18 @@ pub fn marks_buffer() -> [u8; 256]
     [0; 256]
 }
 
-// Answers and tallies of a list.
+// The answers of a list.
 pub fn answers_buffer() -> [u64; 256]
     ensures { λ r. ⌜ 256 ≡ length r ⌝ }
 {
     [0; 256]
+}
+
+// Its tallies, sixteen counts a call.
+pub fn tallies_buffer() -> [u64; 4096]
+    ensures { λ r. ⌜ 4096 ≡ length r ⌝ }
+{
+    [0; 4096]
 }
 
 // How much of the marks a count takes: the count, or all of them where they are fewer.
@@ -45,11 +53,18 @@ pub fn pieces_of(n: u64, buf: &[u8]) -> usize
     input::at_most(n, buf.len())
 }
 
-// The same of answers and tallies.
+// The same of answers.
 pub fn answers_of(n: u64, buf: &[u64]) -> usize
     ensures { λ r. ⌜ (r ≤ length (now (buf .entry))) × (r ≡ length (take r (now (buf .entry)))) ⌝ }
 {
     input::at_most(n, buf.len())
+}
+
+// The same of tallies, for so many calls.
+pub fn tallies_of(calls: u64, buf: &[u64]) -> usize
+    ensures { λ r. ⌜ (r ≤ length (now (buf .entry))) × (r ≡ length (take r (now (buf .entry)))) ⌝ }
+{
+    16 * input::at_most(calls, buf.len() / 16)
 }
 
 // The flags that occur.

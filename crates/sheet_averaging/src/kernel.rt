@@ -6,6 +6,7 @@ ghost use Rattle.sheet_step.specs.Lent.{sheetIn, sheetOut};
 ghost use Rattle.sheet_step.specs.Steps.{average, Called};
 ghost use Rattle.sheet_turn.specs.Turns.{sheetNow, commonNo};
 use marks::kernel as mark;
+use sheet_marks::Tally;
 use sheet_step::kernel::asks;
 use triplet_study::Sizes;
 
@@ -23,13 +24,13 @@ pub fn average_asked(
     frequencies2: &[f64],
     points: &[f64],
     triplets: &[i64],
-    runs: u64,
+    tally: Tally,
     triplet: i64,
     ids1: &[i64],
     ids2: &[i64],
 ) -> u64
-    requires { ⌜ (commonNo (studyNow (z .shape) addresses «gp_map» steps frequencies1 frequencies2 points triplets) (sheetNow weights flags marks runs) ≡ 0) × (z ≡ sizesOf (studyNow (z .shape) addresses «gp_map» steps frequencies1 frequencies2 points triplets)) ⌝ }
-    ensures { λ r. ⌜ Called (studyIn (z .shape) addresses «gp_map» steps frequencies1 frequencies2 points triplets) (sheetIn weights flags marks runs) (average triplet (now (ids1 .entry)) (now (ids2 .entry))) r (sheetOut weights flags marks runs) ⌝ }
+    requires { ⌜ (commonNo (studyNow (z .shape) addresses «gp_map» steps frequencies1 frequencies2 points triplets) (sheetNow weights flags marks (tally .runs)) ≡ 0) × (z ≡ sizesOf (studyNow (z .shape) addresses «gp_map» steps frequencies1 frequencies2 points triplets)) ⌝ }
+    ensures { λ r. ⌜ Called (studyIn (z .shape) addresses «gp_map» steps frequencies1 frequencies2 points triplets) (sheetIn weights flags marks (tally .runs)) (average triplet (now (ids1 .entry)) (now (ids2 .entry))) r (sheetOut weights flags marks (tally .runs)) ⌝ }
 {
     let own = asks::average_first_no(z, weights, marks, triplet, ids1, ids2);
     if own != 0 {

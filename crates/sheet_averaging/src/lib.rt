@@ -53,7 +53,6 @@ pub fn average_triplet(
         frequency_points.len(),
         triplets.len() / 3,
     );
-    let runs = tally.runs;
     let own = kernel::average_asked(
         weights,
         flags,
@@ -66,10 +65,10 @@ pub fn average_triplet(
         frequencies2,
         frequency_points,
         triplets,
-        runs,
+        tally,
         triplet,
         degenerate_ids1,
         degenerate_ids2,
     );
-    answer_of(own, runs)
+    answer_of(own, tally)
 }

@@ -33,11 +33,11 @@ module _ (ids : List ℤ) (start end : ℤ) where
   ids-none h = rw h
 
 module _ (list ids : List ℤ) (i : ℕ) where
-  pub call-run : isNat (numberAt list i 0) 0 ≡ true → callAt list ids i ≡ run (numberAt list i 1) (numberAt list i 2) (numberAt list i 3)
+  pub call-run : isNat (numberAt list i 0) 0 ≡ true → callAt list ids i ≡ run (numberAt list i 1) (numberAt list i 2) (numberAt list i 3) (numberAt list i 4)
   unfolding callAt callOf
   call-run h = rw h
 
-  pub call-carry : isNat (numberAt list i 0) 0 ≡ false → isNat (numberAt list i 0) 1 ≡ true → callAt list ids i ≡ carry
+  pub call-carry : isNat (numberAt list i 0) 0 ≡ false → isNat (numberAt list i 0) 1 ≡ true → callAt list ids i ≡ carry (numberAt list i 1)
   unfolding callAt callOf
   call-carry h k = rw (h, k)
 

@@ -22,10 +22,10 @@ isPart ids start end = ((nonNeg start && nonNeg end) && leb (mag start) (mag end
 unfoldable pub idsFrom : List ℤ → ℤ → ℤ → List ℤ
 idsFrom ids start end = cond (isPart ids start end) (part (mag start) (mag end - mag start) ids) []
 
--- kind 0 runs a piece (triplet, b1, b2), kind 1 carries on, any other kind averages (triplet, then the start and the end of the first and
--- of the second id list)
+-- kind 0 runs a piece (worker, triplet, b1, b2), kind 1 carries on (worker), any other kind averages (triplet, then the start and the end
+-- of the first and of the second id list)
 unfoldable pub callOf : List ℤ → ℤ → ℤ → ℤ → ℤ → ℤ → ℤ → Call
-callOf ids kind a b c d e = cond (isNat kind 0) (run a b c) (cond (isNat kind 1) carry (average a (idsFrom ids b c) (idsFrom ids d e)))
+callOf ids kind a b c d e = cond (isNat kind 0) (run a b c d) (cond (isNat kind 1) (carry a) (average a (idsFrom ids b c) (idsFrom ids d e)))
 
 -- call i of the list
 unfoldable pub callAt : List ℤ → List ℤ → ℕ → Call

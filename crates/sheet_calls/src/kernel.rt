@@ -9,6 +9,7 @@ ghost use Rattle.sheet_fill.specs.Kept.{Kept};
 ghost use Rattle.sheet_turn.specs.Turns.{sheetNow, commonNo, Prepared};
 ghost use Rattle.sheet_calls.specs.Calls.{callAt};
 use crate::calls;
+use sheet_marks::Tally;
 use sheet_turn::Turn;
 use sheet_turn::kernel;
 use triplet_study::Sizes;
@@ -31,22 +32,23 @@ pub fn one_turn(
     frequencies2: &[f64],
     points: &[f64],
     triplets: &[i64],
-    runs: u64,
+    tally: Tally,
     held: usize,
     list: &[i64],
     ids: &[i64],
     i: usize,
 ) -> Turn
     requires { ⌜ i * 6 + 6 ≤ length (now list) ⌝ }
-    requires { ⌜ (commonNo (studyNow (z .shape) addresses «gp_map» steps frequencies1 frequencies2 points triplets) (sheetNow weights flags marks runs) ≡ 0) × Prepared (studyNow (z .shape) addresses «gp_map» steps frequencies1 frequencies2 points triplets) z (now second) ⌝ }
+    requires { ⌜ (commonNo (studyNow (z .shape) addresses «gp_map» steps frequencies1 frequencies2 points triplets) (sheetNow weights flags marks (tally .runs)) ≡ 0) × Prepared (studyNow (z .shape) addresses «gp_map» steps frequencies1 frequencies2 points triplets) z (now second) ⌝ }
     requires { ⌜ Kept (studyNow (z .shape) addresses «gp_map» steps frequencies1 frequencies2 points triplets) (z .triplets) held (now frequencies) (now channels) (now places) (now numbers) ⌝ }
-    ensures { λ r. ⌜ Called (studyIn (z .shape) addresses «gp_map» steps frequencies1 frequencies2 points triplets) (sheetIn weights flags marks runs) (callAt (now (list .entry)) (now (ids .entry)) i) (r .no) (sheetOut weights flags marks (r .runs)) ⌝ }
+    ensures { λ r. ⌜ Called (studyIn (z .shape) addresses «gp_map» steps frequencies1 frequencies2 points triplets) (sheetIn weights flags marks (tally .runs)) (callAt (now (list .entry)) (now (ids .entry)) i) (r .no) (sheetOut weights flags marks (r .tally .runs)) ⌝ }
     ensures { λ r. ⌜ Kept (studyIn (z .shape) addresses «gp_map» steps frequencies1 frequencies2 points triplets) (z .triplets) (r .held) (now (frequencies .exit)) (now (channels .exit)) (now (places .exit)) (now (numbers .exit)) ⌝ }
 {
     let kind = calls::number(list, i, 0);
     let a = calls::number(list, i, 1);
     let b = calls::number(list, i, 2);
     let c = calls::number(list, i, 3);
+    let d = calls::number(list, i, 4);
     if numbers::kernel::is_nat(kind, 0) {
         return kernel::run_asked(
             frequencies,
@@ -65,11 +67,12 @@ pub fn one_turn(
             frequencies2,
             points,
             triplets,
-            runs,
-            held,
+            tally,
             a,
+            held,
             b,
             c,
+            d,
         );
     }
     if numbers::kernel::is_nat(kind, 1) {
@@ -90,11 +93,11 @@ pub fn one_turn(
             frequencies2,
             points,
             triplets,
-            runs,
+            tally,
+            a,
             held,
         );
     }
-    let d = calls::number(list, i, 4);
     let e = calls::number(list, i, 5);
     let ids1 = calls::ids_from(ids, b, c);
     let ids2 = calls::ids_from(ids, d, e);
@@ -110,10 +113,10 @@ pub fn one_turn(
         frequencies2,
         points,
         triplets,
-        runs,
+        tally,
         a,
         ids1,
         ids2,
     );
-    Turn { no, runs, held }
+    Turn { no, tally, held }
 }

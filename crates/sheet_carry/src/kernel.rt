@@ -11,7 +11,7 @@ use sheet_marks::Tally;
 use sheet_turn::Turn;
 use triplet_study::Sizes;
 
-// Runs all pieces marked 0, in ascending order. Question 20 for all runs of the call.
+// Runs all pieces marked 0, in ascending order. Questions 21, and 20 for all runs of the call.
 pub fn carry_asked(
     frequencies: &mut [[f64; 384]; 2],
     channels: &mut [[f64; 384]; 3],
@@ -29,24 +29,24 @@ pub fn carry_asked(
     frequencies2: &[f64],
     points: &[f64],
     triplets: &[i64],
-    runs: u64,
+    tally: Tally,
+    worker: i64,
     held: usize,
 ) -> Turn
-    requires { ⌜ (commonNo (studyNow (z .shape) addresses «gp_map» steps frequencies1 frequencies2 points triplets) (sheetNow weights flags marks runs) ≡ 0) × Prepared (studyNow (z .shape) addresses «gp_map» steps frequencies1 frequencies2 points triplets) z (now second) ⌝ }
+    requires { ⌜ (commonNo (studyNow (z .shape) addresses «gp_map» steps frequencies1 frequencies2 points triplets) (sheetNow weights flags marks (tally .runs)) ≡ 0) × Prepared (studyNow (z .shape) addresses «gp_map» steps frequencies1 frequencies2 points triplets) z (now second) ⌝ }
     requires { ⌜ Kept (studyNow (z .shape) addresses «gp_map» steps frequencies1 frequencies2 points triplets) (z .triplets) held (now frequencies) (now channels) (now places) (now numbers) ⌝ }
-    ensures { λ r. ⌜ Called (studyIn (z .shape) addresses «gp_map» steps frequencies1 frequencies2 points triplets) (sheetIn weights flags marks runs) carry (r .no) (sheetOut weights flags marks (r .runs)) ⌝ }
+    ensures { λ r. ⌜ Called (studyIn (z .shape) addresses «gp_map» steps frequencies1 frequencies2 points triplets) (sheetIn weights flags marks (tally .runs)) (carry worker) (r .no) (sheetOut weights flags marks (r .tally .runs)) ⌝ }
     ensures { λ r. ⌜ Kept (studyIn (z .shape) addresses «gp_map» steps frequencies1 frequencies2 points triplets) (z .triplets) (r .held) (now (frequencies .exit)) (now (channels .exit)) (now (places .exit)) (now (numbers .exit)) ⌝ }
 {
     let pieces = z.triplets * z.pairs;
     let count = mark::open_pieces(pieces, marks);
-    let tally = Tally { runs };
-    let added = tally.add(count);
+    let added = tally.add(worker, count);
     let room = added.answer;
     let full = number_of(room);
     if full != 0 {
         return Turn {
             no: full,
-            runs,
+            tally,
             held,
         };
     }
@@ -70,10 +70,9 @@ pub fn carry_asked(
         held,
     );
     let next = added.tally;
-    let after = next.runs;
     Turn {
         no: 0,
-        runs: after,
+        tally: next,
         held: last,
     }
 }

@@ -10,7 +10,8 @@ pub use triplet_study::Shape;
 
 pub mod kernel;
 
-// Runs all pieces marked 0, in ascending order. Questions 3 to 13, 20 for all runs of the call.
+// Runs all pieces marked 0, in ascending order; the worker's count goes up by their number. Questions 3 to 13, 21, and 20 for all runs of
+// the call.
 pub fn carry_on(
     shape: Shape,
     addresses: &[i64],
@@ -24,9 +25,10 @@ pub fn carry_on(
     flags: &mut [i8],
     marks: &mut [u8],
     tally: Tally,
+    worker: i64,
 ) -> SheetAnswer
     ensures { λ r. ⌜ Did (studyIn shape addresses «gp_map» «relative_grid_address» frequencies1 frequencies2 «frequency_points» triplets)
-        (sheetIn weights flags marks (tally .runs)) carry r (sheetOut weights flags marks (r .tally .runs)) ⌝ }
+        (sheetIn weights flags marks (tally .runs)) (carry worker) r (sheetOut weights flags marks (r .tally .runs)) ⌝ }
 {
     let no = sheet_step::kernel::asks::common_first_no(
         shape,
@@ -50,7 +52,6 @@ pub fn carry_on(
         frequency_points.len(),
         triplets.len() / 3,
     );
-    let runs = tally.runs;
     let tp = z.tp;
     let second = triplet_corners::kernel::second_steps(tp, relative_grid_address);
     let m = relative_grid_address.len();
@@ -76,8 +77,9 @@ pub fn carry_on(
         frequencies2,
         frequency_points,
         triplets,
-        runs,
+        tally,
+        worker,
         none,
     );
-    answer_of(turn.no, turn.runs)
+    answer_of(turn.no, turn.tally)
 }

@@ -1,9 +1,10 @@
 -- A list that is played on an open sheet leaves what the book says: by demand 3. Assumes nothing.
 use mathlib.Core.Path.{_≡_, refl, ap, ap₂, _∙_}
-use mathlib.Core.List.{List, [], _∷_, map}
+use mathlib.Core.List.{List, [], _∷_, _++_, map}
 use Prim.Native.Nat.{ℕ}
 use lib.ListN.{length, replicate}
 use Rattle.triplet_study.specs.Study.{Study, sizesOf}
+use Rattle.sheet_marks.specs.Tallies.{sixteenOf}
 use Rattle.sheet_step.specs.Steps.{Sheet, Call, piecesOf, step}
 use Rattle.book_claim.specs.Book.{Book, opened, render, turn}
 use Rattle.book_claim.proofs.Demand3.{demand-3, same-step, opened-long, opened-is}
@@ -20,7 +21,7 @@ module _ (g : Study) (start : Sheet) where
   all-tallies [] b long s e = refl
   all-tallies (c ∷ calls) b long s e =
       let k : step g s c ≡ render g start (turn g start b c) = rw e (same-step g start b long c) in
-      ap₂ (λ (n : ℕ) (rest : List ℕ). n ∷ rest) (ap (λ (x : Sheet). x .tally) k ∙ render-tally (turn g start b c)) (all-tallies calls (turn g start b c) (turn-long g start b c ∙ long) (step g s c) k)
+      ap₂ (λ (row rest : List ℕ). row ++ rest) (ap (λ (x : Sheet). sixteenOf (x .tally)) k ∙ ap sixteenOf (render-tally (turn g start b c))) (all-tallies calls (turn g start b c) (turn-long g start b c ∙ long) (step g s c) k)
 
   -- from marks all 0, what `play` leaves is the book's
   pub played-booked : (calls : List Call) → start .marks ≡ replicate (length (start .marks)) 0 → outcomeOf g start calls ≡ bookOutcome g start calls

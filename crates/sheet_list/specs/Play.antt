@@ -11,9 +11,10 @@ use Rattle.sheet_marks.specs.Tallies.{sheetAnswer}
 use Rattle.sheet_step.specs.Steps.{Sheet, Call}
 use Rattle.sheet_play.specs.Outcomes.{Outcome, outcome, outcomeOf}
 
--- Question 12: "Is each lent buffer exactly as long as its record?" The list has six numbers a call; of each call one answer and one tally.
+-- Question 12: "Is each lent buffer exactly as long as its record?" The list has six numbers a call; of each call one answer and sixteen
+-- counts.
 unfoldable pub areListLengths : ℕ → ℕ → ℕ → Bool
-areListLengths list answers tallies = eqb list (answers * 6) && eqb tallies answers
+areListLengths list answers tallies = eqb list (answers * 6) && eqb tallies (answers * 16)
 
 -- the number of its first no, and 0 where the list is played
 unfoldable pub listNo : ℕ → ℕ → ℕ → ℕ

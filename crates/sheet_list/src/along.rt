@@ -8,6 +8,7 @@ ghost use Rattle.sheet_turn.specs.Turns.{sheetNow, commonNo};
 ghost use Rattle.sheet_calls.specs.Calls.{callsOf};
 ghost use Rattle.sheet_play.specs.Outcomes.{outcome, outcomeOf};
 use crate::asks;
+use sheet_marks::Tally;
 use triplet_study::Shape;
 
 // Prepares what all calls take: the counts, and the second copy of the steps.
@@ -23,16 +24,16 @@ fn play_asked(
     frequencies2: &[f64],
     points: &[f64],
     triplets: &[i64],
-    before: u64,
+    before: Tally,
     list: &[i64],
     ids: &[i64],
     answers: &mut [u64],
     tallies: &mut [u64],
-) -> u64
-    requires { ⌜ commonNo (studyNow shape addresses «gp_map» steps frequencies1 frequencies2 points triplets) (sheetNow weights flags marks before) ≡ 0 ⌝ }
-    requires { ⌜ (length (now list) ≡ length (now answers) * 6) × (length (now tallies) ≡ length (now answers)) ⌝ }
-    ensures { λ r. ⌜ outcome (sheetOut weights flags marks r) (now (answers .exit)) (now (tallies .exit))
-        ≡ outcomeOf (studyIn shape addresses «gp_map» steps frequencies1 frequencies2 points triplets) (sheetIn weights flags marks before) (callsOf (now (list .entry)) (now (ids .entry))) ⌝ }
+) -> Tally
+    requires { ⌜ commonNo (studyNow shape addresses «gp_map» steps frequencies1 frequencies2 points triplets) (sheetNow weights flags marks (before .runs)) ≡ 0 ⌝ }
+    requires { ⌜ (length (now list) ≡ length (now answers) * 6) × (length (now tallies) ≡ length (now answers) * 16) ⌝ }
+    ensures { λ r. ⌜ outcome (sheetOut weights flags marks (r .runs)) (now (answers .exit)) (now (tallies .exit))
+        ≡ outcomeOf (studyIn shape addresses «gp_map» steps frequencies1 frequencies2 points triplets) (sheetIn weights flags marks (before .runs)) (callsOf (now (list .entry)) (now (ids .entry))) ⌝ }
 {
     let m = steps.len();
     let z = triplet_study::kernel::sizes_of(shape, m / 12, points.len(), triplets.len() / 3);
@@ -72,15 +73,15 @@ pub fn play_all(
     frequencies2: &[f64],
     points: &[f64],
     triplets: &[i64],
-    before: u64,
+    before: Tally,
     list: &[i64],
     ids: &[i64],
     answers: &mut [u64],
     tallies: &mut [u64],
-) -> u64
-    requires { ⌜ (length (now list) ≡ length (now answers) * 6) × (length (now tallies) ≡ length (now answers)) ⌝ }
-    ensures { λ r. ⌜ outcome (sheetOut weights flags marks r) (now (answers .exit)) (now (tallies .exit))
-        ≡ outcomeOf (studyIn shape addresses «gp_map» steps frequencies1 frequencies2 points triplets) (sheetIn weights flags marks before) (callsOf (now (list .entry)) (now (ids .entry))) ⌝ }
+) -> Tally
+    requires { ⌜ (length (now list) ≡ length (now answers) * 6) × (length (now tallies) ≡ length (now answers) * 16) ⌝ }
+    ensures { λ r. ⌜ outcome (sheetOut weights flags marks (r .runs)) (now (answers .exit)) (now (tallies .exit))
+        ≡ outcomeOf (studyIn shape addresses «gp_map» steps frequencies1 frequencies2 points triplets) (sheetIn weights flags marks (before .runs)) (callsOf (now (list .entry)) (now (ids .entry))) ⌝ }
 {
     let no = sheet_step::kernel::asks::common_first_no(
         shape,
@@ -96,8 +97,9 @@ pub fn play_all(
         marks,
     );
     if no != 0 {
+        let calls = answers.len();
         asks::fill_with(answers, no);
-        asks::fill_with(tallies, before);
+        asks::fill_tallies(tallies, calls, before);
         return before;
     }
     play_asked(

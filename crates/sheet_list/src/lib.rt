@@ -14,7 +14,7 @@ mod along;
 mod asks;
 
 // Plays a list of calls, six numbers a call, on a sheet with any marks. The id lists of the averagings are parts of `ids`. Each call's
-// number, 0 where it is done, goes to its place in `answers`, the tally after it to its place in `tallies`. The list itself asks question
+// number, 0 where it is done, goes to its place in `answers`, the sixteen counts after it to their places in `tallies`. The list itself asks question
 // 12, of its own buffers; each call asks its questions, and 3 to 13 are asked once for all.
 pub fn play(
     shape: Shape,
@@ -42,8 +42,7 @@ pub fn play(
     if own != 0 {
         return sheet_marks::kernel::refused(own, tally);
     }
-    let before = tally.runs;
-    let runs = along::play_all(
+    let left = along::play_all(
         weights,
         flags,
         marks,
@@ -55,7 +54,7 @@ pub fn play(
         frequencies2,
         frequency_points,
         triplets,
-        before,
+        tally,
         list,
         ids,
         answers,
@@ -63,6 +62,6 @@ pub fn play(
     );
     SheetAnswer {
         answer: Answer::Done,
-        tally: Tally { runs },
+        tally: left,
     }
 }

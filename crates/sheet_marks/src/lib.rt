@@ -1,4 +1,4 @@
-// What a run sheet counts: the tally of accepted runs, and the open count of a triplet.
+// What a run sheet counts: the accepted runs of each worker, and the open count of a triplet.
 ghost use mathlib.Core.Path.{_≡_};
 ghost use Prim.Native.Nat.{_*_, _<_};
 ghost use Rattle.sheet_marks.specs.Tallies.{addedTo};
@@ -7,9 +7,9 @@ use ask::Answer;
 
 pub mod kernel;
 
-// The count of accepted runs, repeats included. It stays below 2^63.
+// The tally: a count of accepted runs, repeats included, for each of sixteen workers. A run keeps its worker's count below 2^63.
 pub struct Tally {
-    pub runs: u64,
+    pub runs: [u64; 16],
 }
 
 // What comes back: the answer, and the tally beside it, the old one after a refusal.
@@ -19,23 +19,18 @@ pub struct SheetAnswer {
 }
 
 impl Tally {
-    // Adds accepted runs, or reports that the tally is full (question 20).
-    pub fn add(self, runs: u64) -> SheetAnswer
-        ensures { λ r. ⌜ r ≡ addedTo (self .runs) runs ⌝ }
+    // Adds a worker's accepted runs, or reports that there is no such worker (question 21) or that its count is full (question 20).
+    pub fn add(self, worker: i64, runs: u64) -> SheetAnswer
+        ensures { λ r. ⌜ r ≡ addedTo (self .runs) worker runs ⌝ }
     {
-        let before = self.runs;
-        if before < kernel::FULL {
-            if runs < kernel::FULL - before {
-                return SheetAnswer {
-                    answer: Answer::Done,
-                    tally: Tally {
-                        runs: before + runs,
-                    },
-                };
-            }
-            return kernel::refused(questions::TALLY_FULL, self);
+        let no = kernel::tally_first_no(self, worker, runs);
+        if no != 0 {
+            return kernel::refused(no, self);
         }
-        kernel::refused(questions::TALLY_FULL, self)
+        SheetAnswer {
+            answer: Answer::Done,
+            tally: kernel::with_runs(self, worker, runs),
+        }
     }
 }
 

@@ -141,12 +141,12 @@ module _ (g : Study) (s : Sheet) where
 
   effect-kept : (c : Call) → Accepted g s c → same-sheet (effect g s c)
   unfolding effect isNotAveraged
-  effect-kept (run t b1 b2) a =
+  effect-kept (run worker t b1 b2) a =
       let p : ℕ = pieceOf (sizesOf g) t b1 b2 in
       let on : _ = piece-in (sizesOf g) t b1 b2 (counts a .pairs-are) (a .own .0) in
       let d : p / sizesOf g .pairs ≡ mag t = digits-div (mag t) (on .1) in
-      (length-computed _ _ (s .weights), (length-computed-flags _ _ (s .flags), (length-marks _ _ (s .marks), run-marks (sizesOf g .pairs) (piecesOf (sizesOf g)) (s .marks) (a .fine) (a .marked) p (named g s t b1 b2 a) (rw d (not-true (isAveragedAt (s .marks) (mag t * sizesOf g .pairs)) (a .own .1 .0))))))
-  effect-kept carry a = (length-computed _ _ (s .weights), (length-computed-flags _ _ (s .flags), (length-carried _ (s .marks), carry-marks (sizesOf g .pairs) (piecesOf (sizesOf g)) (s .marks) (a .fine) (a .marked))))
+      (length-computed _ _ (s .weights), (length-computed-flags _ _ (s .flags), (length-marks _ _ (s .marks), run-marks (sizesOf g .pairs) (piecesOf (sizesOf g)) (s .marks) (a .fine) (a .marked) p (named g s worker t b1 b2 a) (rw d (not-true (isAveragedAt (s .marks) (mag t * sizesOf g .pairs)) (a .own .1 .0))))))
+  effect-kept (carry worker) a = (length-computed _ _ (s .weights), (length-computed-flags _ _ (s .flags), (length-carried _ (s .marks), carry-marks (sizesOf g .pairs) (piecesOf (sizesOf g)) (s .marks) (a .fine) (a .marked))))
   effect-kept (average t ids1 ids2) a =
       (length-average _ _ ids1 ids2 (s .weights), (length-average-flags _ _ ids1 ids2 (s .flags), (length-averaged _ _ (s .marks), average-marks (sizesOf g .pairs) (piecesOf (sizesOf g)) (s .marks) (a .fine) (a .marked) (mag t) (counts a .pairs-some))))
 

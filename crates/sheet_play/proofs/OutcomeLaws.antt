@@ -1,15 +1,16 @@
 -- The calls of a list, one after the other: what each leaves, and what stands after the last. Assumes nothing.
 use mathlib.Core.Path.{_≡_, refl, sym, ap, _∙_, subst}
-use mathlib.Core.List.{List, [], _∷_, _++_, map, map-append}
+use mathlib.Core.List.{List, [], _∷_, _++_, map, map-append, append-assoc, append-nil}
 use Prim.Native.Nat.{ℕ, zero, suc, _+_, _*_}
 use native.Mathlib.Numerals.{add-one}
 use native.Mathlib.Omega.{arith}
 use lib.IntN.{ℤ}
 use lib.ListN.{length}
-use Rattle.list_laws.specs.Lists.{tabulate, fronted}
+use Rattle.list_laws.specs.Lists.{tabulate, rows, fronted}
 use Rattle.list_laws.proofs.FillLaws.{front-all, length-tabulate}
 use Rattle.ask.proofs.AnswerLaws.{number-is as number-of}
 use Rattle.triplet_study.specs.Study.{Study}
+use Rattle.sheet_marks.specs.Tallies.{sixteenOf}
 use Rattle.sheet_step.specs.Steps.{Sheet, Call, Called, verdict, step, stepAnswer}
 use Rattle.book_claim.specs.Lists.{played, answers}
 use Rattle.book_claim.proofs.CutLaws.{played-cut, answers-cut}
@@ -33,8 +34,8 @@ module _ (g : Study) (start : Sheet) (call : ℕ → Call) where
   abbrev pub numberAfter : ℕ → ℕ
   numberAfter i = verdict g (after i) (call i)
 
-  abbrev pub tallyAfter : ℕ → ℕ
-  tallyAfter i = step g (after i) (call i) .tally
+  abbrev pub tallyAfter : ℕ → List ℕ
+  tallyAfter i = sixteenOf (step g (after i) (call i) .tally)
 
   pub after-none : start ≡ after 0
   unfolding tabulate
@@ -58,8 +59,8 @@ module _ (g : Study) (start : Sheet) (call : ℕ → Call) where
     pub number-next : number ≡ numberAfter i
     number-next = t .says ∙ ap (λ (x : Sheet). verdict g x (call i)) e
 
-    pub tally-next : left .tally ≡ tallyAfter i
-    tally-next = ap (λ (x : Sheet). x .tally) (t .leaves) ∙ ap (λ (x : Sheet). step g x (call i) .tally) e
+    pub tally-next : sixteenOf (left .tally) ≡ tallyAfter i
+    tally-next = ap (λ (x : Sheet). sixteenOf (x .tally)) (t .leaves) ∙ ap (λ (x : Sheet). sixteenOf (step g x (call i) .tally)) e
 
   -- ---- all of them
 
@@ -74,13 +75,14 @@ module _ (g : Study) (start : Sheet) (call : ℕ → Call) where
 
 pub tallies-cut : (g : Study) (s : Sheet) (first rest : List Call) → tallies g s (first ++ rest) ≡ tallies g s first ++ tallies g (played g s first) rest
 tallies-cut g s [] rest = refl
-tallies-cut g s (c ∷ first) rest = ap (λ (l : List ℕ). step g s c .tally ∷ l) (tallies-cut g (step g s c) first rest)
+tallies-cut g s (c ∷ first) rest = ap (λ (l : List ℕ). sixteenOf (step g s c .tally) ++ l) (tallies-cut g (step g s c) first rest) ∙ sym (append-assoc (sixteenOf (step g s c .tally)) (tallies g (step g s c) first) (tallies g (played g (step g s c) first) rest))
 
-all-tallies : (g : Study) (start : Sheet) (call : ℕ → Call) (n : ℕ) → tabulate n (tallyAfter g start call) ≡ tallies g start (tabulate n call)
-unfolding tabulate
+all-tallies : (g : Study) (start : Sheet) (call : ℕ → Call) (n : ℕ) → rows n (tallyAfter g start call) ≡ tallies g start (tabulate n call)
+unfolding tabulate rows
 all-tallies g start call zero = refl
 all-tallies g start call (suc n) =
-    ap (λ (l : List ℕ). l ++ (tallyAfter g start call n ∷ [])) (all-tallies g start call n)
+    ap (λ (l : List ℕ). l ++ tallyAfter g start call n) (all-tallies g start call n)
+    ∙ ap (λ (l : List ℕ). tallies g start (tabulate n call) ++ l) (sym (append-nil (tallyAfter g start call n)))
     ∙ sym (tallies-cut g start (tabulate n call) (call n ∷ []))
 
 -- ---- the end of the list
@@ -100,13 +102,12 @@ module _ (g : Study) (start : Sheet) (list ids : List ℤ) (n : ℕ) (h : length
   numbers-end l q e =
       e ∙ front-all (numberAfter g start (callAt list ids)) l n q ∙ all-numbers g start (callAt list ids) n ∙ ap (numbers g start) calls-are
 
-  pub tallies-end : (l : List ℕ) {a : List ℕ} → length l ≡ n → a ≡ fronted n (tallyAfter g start (callAt list ids)) l → a ≡ tallies g start (callsOf list ids)
-  tallies-end l q e =
-      e ∙ front-all (tallyAfter g start (callAt list ids)) l n q ∙ all-tallies g start (callAt list ids) n ∙ ap (tallies g start) calls-are
+  pub tallies-end : {a : List ℕ} → a ≡ rows n (tallyAfter g start (callAt list ids)) → a ≡ tallies g start (callsOf list ids)
+  tallies-end e = e ∙ all-tallies g start (callAt list ids) n ∙ ap (tallies g start) calls-are
 
   -- the three together, as they stand after the last call
-  pub outcome-end : {s : Sheet} {a t : List ℕ} (l k : List ℕ) → length l ≡ n → length k ≡ n → s ≡ after g start (callAt list ids) n
-      → a ≡ fronted n (numberAfter g start (callAt list ids)) l → t ≡ fronted n (tallyAfter g start (callAt list ids)) k
+  pub outcome-end : {s : Sheet} {a t : List ℕ} (l : List ℕ) → length l ≡ n → s ≡ after g start (callAt list ids) n
+      → a ≡ fronted n (numberAfter g start (callAt list ids)) l → t ≡ rows n (tallyAfter g start (callAt list ids))
       → outcome s a t ≡ outcomeOf g start (callsOf list ids)
   unfolding outcomeOf
-  outcome-end l k el ek es ea et = λ i. outcome (sheet-end es i) (numbers-end l el ea i) (tallies-end k ek et i)
+  outcome-end l el es ea et = λ i. outcome (sheet-end es i) (numbers-end l el ea i) (tallies-end et i)

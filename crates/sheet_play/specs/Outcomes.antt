@@ -1,9 +1,10 @@
 -- What a list of calls leaves: the sheet, the tally, each call's number and the tally after it, from any sheet.
-use mathlib.Core.List.{List, [], _∷_, map}
+use mathlib.Core.List.{List, [], _∷_, _++_, map}
 use Prim.Native.Nat.{ℕ}
 use Rattle.triplet_study.specs.Study.{Study}
 use Rattle.sheet_marks.specs.declared.SheetAnswer.{SheetAnswer}
 use Rattle.ask.specs.Answers.{answerNumber}
+use Rattle.sheet_marks.specs.Tallies.{sixteenOf}
 use Rattle.sheet_step.specs.Steps.{Sheet, Call, step}
 use Rattle.book_claim.specs.Lists.{played, answers}
 
@@ -15,10 +16,10 @@ numberIn a = answerNumber (a .answer)
 abbrev pub numbers : Study → Sheet → List Call → List ℕ
 numbers g s calls = map numberIn (answers g s calls)
 
--- the tally after each of the calls
+-- the tally after each of the calls, sixteen counts a call
 abbrev pub tallies : Study → Sheet → List Call → List ℕ
 tallies g s [] = []
-tallies g s (c ∷ calls) = step g s c .tally ∷ tallies g (step g s c) calls
+tallies g s (c ∷ calls) = sixteenOf (step g s c .tally) ++ tallies g (step g s c) calls
 
 -- the sheet with the tally, each call's number, and the tally after each call
 pub record Outcome : Type 0 where

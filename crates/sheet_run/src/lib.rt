@@ -8,7 +8,8 @@ use sheet_marks::kernel::answer_of;
 use sheet_marks::kernel::refused;
 pub use triplet_study::Shape;
 
-// Runs the piece of a triplet and two bands: its entries at every point, in every channel, and its mark. Questions 3 to 15, 20.
+// Runs the piece of a triplet and two bands: its entries at every point, in every channel, and its mark; the worker's
+// count goes up by one. Questions 3 to 15, 21, 20.
 pub fn run_piece(
     shape: Shape,
     addresses: &[i64],
@@ -22,12 +23,13 @@ pub fn run_piece(
     flags: &mut [i8],
     marks: &mut [u8],
     tally: Tally,
+    worker: i64,
     triplet: i64,
     b1: i64,
     b2: i64,
 ) -> SheetAnswer
     ensures { λ r. ⌜ Did (studyIn shape addresses «gp_map» «relative_grid_address» frequencies1 frequencies2 «frequency_points» triplets)
-        (sheetIn weights flags marks (tally .runs)) (run triplet b1 b2) r (sheetOut weights flags marks (r .tally .runs)) ⌝ }
+        (sheetIn weights flags marks (tally .runs)) (run worker triplet b1 b2) r (sheetOut weights flags marks (r .tally .runs)) ⌝ }
 {
     let no = sheet_step::kernel::asks::common_first_no(
         shape,
@@ -51,8 +53,7 @@ pub fn run_piece(
         frequency_points.len(),
         triplets.len() / 3,
     );
-    let runs = tally.runs;
-    let own = sheet_step::kernel::asks::run_first_no(z, marks, runs, triplet, b1, b2);
+    let own = sheet_step::kernel::asks::run_first_no(z, marks, tally, worker, triplet, b1, b2);
     if own != 0 {
         return refused(own, tally);
     }
@@ -81,11 +82,12 @@ pub fn run_piece(
         frequencies2,
         frequency_points,
         triplets,
-        runs,
+        tally,
+        worker,
         none,
         triplet,
         b1,
         b2,
     );
-    answer_of(turn.no, turn.runs)
+    answer_of(turn.no, turn.tally)
 }

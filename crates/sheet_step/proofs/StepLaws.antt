@@ -2,9 +2,9 @@
 use mathlib.Core.Path.{_≡_, refl, sym, ap, _∙_}
 use mathlib.Core.Bool.{true, false, _&&_}
 use mathlib.Core.List.{List, [], _∷_, _++_, append-assoc}
-use Prim.Native.Nat.{ℕ, _+_, _*_, _^_, _<_}
+use Prim.Native.Nat.{ℕ, _*_, _<_}
 use native.Mathlib.Omega.{arith}
-use borrow.Author.Tests.{eqb-true, ltb-true}
+use borrow.Author.Tests.{eqb-true}
 use lib.Dec.{eqb}
 use lib.Ieee.{Float}
 use lib.IntN.{ℤ}
@@ -25,7 +25,7 @@ use Rattle.triplet_study.proofs.StudyLaws.{study-numbered, lengths-say, tested,
 use Rattle.marks.specs.Bytes.{bytesFor, Holds}
 use Rattle.sheet_marks.specs.declared.SheetAnswer.{SheetAnswer}
 use Rattle.ask.specs.Answers.{answerNumber}
-use Rattle.sheet_marks.specs.Tallies.{sheetAnswer, refusedWith, isRoom, tallyQuestions, addedTo}
+use Rattle.sheet_marks.specs.Tallies.{sheetAnswer, refusedWith, withRuns, tallyQuestions, addedTo}
 use Rattle.ask.proofs.AnswerLaws.{number-is}
 use Rattle.sheet_marks.proofs.TallyLaws.{refused-is}
 use Rattle.sheet_step.specs.Steps.{Sheet, sheet, Call, Did, piecesOf, commonQuestions, areSheetLengths, isPiece, areIdLists, sheetQuestions, pieceQuestions, averageQuestions, ownQuestions, verdict, effect, step}
@@ -45,7 +45,7 @@ sheet-lengths z w f m e =
     let l : _ = lengths-say z w f (and-left (areLengths z w f) (eqb m (bytesFor (piecesOf z))) e) in
     (l .0, (l .1, eqb-true m (bytesFor (piecesOf z)) (and-right (areLengths z w f) (eqb m (bytesFor (piecesOf z))) e)))
 
-module _ (g : Study) (s : Sheet) (c : Call) where
+module _ (g : Study) (s : Sheet) where
   -- the questions that every call asks
   abbrev pub commonOf : List Question
   commonOf = commonQuestions g (length (s .weights)) (length (s .flags)) (s .marks)
@@ -53,23 +53,11 @@ module _ (g : Study) (s : Sheet) (c : Call) where
   sheet-numbered : Numbered (sheetQuestions (sizesOf g) (length (s .weights)) (length (s .flags)) (s .marks))
   sheet-numbered = (omega arith, (omega arith, tt))
 
-  pub verdict-common : (firstNo commonOf ≡ 0 → ⊥) → verdict g s c ≡ firstNo commonOf
-  unfolding verdict
-  verdict-common h =
-      ap firstNo (sym (append-assoc (studyQuestions g) (sheetQuestions (sizesOf g) (length (s .weights)) (length (s .flags)) (s .marks)) (ownQuestions g s c)))
-      ∙ group-no commonOf (ownQuestions g s c) h
-
   pub study-yes : firstNo commonOf ≡ 0 → firstNo (studyQuestions g) ≡ 0
   study-yes e = both-yes (studyQuestions g) _ (study-numbered g) e .0
 
   sheet-yes : firstNo commonOf ≡ 0 → firstNo (sheetQuestions (sizesOf g) (length (s .weights)) (length (s .flags)) (s .marks)) ≡ 0
   sheet-yes e = both-yes (studyQuestions g) _ (study-numbered g) e .1
-
-  pub verdict-own : firstNo commonOf ≡ 0 → verdict g s c ≡ firstNo (ownQuestions g s c)
-  unfolding verdict
-  verdict-own e =
-      group-yes (studyQuestions g) _ (study-numbered g) (study-yes e)
-      ∙ group-yes (sheetQuestions (sizesOf g) (length (s .weights)) (length (s .flags)) (s .marks)) (ownQuestions g s c) sheet-numbered (sheet-yes e)
 
   pub counts-yes : firstNo commonOf ≡ 0 → Counted (sizesOf g)
   counts-yes e = counted (tested g (study-yes e))
@@ -93,6 +81,21 @@ module _ (g : Study) (s : Sheet) (c : Call) where
       ready g (sizesOf g) (length (s .weights)) (length (s .flags)) (study-yes e) refl
       (and-left (areLengths (sizesOf g) (length (s .weights)) (length (s .flags))) (eqb (length (s .marks)) (bytesFor (piecesOf (sizesOf g)))) (long-yes e))
 
+module _ (g : Study) (s : Sheet) (c : Call) where
+  -- ---- the verdict by the groups
+
+  pub verdict-common : (firstNo (commonOf g s) ≡ 0 → ⊥) → verdict g s c ≡ firstNo (commonOf g s)
+  unfolding verdict
+  verdict-common h =
+      ap firstNo (sym (append-assoc (studyQuestions g) (sheetQuestions (sizesOf g) (length (s .weights)) (length (s .flags)) (s .marks)) (ownQuestions g s c)))
+      ∙ group-no (commonOf g s) (ownQuestions g s c) h
+
+  pub verdict-own : firstNo (commonOf g s) ≡ 0 → verdict g s c ≡ firstNo (ownQuestions g s c)
+  unfolding verdict
+  verdict-own e =
+      group-yes (studyQuestions g) _ (study-numbered g) (study-yes g s e)
+      ∙ group-yes (sheetQuestions (sizesOf g) (length (s .weights)) (length (s .flags)) (s .marks)) (ownQuestions g s c) (sheet-numbered g s) (sheet-yes g s e)
+
   -- ---- a refused call
 
   pub refused-sheet : (n : ℕ) → verdict g s c ≡ n → (n ≡ 0 → ⊥) → s ≡ step g s c
@@ -108,7 +111,7 @@ module _ (g : Study) (s : Sheet) (c : Call) where
   }
 
   -- a call that one of 3 to 13 refuses
-  pub common-refused : (n : ℕ) (a : SheetAnswer) → n ≡ firstNo commonOf → (n ≡ 0 → ⊥) → a ≡ refusedWith n (s .tally)
+  pub common-refused : (n : ℕ) (a : SheetAnswer) → n ≡ firstNo (commonOf g s) → (n ≡ 0 → ⊥) → a ≡ refusedWith n (s .tally)
       → Did g s c a (sheet (s .weights) (s .flags) (s .marks) (a .tally .runs))
   common-refused n a e h q = refused-call n a (verdict-common (λ z. h (e ∙ z)) ∙ sym e) h (q ∙ refused-is n (s .tally) h)
 
@@ -133,12 +136,12 @@ piece-on z t b1 b2 e =
     )
 
 -- the tally's answer by its number, and the tally that it gives
-module _ (tally runs : ℕ) {a : SheetAnswer} (e : a ≡ addedTo tally runs) where
-  pub added-no : {n : ℕ} → n ≡ answerNumber (a .answer) → n ≡ firstNo (tallyQuestions tally runs)
-  added-no h = h ∙ ap (λ (x : SheetAnswer). answerNumber (x .answer)) e ∙ number-is (firstNo (tallyQuestions tally runs))
+module _ (tally : List ℕ) (worker : ℤ) (runs : ℕ) {a : SheetAnswer} (e : a ≡ addedTo tally worker runs) where
+  pub added-no : {n : ℕ} → n ≡ answerNumber (a .answer) → n ≡ firstNo (tallyQuestions tally worker runs)
+  added-no h = h ∙ ap (λ (x : SheetAnswer). answerNumber (x .answer)) e ∙ number-is (firstNo (tallyQuestions tally worker runs))
 
-  pub added-runs : firstNo (tallyQuestions tally runs) ≡ 0 → a .tally .runs ≡ tally + runs
-  added-runs z = ap (λ (x : SheetAnswer). x .tally .runs) e ∙ sym (after-done (firstNo (tallyQuestions tally runs)) (tally + runs) tally z)
+  pub added-runs : firstNo (tallyQuestions tally worker runs) ≡ 0 → a .tally .runs ≡ withRuns tally worker runs
+  added-runs z = ap (λ (x : SheetAnswer). x .tally .runs) e ∙ sym (after-done (firstNo (tallyQuestions tally worker runs)) (withRuns tally worker runs) tally z)
 
 module _ (z : Sizes) (marks : List ℕ) (t b1 b2 : ℤ) where
   piece-numbered : Numbered (pieceQuestions z marks t b1 b2)
@@ -149,22 +152,20 @@ module _ (z : Sizes) (marks : List ℕ) (t b1 b2 : ℤ) where
       let y : AllYes (pieceQuestions z marks t b1 b2) = all-yes (pieceQuestions z marks t b1 b2) piece-numbered e in
       piece-on z t b1 b2 (y .0)
 
-  -- 14 and 15, then 20
-  module _ (tally : ℕ) where
-    pub run-no : {n : ℕ} → n ≡ firstNo (pieceQuestions z marks t b1 b2) → (n ≡ 0 → ⊥) → n ≡ firstNo (pieceQuestions z marks t b1 b2 ++ tallyQuestions tally 1)
-    run-no e h = e ∙ sym (group-no (pieceQuestions z marks t b1 b2) (tallyQuestions tally 1) (λ k. h (e ∙ k)))
+  -- 14 and 15, then 21 and 20
+  module _ (tally : List ℕ) (worker : ℤ) where
+    pub run-no : {n : ℕ} → n ≡ firstNo (pieceQuestions z marks t b1 b2) → (n ≡ 0 → ⊥) → n ≡ firstNo (pieceQuestions z marks t b1 b2 ++ tallyQuestions tally worker 1)
+    run-no e h = e ∙ sym (group-no (pieceQuestions z marks t b1 b2) (tallyQuestions tally worker 1) (λ k. h (e ∙ k)))
 
-    pub run-room : {m n : ℕ} → m ≡ firstNo (pieceQuestions z marks t b1 b2) → m ≡ 0 → n ≡ firstNo (tallyQuestions tally 1) → n ≡ firstNo (pieceQuestions z marks t b1 b2 ++ tallyQuestions tally 1)
-    run-room e h f = f ∙ sym (group-yes (pieceQuestions z marks t b1 b2) (tallyQuestions tally 1) piece-numbered (sym e ∙ h))
+    pub run-room : {m n : ℕ} → m ≡ firstNo (pieceQuestions z marks t b1 b2) → m ≡ 0 → n ≡ firstNo (tallyQuestions tally worker 1) → n ≡ firstNo (pieceQuestions z marks t b1 b2 ++ tallyQuestions tally worker 1)
+    run-room e h f = f ∙ sym (group-yes (pieceQuestions z marks t b1 b2) (tallyQuestions tally worker 1) piece-numbered (sym e ∙ h))
 
-    -- the yes to all three
-    pub run-yes : firstNo (pieceQuestions z marks t b1 b2 ++ tallyQuestions tally 1) ≡ 0
-        → ((mag t < z .triplets) × ((mag b1 < z .bands1) × (mag b2 < z .bands2))) × (tally + 1 < 2 ^ 63)
-    unfolding isRoom
+    -- the yes to all four
+    pub run-yes : firstNo (pieceQuestions z marks t b1 b2 ++ tallyQuestions tally worker 1) ≡ 0
+        → ((mag t < z .triplets) × ((mag b1 < z .bands1) × (mag b2 < z .bands2))) × (firstNo (tallyQuestions tally worker 1) ≡ 0)
     run-yes e =
-        let b : _ = both-yes (pieceQuestions z marks t b1 b2) (tallyQuestions tally 1) piece-numbered e in
-        let y : AllYes (tallyQuestions tally 1) = all-yes (tallyQuestions tally 1) (omega arith, tt) (b .1) in
-        (piece-named (b .0), ltb-true (tally + 1) (2 ^ 63) (y .0))
+        let b : _ = both-yes (pieceQuestions z marks t b1 b2) (tallyQuestions tally worker 1) piece-numbered e in
+        (piece-named (b .0), b .1)
 
 module _ (z : Sizes) (weights : List Float) (marks : List ℕ) (t : ℤ) (ids1 ids2 : List ℤ) where
   pub average-named : firstNo (averageQuestions z weights marks t ids1 ids2) ≡ 0

@@ -21,26 +21,26 @@ use Rattle.triplet_piece.specs.Weights.{computedWeights, computedFlags}
 use Rattle.averaging_blocks.specs.Weights.{averaged}
 use Rattle.averaging_flags.specs.Flags.{averagedFlags}
 use Rattle.sheet_marks.specs.declared.SheetAnswer.{SheetAnswer}
-use Rattle.sheet_marks.specs.Tallies.{tallyQuestions, sheetAnswer}
+use Rattle.sheet_marks.specs.Tallies.{tallyQuestions, withRuns, sheetAnswer}
 use Rattle.marks.specs.Bytes.{bytesFor, patchMarks}
 use Rattle.marks.specs.Marks.{isOpenAt, areMarks, isNotAveraged, areComputed, openPieces, carriedMarks, averagedMarks}
 
--- "Weights, flags, marks, tally"
+-- "Weights, flags, marks, tally"; the tally has a count for each worker
 pub record Sheet : Type 0 where
   pub weights : List Float
   pub flags : List ℤ
   pub marks : List ℕ
-  pub tally : ℕ
+  pub tally : List ℕ
 
 -- a sheet from its parts
-abbrev pub sheet : List Float → List ℤ → List ℕ → ℕ → Sheet
+abbrev pub sheet : List Float → List ℤ → List ℕ → List ℕ → Sheet
 sheet weights flags marks tally = record { weights = weights; flags = flags; marks = marks; tally = tally }
 
--- a call's kind and its arguments apart from study, sheet and tally: run a named piece (triplet, b1, b2), carry on, average a triplet
--- with two id lists
+-- a call's kind and its arguments apart from study, sheet and tally: run a named piece (worker, triplet, b1, b2), carry on (worker), average
+-- a triplet with two id lists; "a run and a carry-on name their worker"
 pub data Call : Type 0 where
-  run : ℤ → ℤ → ℤ → Call
-  carry : Call
+  run : ℤ → ℤ → ℤ → ℤ → Call
+  carry : ℤ → Call
   average : ℤ → List ℤ → List ℤ → Call
 
 -- how many pieces a sheet has
@@ -93,10 +93,10 @@ averageQuestions z weights marks t ids1 ids2 =
     ∷ asks 19 (areTripletWeights z (mag t) weights)
     ∷ []
 
--- what the kinds of call ask each: to run 14, 15, 20; to carry on 20; to average 14 to 19
+-- what the kinds of call ask each: to run 14, 15, 21, 20; to carry on 21, 20; to average 14 to 19
 abbrev pub ownQuestions : Study → Sheet → Call → List Question
-ownQuestions g s (run t b1 b2) = pieceQuestions (sizesOf g) (s .marks) t b1 b2 ++ tallyQuestions (s .tally) 1
-ownQuestions g s carry = tallyQuestions (s .tally) (openPieces (piecesOf (sizesOf g)) (s .marks))
+ownQuestions g s (run worker t b1 b2) = pieceQuestions (sizesOf g) (s .marks) t b1 b2 ++ tallyQuestions (s .tally) worker 1
+ownQuestions g s (carry worker) = tallyQuestions (s .tally) worker (openPieces (piecesOf (sizesOf g)) (s .marks))
 ownQuestions g s (average t ids1 ids2) = averageQuestions (sizesOf g) (s .weights) (s .marks) t ids1 ids2
 
 -- "A call asks, in this order, those that concern what it takes": the study's 3 to 11, the sheet's 12 and 13, its own
@@ -132,18 +132,18 @@ tripletFlagsAveraged z t ids1 ids2 l =
     patch (λ j. eqb (tripletAt (z .points) (z .pairs) j) t) (λ j. averagedFlagAt z ids1 ids2 (rowOf (z .pairs) (j / z .pairs) l) j) l
 
 -- "Running a piece writes its own entries at every point and sets its mark to 1. Carrying on runs all pieces marked 0 .. Averaging one
--- triplet .. sets its marks to 2. The tally counts accepted runs"
+-- triplet .. sets its marks to 2. The tally counts accepted runs", each in its worker's count
 unfoldable pub effect : Study → Sheet → Call → Sheet
-effect g s (run t b1 b2) =
+effect g s (run worker t b1 b2) =
     sheet (computedWeights g (λ n. eqb n (pieceOf (sizesOf g) t b1 b2)) (s .weights))
     (computedFlags g (λ n. eqb n (pieceOf (sizesOf g) t b1 b2)) (s .flags))
     (patchMarks (λ n. eqb n (pieceOf (sizesOf g) t b1 b2)) (λ n. 1) (s .marks))
-    (s .tally + 1)
-effect g s carry =
+    (withRuns (s .tally) worker 1)
+effect g s (carry worker) =
     sheet (computedWeights g (isOpenAt (piecesOf (sizesOf g)) (s .marks)) (s .weights))
     (computedFlags g (isOpenAt (piecesOf (sizesOf g)) (s .marks)) (s .flags))
     (carriedMarks (piecesOf (sizesOf g)) (s .marks))
-    (s .tally + openPieces (piecesOf (sizesOf g)) (s .marks))
+    (withRuns (s .tally) worker (openPieces (piecesOf (sizesOf g)) (s .marks)))
 effect g s (average t ids1 ids2) =
     sheet (tripletAveraged (sizesOf g) (mag t) ids1 ids2 (s .weights))
     (tripletFlagsAveraged (sizesOf g) (mag t) ids1 ids2 (s .flags))

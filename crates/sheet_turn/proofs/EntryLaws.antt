@@ -32,9 +32,9 @@ module _ (g : Study) (s : Sheet) {z : Sizes} (c : z ≡ sizesOf g) where
   called-shaped {call} {n} {left} t = subst (λ (x : Study). Called x s call n left) (study-shaped g z c) t
 
 -- what a call did, once its questions 3 to 13 said yes
-pub did : (g : Study) (s : Sheet) (c : Call) (w : List Float) (f : List ℤ) (m : List ℕ) (number runs : ℕ) (a : SheetAnswer) → Called g s c number (sheet w f m runs) → a ≡ sheetAnswer number runs
+pub did : (g : Study) (s : Sheet) (c : Call) (w : List Float) (f : List ℤ) (m : List ℕ) (number : ℕ) (tally : List ℕ) (a : SheetAnswer) → Called g s c number (sheet w f m tally) → a ≡ sheetAnswer number tally
     → Did g s c a (sheet w f m (a .tally .runs))
-did g s c w f m number runs a t e = record {
+did g s c w f m number tally a t e = record {
   answers = e ∙ (λ i. sheetAnswer (t .says i) (t .leaves i .tally));
   leaves = ap (λ (x : SheetAnswer). sheet w f m (x .tally .runs)) e ∙ t .leaves;
 }

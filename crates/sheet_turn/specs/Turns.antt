@@ -13,7 +13,7 @@ use Rattle.triplet_corners.specs.Corners.{secondSteps}
 use Rattle.sheet_step.specs.Steps.{Sheet, sheet, commonQuestions}
 
 -- the sheet of lists that are lent, as a `requires` names them
-abbrev pub sheetNow : RefT (List Float) → RefT (List ℤ) → RefT (List ℕ) → ℕ → Sheet
+abbrev pub sheetNow : RefT (List Float) → RefT (List ℤ) → RefT (List ℕ) → List ℕ → Sheet
 sheetNow weights flags marks tally = sheet (now weights) (now flags) (now marks) tally
 
 -- 3 to 13, which every call asks: the number of the first no, or 0

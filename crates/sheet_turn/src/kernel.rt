@@ -10,10 +10,11 @@ ghost use Rattle.sheet_fill.specs.Kept.{Kept};
 ghost use Rattle.sheet_turn.specs.Turns.{sheetNow, commonNo, Prepared};
 use crate::Turn;
 use marks::kernel as mark;
+use sheet_marks::Tally;
 use sheet_step::kernel::asks;
 use triplet_study::Sizes;
 
-// Runs the piece of a triplet and two bands, to which 14, 15 and 20 say yes.
+// Runs the piece of a triplet and two bands, to which 14, 15, 21 and 20 say yes.
 pub fn run_accepted(
     frequencies: &mut [[f64; 384]; 2],
     channels: &mut [[f64; 384]; 3],
@@ -31,15 +32,16 @@ pub fn run_accepted(
     frequencies2: &[f64],
     points: &[f64],
     triplets: &[i64],
-    runs: u64,
+    tally: Tally,
+    worker: i64,
     held: usize,
     triplet: i64,
     b1: i64,
     b2: i64,
 ) -> Turn
-    requires { ⌜ (commonNo (studyNow (z .shape) addresses «gp_map» steps frequencies1 frequencies2 points triplets) (sheetNow weights flags marks runs) ≡ 0) × Prepared (studyNow (z .shape) addresses «gp_map» steps frequencies1 frequencies2 points triplets) z (now second) ⌝ }
-    requires { ⌜ (firstNo (pieceQuestions z (now marks) triplet b1 b2 ++ tallyQuestions runs 1) ≡ 0) × Kept (studyNow (z .shape) addresses «gp_map» steps frequencies1 frequencies2 points triplets) (z .triplets) held (now frequencies) (now channels) (now places) (now numbers) ⌝ }
-    ensures { λ r. ⌜ Called (studyIn (z .shape) addresses «gp_map» steps frequencies1 frequencies2 points triplets) (sheetIn weights flags marks runs) (run triplet b1 b2) (r .no) (sheetOut weights flags marks (r .runs)) ⌝ }
+    requires { ⌜ (commonNo (studyNow (z .shape) addresses «gp_map» steps frequencies1 frequencies2 points triplets) (sheetNow weights flags marks (tally .runs)) ≡ 0) × Prepared (studyNow (z .shape) addresses «gp_map» steps frequencies1 frequencies2 points triplets) z (now second) ⌝ }
+    requires { ⌜ (firstNo (pieceQuestions z (now marks) triplet b1 b2 ++ tallyQuestions (tally .runs) worker 1) ≡ 0) × Kept (studyNow (z .shape) addresses «gp_map» steps frequencies1 frequencies2 points triplets) (z .triplets) held (now frequencies) (now channels) (now places) (now numbers) ⌝ }
+    ensures { λ r. ⌜ Called (studyIn (z .shape) addresses «gp_map» steps frequencies1 frequencies2 points triplets) (sheetIn weights flags marks (tally .runs)) (run worker triplet b1 b2) (r .no) (sheetOut weights flags marks (r .tally .runs)) ⌝ }
     ensures { λ r. ⌜ Kept (studyIn (z .shape) addresses «gp_map» steps frequencies1 frequencies2 points triplets) (z .triplets) (r .held) (now (frequencies .exit)) (now (channels .exit)) (now (places .exit)) (now (numbers .exit)) ⌝ }
 {
     let t = numbers::kernel::magnitude(triplet);
@@ -69,14 +71,15 @@ pub fn run_accepted(
     let pairs = z.pairs;
     let bands2 = z.bands2;
     mark::set_mark(marks, t * pairs + (n1 * bands2 + n2), mark::COMPUTED);
+    let next = sheet_marks::kernel::with_runs(tally, worker, 1);
     Turn {
         no: 0,
-        runs: runs + 1,
+        tally: next,
         held: t,
     }
 }
 
-// Runs the piece of a triplet and two bands. Questions 14, 15, 20.
+// Runs the piece of a triplet and two bands. Questions 14, 15, 21, 20.
 pub fn run_asked(
     frequencies: &mut [[f64; 384]; 2],
     channels: &mut [[f64; 384]; 3],
@@ -94,22 +97,23 @@ pub fn run_asked(
     frequencies2: &[f64],
     points: &[f64],
     triplets: &[i64],
-    runs: u64,
+    tally: Tally,
+    worker: i64,
     held: usize,
     triplet: i64,
     b1: i64,
     b2: i64,
 ) -> Turn
-    requires { ⌜ (commonNo (studyNow (z .shape) addresses «gp_map» steps frequencies1 frequencies2 points triplets) (sheetNow weights flags marks runs) ≡ 0) × Prepared (studyNow (z .shape) addresses «gp_map» steps frequencies1 frequencies2 points triplets) z (now second) ⌝ }
+    requires { ⌜ (commonNo (studyNow (z .shape) addresses «gp_map» steps frequencies1 frequencies2 points triplets) (sheetNow weights flags marks (tally .runs)) ≡ 0) × Prepared (studyNow (z .shape) addresses «gp_map» steps frequencies1 frequencies2 points triplets) z (now second) ⌝ }
     requires { ⌜ Kept (studyNow (z .shape) addresses «gp_map» steps frequencies1 frequencies2 points triplets) (z .triplets) held (now frequencies) (now channels) (now places) (now numbers) ⌝ }
-    ensures { λ r. ⌜ Called (studyIn (z .shape) addresses «gp_map» steps frequencies1 frequencies2 points triplets) (sheetIn weights flags marks runs) (run triplet b1 b2) (r .no) (sheetOut weights flags marks (r .runs)) ⌝ }
+    ensures { λ r. ⌜ Called (studyIn (z .shape) addresses «gp_map» steps frequencies1 frequencies2 points triplets) (sheetIn weights flags marks (tally .runs)) (run worker triplet b1 b2) (r .no) (sheetOut weights flags marks (r .tally .runs)) ⌝ }
     ensures { λ r. ⌜ Kept (studyIn (z .shape) addresses «gp_map» steps frequencies1 frequencies2 points triplets) (z .triplets) (r .held) (now (frequencies .exit)) (now (channels .exit)) (now (places .exit)) (now (numbers .exit)) ⌝ }
 {
-    let own = asks::run_first_no(z, marks, runs, triplet, b1, b2);
+    let own = asks::run_first_no(z, marks, tally, worker, triplet, b1, b2);
     if own != 0 {
         return Turn {
             no: own,
-            runs,
+            tally,
             held,
         };
     }
@@ -130,7 +134,8 @@ pub fn run_asked(
         frequencies2,
         points,
         triplets,
-        runs,
+        tally,
+        worker,
         held,
         triplet,
         b1,

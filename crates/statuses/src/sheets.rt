@@ -1,10 +1,10 @@
 // The run sheet: the open count, the tally.
 ghost use mathlib.Core.Path.{_≡_};
-ghost use Prim.Native.Nat.{_*_, _+_};
+ghost use Prim.Native.Nat.{_*_};
 ghost use lib.ListN.{length};
 ghost use lib.Signed.{mag};
 ghost use Rattle.ask.specs.Ask.{firstNo, afterCall};
-ghost use Rattle.sheet_marks.specs.Tallies.{tallyQuestions};
+ghost use Rattle.sheet_marks.specs.Tallies.{tallyQuestions, withRuns};
 ghost use Rattle.sheet_marks.specs.OpenCount.{openQuestions, zerosFrom, cellsPerTriplet};
 use ask::kernel::number_of;
 use sheet_marks::Counts;
@@ -26,16 +26,17 @@ pub fn open_count(counts: Counts, flags: &[i8], triplet: i64, count: &mut u64) -
     }
 }
 
-// Adds runs behind `tally`. Question 20.
-pub fn tally_add(tally: &mut u64, runs: u64) -> u64
-    ensures { λ r. ⌜ r ≡ firstNo (tallyQuestions (now (tally .entry)) runs) ⌝ }
-    ensures { λ r. ⌜ now (tally .exit) ≡ afterCall (firstNo (tallyQuestions (now (tally .entry)) runs)) (now (tally .entry) + runs) (now (tally .entry)) ⌝ }
+// Adds a worker's runs behind `tally`. Questions 21, 20.
+pub fn tally_add(tally: &mut [u64; 16], worker: i64, runs: u64) -> u64
+    ensures { λ r. ⌜ r ≡ firstNo (tallyQuestions (now (tally .entry)) worker runs) ⌝ }
+    ensures { λ r. ⌜ now (tally .exit) ≡ afterCall (firstNo (tallyQuestions (now (tally .entry)) worker runs)) (withRuns (now (tally .entry)) worker runs) (now (tally .entry)) ⌝ }
 {
     let before = *tally;
     let counted = Tally { runs: before };
-    let added = counted.add(runs);
+    let added = counted.add(worker, runs);
     let sum = added.tally;
-    *tally = sum.runs;
+    let counts = sum.runs;
+    *tally = counts;
     let answer = added.answer;
     number_of(answer)
 }

@@ -4,14 +4,14 @@
 //   1  grid, for the lists after it: kind, mesh, list of addresses, list of the map
 //   2  table, for the lists after it: list of its numbers
 //   3  study, for the lists after it: type, both band counts, lists of both frequencies, list of points, list of triplets
-//   4  list of calls: lengths of weights, flags and marks, their content at the start, tally, how many calls, and the calls
+//   4  list of calls: lengths of weights, flags and marks, their content at the start, the sixteen counts, how many calls, and the calls
 //   5  open count: triplets, points, both band counts, length of the flags, the flags, named triplet, then refusal and count
 //
-// A call is its kind (1 run of a piece: triplet, b1, b2; 2 carry on; 3 averaging: triplet, both lists of ids; 5 a whole list through
-// `play`: list of its numbers, list of ids, how many answers, the answers and the tallies after each), then what it is to give: refusal,
-// tally, and 1 with the content of weights, flags and marks, or 0 where that is the content before the call.
+// A call is its kind (1 run of a piece: worker, triplet, b1, b2; 2 carry on: worker; 3 averaging: triplet, both lists of ids; 5 a whole
+// list through `play`: list of its numbers, list of ids, how many answers, the answers, and the sixteen counts after each), then what it is
+// to give: refusal, the sixteen counts, and 1 with the content of weights, flags and marks, or 0 where that is the content before the call.
 //
-// Refusal 0 is an accepted call. Tally and count are hexadecimal. Each block has its own grids, tables and studies. A list's sheet goes
+// Refusal 0 is an accepted call. All counts are hexadecimal. Each block has its own grids, tables and studies. A list's sheet goes
 // from call to call, and after each call all of it is compared, weights by bits; of a NaN only that it is one, since a proved program
 // can make and read no other.
 ghost use mathlib.Core.Path.{_≡_};
@@ -25,16 +25,18 @@ use replay_input::kernel::Cursor;
 use replay_sheet::kernel as content;
 use replay_sheet::kernel::counts;
 use replay_sheet::kernel::open;
+use replay_sheet::kernel::tallies;
 use replay_study::kernel as records;
 use sheet::Answer;
 use sheet::SheetAnswer;
+use sheet::Tally;
 
 // ---- the calls
 
 // What a call gave: the number of its refusal, 0 where it is done, and the tally afterwards.
 struct Made {
     number: u64,
-    tally: u64,
+    tally: Tally,
 }
 
 fn number_in(answer: Answer) -> u64 {
@@ -49,7 +51,7 @@ fn made_of(done: SheetAnswer) -> Made {
     let after = done.tally;
     Made {
         number: number_in(answer),
-        tally: after.runs,
+        tally: after,
     }
 }
 
@@ -68,7 +70,7 @@ fn grid_call(
     weights: &mut [f64],
     flags: &mut [i8],
     marks: &mut [u8],
-    tally: u64,
+    tally: Tally,
     list1: &[i64],
     list2: &[i64],
     answers: &mut [u64],
@@ -104,15 +106,15 @@ fn grid_call(
     )
 }
 
-// Answers that are not the stored ones count as refusal 21.
+// Answers that are not the stored ones count as refusal 22.
 fn checked(number: u64, agrees: bool) -> u64 {
-    if agrees { number } else { 21 }
+    if agrees { number } else { 22 }
 }
 
 // What a call gave, and where the record of what it is to give starts.
 struct Called {
     number: u64,
-    tally: u64,
+    tally: Tally,
     next: Cursor,
 }
 
@@ -122,9 +124,10 @@ fn held(text: &[u8], c: Cursor, done: SheetAnswer, answers: &[u64], tallies: &[u
     let t = content::same_answers(text, a.next, tallies);
     let next = t.next;
     let made = made_of(done);
+    let after = made.tally;
     Called {
         number: checked(made.number, a.agrees & t.agrees),
-        tally: made.tally,
+        tally: after,
         next,
     }
 }
@@ -137,7 +140,7 @@ fn lists_call(
     weights: &mut [f64],
     flags: &mut [i8],
     marks: &mut [u8],
-    tally: u64,
+    tally: Tally,
     list1: &[i64],
     list2: &[i64],
     answers: &mut [u64],
@@ -168,7 +171,7 @@ fn kind_call(
     weights: &mut [f64],
     flags: &mut [i8],
     marks: &mut [u8],
-    tally: u64,
+    tally: Tally,
 ) -> Called {
     let named = calls::read_call(text, kind, c);
     let call = named.call;
@@ -181,9 +184,9 @@ fn kind_call(
     let n1 = one.count;
     let n2 = two.count;
     let mut answers = content::answers_buffer();
-    let mut tallies = content::answers_buffer();
+    let mut tallies = content::tallies_buffer();
     let k = content::answers_of(size.value, &answers);
-    let j = content::answers_of(size.value, &tallies);
+    let j = content::tallies_of(size.value, &tallies);
     lists_call(
         text,
         places,
@@ -215,11 +218,11 @@ fn calls(
     counts: &mut [u64],
 ) {
     let after = content::read_sheet(text, c, weights, flags, marks);
-    let start = input::next_bits(text, after);
+    let start = tallies::read_tally(text, after);
     let head = input::next_count(text, start.next);
     let mut content = c;
     let mut next = head.next;
-    let mut tally = start.value;
+    let mut tally = start.tally;
     let mut left = head.value;
     while 0 < left {
         left -= 1;
@@ -235,14 +238,14 @@ fn calls(
             tally,
         );
         let refusal = input::next_count(text, made.next);
-        let stored = input::next_bits(text, refusal.next);
-        let fresh = input::next_count(text, stored.next);
+        tally = made.tally;
+        let held = tallies::same_tally(text, refusal.next, tally);
+        let fresh = input::next_count(text, held.next);
         let changes = fresh.value != 0;
         content = either(changes, fresh.next, content);
         let a = content::same_sheet(text, content, weights, flags, marks);
         next = either(changes, a.next, fresh.next);
-        tally = made.tally;
-        let answer = (made.number == refusal.value) & (made.tally == stored.value);
+        let answer = (made.number == refusal.value) & held.agrees;
         counts::count_answer(counts, kind.value, made.number, answer & a.agrees);
     }
 }
@@ -324,7 +327,7 @@ fn replay(text: &[u8], counts: &mut [u64]) {
 }
 
 fn main() {
-    let mut counts = [0u64; 126];
+    let mut counts = [0u64; 132];
     let mut text = io::large_buffer();
     let mut blocks: u64 = 1000;
     while 0 < blocks {

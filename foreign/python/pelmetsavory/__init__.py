@@ -1,19 +1,20 @@
 """Proved tetrahedron weights over numpy arrays.
 
 A Grid and a Study say what weights are made of, a Sheet holds the weights, flags, marks and tally of a study, and each other entry of the library
-has a function. Arrays are converted where nothing is lost and otherwise refused, their shapes are checked and never changed. A call that is refused
-raises Refused, which says the question in words, and changes nothing. `test_study()` is a study that anyone can make again from one number.
+has a function. A tally has a count for each of sixteen workers: whoever runs pieces names itself, 0 to 15. Arrays are converted where nothing is lost
+and otherwise refused, their shapes are checked and never changed. A call that is refused raises Refused, which says the question in words, and changes
+nothing. `test_study()` is a study that anyone can make again from one number.
 
 >>> import numpy as np, pelmetsavory as pm
 >>> table, diagonal = pm.relative_grid_address(np.eye(3))
 >>> grid = pm.Grid(2, [1, 1, 1], [[0, 0, 0]], [0, 1])
 >>> study = pm.Study(grid, table, 2, [[1.0, 2.0]], [[0.5, 4.0]], points=[1.0, 1.5, 6.0], triplets=[[0, 0, 0]])
 >>> sheet = pm.Sheet(study)
->>> sheet.run_piece(0, 0, 1)
->>> sheet.carry_on()
->>> sheet.weights.shape, sheet.flags[0, :, 0, 0].tolist(), sheet.tally
-((2, 1, 3, 2, 2), [1, 0, 1], 4)
->>> sheet.run_piece(0, 0, 2)
+>>> sheet.run_piece(1, 0, 0, 1)  # worker 1
+>>> sheet.carry_on(3)  # worker 3
+>>> sheet.weights.shape, sheet.flags[0, :, 0, 0].tolist(), sheet.tally.tolist()
+((2, 1, 3, 2, 2), [1, 0, 1], [0, 1, 0, 3, 0, 0, 0, 0, 0, 0, 0, 0, 0, 0, 0, 0])
+>>> sheet.run_piece(1, 0, 0, 2)
 Traceback (most recent call last):
 pelmetsavory.Refused: question 14 is answered no: Is the named triplet or piece on the sheet?
 """

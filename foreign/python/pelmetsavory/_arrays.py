@@ -27,12 +27,26 @@ def index(name: str, given: Any) -> int:
     raise TypeError(f"{name}: a whole number is wanted, not {given!r}")
 
 
+def signed(name: str, given: Any) -> int:
+    """A whole number of Python or numpy, no bool, that a signed number of 64 bits holds."""
+    return whole(name, index(name, given))
+
+
 def unsigned(name: str, given: Any, bits: int) -> int:
     """A whole number from 0 that so many bits hold."""
     number = index(name, given)
     if not 0 <= number < 2**bits:
         raise OverflowError(f"{name}: {number} is not an unsigned number of {bits} bits")
     return number
+
+
+def counts(name: str, given: ArrayLike) -> np.ndarray:
+    """A count for each of sixteen workers, whole numbers from 0 that 64 bits hold, as a new array."""
+    a = _array(name, given)
+    if a.shape != (16,):
+        raise ValueError(f"{name} has the shape {a.shape}; (16,) is wanted, a count for each worker")
+    each = given if isinstance(given, (list, tuple)) else a  # an array of a list may have rounded its numbers
+    return np.array([unsigned(name, n, 64) for n in each], np.uint64)
 
 
 def real(name: str, given: Any) -> float:

@@ -9,7 +9,7 @@ from typing import Any, Iterable
 import numpy as np
 from numpy.typing import ArrayLike
 
-from ._arrays import inputs, numbers, output, unsigned, whole
+from ._arrays import counts, inputs, numbers, output, signed, whole
 from ._library import LIBRARY, Refused, checked
 from ._stored import Stored, packed, unpacked
 from ._study import Study, arguments, fingerprint
@@ -42,12 +42,12 @@ class Written:
         sheet.__dict__[self.name] = a
 
 
-def _run_row(ids: list[int], triplet: int, b1: int, b2: int) -> tuple[int, ...]:
-    return 0, whole("triplet", triplet), whole("b1", b1), whole("b2", b2), 0, 0
+def _run_row(ids: list[int], worker: int, triplet: int, b1: int, b2: int) -> tuple[int, ...]:
+    return 0, signed("worker", worker), whole("triplet", triplet), whole("b1", b1), whole("b2", b2), 0
 
 
-def _carry_on_row(ids: list[int]) -> tuple[int, ...]:
-    return 1, 0, 0, 0, 0, 0
+def _carry_on_row(ids: list[int], worker: int) -> tuple[int, ...]:
+    return 1, signed("worker", worker), 0, 0, 0, 0
 
 
 def _average_row(ids: list[int], triplet: int, ids1: ArrayLike, ids2: ArrayLike) -> tuple[int, ...]:
@@ -65,21 +65,22 @@ _ROWS = {"run_piece": _run_row, "carry_on": _carry_on_row, "average_triplet": _a
 class Sheet:
     """Weights, flags, marks and tally of a study: new ones with every piece open, or the caller's arrays, which are then written in place.
 
-    A piece is a triplet and a pair of bands; its mark is 0 open, 1 computed, 2 averaged. The tally counts accepted runs, repeats included.
-    A call that is refused raises Refused and changes nothing. The study may change while every piece is open; after that a call raises a
-    ValueError. A copy has arrays and a tally of its own (`copy.copy`: over the same study)."""
+    A piece is a triplet and a pair of bands; its mark is 0 open, 1 computed, 2 averaged. The tally has sixteen counts of accepted runs, repeats
+    included: a run and a carry-on name their worker, 0 to 15, and move that count alone (any other number is refused by question 21). It begins
+    with zeros, or with the sixteen whole numbers that are given. A call that is refused raises Refused and changes nothing. The study may change
+    while every piece is open; after that a call raises a ValueError. A copy has arrays and a tally of its own (`copy.copy`: over the same study)."""
 
     weights = Written("The weights (channel, triplet, point, b1, b2).", np.float64)
     flags = Written("The flags (triplet, point, b1, b2): 1 where every channel is closed.", np.int8)
     marks = Written("The marks (triplet, b1, b2): 0 open, 1 computed, 2 averaged.", np.uint8)
 
-    def __init__(self, study: Study, weights: np.ndarray | None = None, flags: np.ndarray | None = None, marks: np.ndarray | None = None, tally: int = 0) -> None:
+    def __init__(self, study: Study, weights: np.ndarray | None = None, flags: np.ndarray | None = None, marks: np.ndarray | None = None, tally: ArrayLike | None = None) -> None:
         shapes, self._study = study.shapes(), study
         self.weights = np.zeros(shapes.weights, np.float64) if weights is None else weights
         self.flags = np.zeros(shapes.flags, np.int8) if flags is None else flags
         self.marks = np.zeros(shapes.marks, np.uint8) if marks is None else marks
-        self._tally = np.array([unsigned("tally", tally, 64)], np.uint64)
-        self.began = tally
+        self._tally = np.zeros(16, np.uint64) if tally is None else counts("tally", tally)
+        self._began = self._tally.copy()
         self._made_of = study._records()
 
     @property
@@ -88,56 +89,58 @@ class Sheet:
         return self._study
 
     @property
-    def tally(self) -> int:
-        """How many runs were accepted, repeats included."""
-        return int(self._tally[0])
+    def tally(self) -> np.ndarray:
+        """How many runs of each worker (16,) were accepted, repeats included: a copy. `tolist()` of it has whole numbers of Python."""
+        return self._tally.copy()
 
     @property
-    def began(self) -> int:
-        """The tally that the sheet began with: `take` counts what grew since. A worker that goes on from a copy sets `own.began = own.tally`."""
-        return self._began
+    def began(self) -> np.ndarray:
+        """The tally (16,) that the sheet began with, a copy: `take` counts what grew since. A worker that goes on from a copy of a sheet sets
+        `own.began = own.tally`."""
+        return self._began.copy()
 
     @began.setter
-    def began(self, given: int) -> None:
-        self._began = unsigned("began", given, 64)
+    def began(self, given: ArrayLike) -> None:
+        self._began = counts("began", given)
 
-    def run_piece(self, triplet: int, b1: int, b2: int) -> None:
-        """Writes a piece's weights and flags at every point, and marks it computed."""
-        piece = Piece(whole("triplet", triplet), whole("b1", b1), whole("b2", b2))
-        checked(LIBRARY.pelmetsavory_run_piece(*self._arguments(), piece))
+    def run_piece(self, worker: int, triplet: int, b1: int, b2: int) -> None:
+        """Writes a piece's weights and flags at every point, marks it computed, and counts it for the worker, 0 to 15."""
+        worker, piece = signed("worker", worker), Piece(whole("triplet", triplet), whole("b1", b1), whole("b2", b2))
+        checked(LIBRARY.pelmetsavory_run_piece(*self._arguments(), worker, piece))
 
-    def carry_on(self) -> None:
-        """Runs every open piece."""
-        checked(LIBRARY.pelmetsavory_carry_on(*self._arguments()))
+    def carry_on(self, worker: int) -> None:
+        """Runs every open piece, and counts them for the worker, 0 to 15."""
+        worker = signed("worker", worker)
+        checked(LIBRARY.pelmetsavory_carry_on(*self._arguments(), worker))
 
     def average_triplet(self, triplet: int, ids1: ArrayLike, ids2: ArrayLike) -> None:
         """Averages the weights and flags of a triplet, all of whose pieces are computed, over degenerate bands. An id list (bands,) gives of each
-        band its own place, or the id of the band before it where the two are degenerate."""
+        band its own place, or the id of the band before it where the two are degenerate. It is no run: it names no worker, and no count moves."""
         a, b = numbers("ids1", np.int64, ids1, "bands"), numbers("ids2", np.int64, ids2, "bands")
         checked(LIBRARY.pelmetsavory_average_triplet(*self._arguments(), whole("triplet", triplet), *inputs(a, b)))
 
     def play(self, calls: Iterable[tuple]) -> tuple[np.ndarray, np.ndarray]:
-        """Makes a list of calls: the status of each, 0 or the number of its question, and the tally after it.
+        """Makes a list of n calls: the status (n,) of each, 0 or the number of its question, and the counts (n, 16) after it.
 
-        A call is ("run_piece", triplet, b1, b2), ("carry_on",) or ("average_triplet", triplet, ids1, ids2); one that is refused changes nothing,
-        and the next is made. What all of them ask is asked once, so a list costs what its calls compute. The list itself asks 12, has it six numbers
-        a call, and as many answers and tallies as calls (here always yes)."""
+        A call is ("run_piece", worker, triplet, b1, b2), ("carry_on", worker) or ("average_triplet", triplet, ids1, ids2); one that is refused
+        changes nothing, and the next is made. What all of them ask is asked once, so a list costs what its calls compute. The list itself asks 12,
+        has it of each call six numbers, one answer and sixteen counts (here always yes)."""
         ids: list[int] = []
         rows = [_ROWS[name](ids, *given) for name, *given in calls]
         return self.play_list(rows, ids)
 
-    def run_pieces(self, pieces: ArrayLike) -> tuple[np.ndarray, np.ndarray]:
-        """Runs the pieces (n, 3), each a triplet, b1 and b2, in one call: the status of each and the tally after it, as `play`."""
-        p = numbers("pieces", np.int64, pieces, "n", 3)
+    def run_pieces(self, worker: int, pieces: ArrayLike) -> tuple[np.ndarray, np.ndarray]:
+        """Runs the pieces (n, 3), each a triplet, b1 and b2, all for one worker, in one call: the status of each and the counts after it, as `play`."""
+        worker, p = signed("worker", worker), numbers("pieces", np.int64, pieces, "n", 3)
         rows = np.zeros((len(p), 6), np.int64)
-        rows[:, 1:4] = p
+        rows[:, 1], rows[:, 2:5] = worker, p
         return self.play_list(rows, [])
 
     def play_list(self, rows: ArrayLike, ids: ArrayLike) -> tuple[np.ndarray, np.ndarray]:
-        """The same by numbers (n, 6): 0, triplet, b1, b2 runs a piece; 1 carries on; any other kind averages a triplet, with the start and the
-        end in `ids` of the first id list and of the second."""
+        """The same by numbers (n, 6): 0, worker, triplet, b1, b2 runs a piece; 1, worker carries on; any other kind averages a triplet, with the
+        start and the end in `ids` of the first id list and of the second."""
         r, i = numbers("rows", np.int64, rows, "n", 6), numbers("ids", np.int64, ids, "n")
-        answers, tallies = np.zeros(len(r), np.uint64), np.zeros(len(r), np.uint64)
+        answers, tallies = np.zeros(len(r), np.uint64), np.zeros((len(r), 16), np.uint64)
         checked(LIBRARY.pelmetsavory_play(*self._arguments(), *inputs(r, i), *output(answers, 8), *output(tallies, 8)))
         return answers, tallies
 
@@ -146,10 +149,13 @@ class Sheet:
         return open_count(self.flags, triplet)
 
     def take(self, other: Sheet) -> None:
-        """Takes over the pieces that a worker's sheet has computed and this one has open; the tally grows by the worker's own growth.
+        """Takes over the pieces that a worker's sheet has computed and this one has open; each of the sixteen counts grows by what that count has
+        grown in the worker's sheet since it began.
 
-        A sheet of another study or shape, marks that are not sound, a triplet that is averaged there and not here, and a tally that would not
-        stay below 2^63 are refused before anything is changed. The worker's sheet then counts as taken: taking it again adds nothing."""
+        A sheet of another study or shape, marks that are not sound, a triplet that is averaged there and not here, a count below the one that the
+        worker's sheet began with, and one that would not stay below 2^63 are refused before anything is changed. Only counts that grow are asked:
+        one that is full and idle, in either sheet, keeps nobody from taking over. The worker's sheet then counts as taken: taking it again adds
+        nothing."""
         tally, marks, counter, theirs = self._tally_with(other), self.marks, self._tally, other.tally
         new = (other.marks == COMPUTED) & (marks == OPEN)
         at_each_point = new[:, np.newaxis]
@@ -157,10 +163,10 @@ class Sheet:
         np.copyto(self.flags, other.flags, where=at_each_point)
         # stores alone, which no interrupt parts
         marks[new] = COMPUTED
-        counter[0] = tally
+        counter[...] = tally
         other._began = theirs
 
-    def _tally_with(self, other: Sheet) -> int:
+    def _tally_with(self, other: Sheet) -> np.ndarray:
         """The tally after taking another sheet, where it can be taken."""
         if not isinstance(other, Sheet) or other is self:
             raise TypeError("another sheet is wanted")
@@ -173,17 +179,21 @@ class Sheet:
             raise ValueError("this sheet has an array that is read-only")
         if (other.marks[self.marks != AVERAGED] == AVERAGED).any():
             raise ValueError("a triplet is averaged in the other sheet and not in this one")
-        if other.tally < other.began:
-            raise ValueError("the other sheet is damaged: its tally is below the one it began with")
-        tally = ctypes.c_uint64(self.tally)
-        checked(LIBRARY.pelmetsavory_tally_add(ctypes.byref(tally), other.tally - other.began))
-        return tally.value
+        grown = [now - then for now, then in zip(other.tally.tolist(), other.began.tolist())]
+        for worker, runs in enumerate(grown):
+            if runs < 0:
+                raise ValueError(f"the other sheet is damaged: its count of worker {worker} is below the one it began with")
+        tally = self.tally
+        for worker, runs in enumerate(grown):
+            if runs:
+                checked(LIBRARY.pelmetsavory_tally_add(output(tally, 8)[0], worker, runs))
+        return tally
 
     def to_bytes(self) -> bytes:
         """The sheet as it is stored."""
         records = self._records()
         self._check_shapes()
-        return packed(Stored(fingerprint(records), self.weights.shape, self.began, self.tally, self.weights, self.flags, self.marks))
+        return packed(Stored(fingerprint(records), self.weights.shape, self.began.tolist(), self.tally.tolist(), self.weights, self.flags, self.marks))
 
     @classmethod
     def from_bytes(cls, study: Study, data: bytes) -> Sheet:

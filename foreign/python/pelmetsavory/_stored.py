@@ -1,4 +1,4 @@
-"""The stored sheet, format 1: the table in foreign/README.md."""
+"""The stored sheet, format 2: the table in foreign/README.md."""
 from __future__ import annotations
 
 import hashlib
@@ -7,8 +7,8 @@ from typing import NamedTuple
 
 import numpy as np
 
-HEAD, SUM = struct.Struct("<8sQ32s5QQQ"), 32
-MAGIC, VERSION = b"PELSHEET", 1
+START, HEAD, SUM = struct.Struct("<8sQ"), struct.Struct("<8sQ32s5Q16Q16Q"), 32
+MAGIC, VERSION = b"PELSHEET", 2
 
 
 class Stored(NamedTuple):
@@ -16,8 +16,8 @@ class Stored(NamedTuple):
 
     fingerprint: bytes
     shape: tuple[int, ...]
-    began: int
-    tally: int
+    began: list[int]
+    tally: list[int]
     weights: np.ndarray
     flags: np.ndarray
     marks: np.ndarray
@@ -25,7 +25,7 @@ class Stored(NamedTuple):
 
 def packed(s: Stored) -> bytes:
     """A sheet's bytes."""
-    head = HEAD.pack(MAGIC, VERSION, s.fingerprint, *s.shape, s.began, s.tally)
+    head = HEAD.pack(MAGIC, VERSION, s.fingerprint, *s.shape, *s.began, *s.tally)
     parts, sha = [head, s.weights.tobytes(), s.flags.tobytes(), s.marks.tobytes()], hashlib.sha256()
     for part in parts:
         sha.update(part)
@@ -34,11 +34,15 @@ def packed(s: Stored) -> bytes:
 
 def unpacked(data: bytes, fingerprint: bytes, shape: tuple[int, ...]) -> Stored:
     """What the bytes of a sheet hold, where they are whole and of that study and shape; otherwise a ValueError says what they are."""
-    if len(data) < HEAD.size + SUM or data[:8] != MAGIC:
+    if len(data) < START.size or data[:8] != MAGIC:
         raise ValueError("this is not a stored sheet")
-    _, version, of, *stored_shape, began, tally = HEAD.unpack_from(data)
-    if version != VERSION:
+    _, version = START.unpack_from(data)
+    if version != VERSION:  # another format has another head
         raise ValueError(f"this sheet is stored in format {version}; format {VERSION} is read")
+    if len(data) < HEAD.size + SUM:
+        raise ValueError("this stored sheet was cut short")
+    _, _, of, *numbers = HEAD.unpack_from(data)
+    stored_shape, began, tally = numbers[:5], numbers[5:21], numbers[21:]
     channels, triplets, points, b1, b2 = stored_shape
     pieces = triplets * b1 * b2
     cells = pieces * points

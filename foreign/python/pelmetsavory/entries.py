@@ -2,7 +2,7 @@
 import ctypes
 
 # the interface version that this module was made for
-INTERFACE_VERSION = 3
+INTERFACE_VERSION = 4
 
 
 class Piece(ctypes.Structure):
@@ -65,7 +65,8 @@ QUESTIONS = {
     17: "Have both id lists that length, each id its own place or the id before it?",
     18: "Are all the triplet's marks 1?",
     19: "Are its weights finite, magnitude at most 2^60, none a negative zero?",
-    20: "Does the tally stay below 2^63 after all runs of this call?",
+    20: "Does the worker's count stay below 2^63 after all runs of this call?",
+    21: "Is the worker 0 to 15?",
 }
 
 # of each entry: its result, and its arguments as (name, how it crosses, type, count of an array)
@@ -141,7 +142,7 @@ ENTRIES = {
         ("flags_len", "value", ctypes.c_size_t, None),
         ("marks", "mut", ctypes.c_uint8, None),
         ("marks_len", "value", ctypes.c_size_t, None),
-        ("tally", "mut", ctypes.c_uint64, None),
+        ("tally", "mut", ctypes.c_uint64, 16),
         ("list", "const", ctypes.c_int64, None),
         ("list_len", "value", ctypes.c_size_t, None),
         ("ids", "const", ctypes.c_int64, None),
@@ -173,7 +174,8 @@ ENTRIES = {
         ("flags_len", "value", ctypes.c_size_t, None),
         ("marks", "mut", ctypes.c_uint8, None),
         ("marks_len", "value", ctypes.c_size_t, None),
-        ("tally", "mut", ctypes.c_uint64, None),
+        ("tally", "mut", ctypes.c_uint64, 16),
+        ("worker", "value", ctypes.c_int64, None),
         ("piece", "value", Piece, None),
     ]),
     "pelmetsavory_carry_on": (ctypes.c_uint64, [
@@ -198,7 +200,8 @@ ENTRIES = {
         ("flags_len", "value", ctypes.c_size_t, None),
         ("marks", "mut", ctypes.c_uint8, None),
         ("marks_len", "value", ctypes.c_size_t, None),
-        ("tally", "mut", ctypes.c_uint64, None),
+        ("tally", "mut", ctypes.c_uint64, 16),
+        ("worker", "value", ctypes.c_int64, None),
     ]),
     "pelmetsavory_average_triplet": (ctypes.c_uint64, [
         ("shape", "value", Shape, None),
@@ -222,7 +225,7 @@ ENTRIES = {
         ("flags_len", "value", ctypes.c_size_t, None),
         ("marks", "mut", ctypes.c_uint8, None),
         ("marks_len", "value", ctypes.c_size_t, None),
-        ("tally", "mut", ctypes.c_uint64, None),
+        ("tally", "mut", ctypes.c_uint64, 16),
         ("triplet", "value", ctypes.c_int64, None),
         ("degenerate_ids1", "const", ctypes.c_int64, None),
         ("degenerate_ids1_len", "value", ctypes.c_size_t, None),
@@ -237,7 +240,8 @@ ENTRIES = {
         ("count", "mut", ctypes.c_uint64, None),
     ]),
     "pelmetsavory_tally_add": (ctypes.c_uint64, [
-        ("tally", "mut", ctypes.c_uint64, None),
+        ("tally", "mut", ctypes.c_uint64, 16),
+        ("worker", "value", ctypes.c_int64, None),
         ("runs", "value", ctypes.c_uint64, None),
     ]),
     "pelmetsavory_integration_weights_at_grid_points": (ctypes.c_uint64, [

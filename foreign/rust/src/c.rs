@@ -1,7 +1,7 @@
 // made by foreign/bindings.py from the Rattle source and foreign/questions.txt: do not edit
 
 /// The interface version that this crate was made for: that of the library must be the same.
-pub const INTERFACE_VERSION: u64 = 3;
+pub const INTERFACE_VERSION: u64 = 4;
 
 /// A piece as a caller names it: any numbers.
 #[repr(C)]
@@ -84,7 +84,8 @@ pub const QUESTIONS: &[(u64, &str)] = &[
     (17, "Have both id lists that length, each id its own place or the id before it?"),
     (18, "Are all the triplet's marks 1?"),
     (19, "Are its weights finite, magnitude at most 2^60, none a negative zero?"),
-    (20, "Does the tally stay below 2^63 after all runs of this call?"),
+    (20, "Does the worker's count stay below 2^63 after all runs of this call?"),
+    (21, "Is the worker 0 to 15?"),
 ];
 
 /// The interface version of the linked library.
@@ -192,7 +193,7 @@ entries! {
         flags_len: usize,
         marks: *mut u8,
         marks_len: usize,
-        tally: *mut u64,
+        tally: *mut [u64; 16],
         list: *const i64,
         list_len: usize,
         ids: *const i64,
@@ -224,7 +225,8 @@ entries! {
         flags_len: usize,
         marks: *mut u8,
         marks_len: usize,
-        tally: *mut u64,
+        tally: *mut [u64; 16],
+        worker: i64,
         piece: Piece,
     ) -> u64;
     pub fn pelmetsavory_carry_on(
@@ -249,7 +251,8 @@ entries! {
         flags_len: usize,
         marks: *mut u8,
         marks_len: usize,
-        tally: *mut u64,
+        tally: *mut [u64; 16],
+        worker: i64,
     ) -> u64;
     pub fn pelmetsavory_average_triplet(
         shape: Shape,
@@ -273,7 +276,7 @@ entries! {
         flags_len: usize,
         marks: *mut u8,
         marks_len: usize,
-        tally: *mut u64,
+        tally: *mut [u64; 16],
         triplet: i64,
         degenerate_ids1: *const i64,
         degenerate_ids1_len: usize,
@@ -288,7 +291,8 @@ entries! {
         count: *mut u64,
     ) -> u64;
     pub fn pelmetsavory_tally_add(
-        tally: *mut u64,
+        tally: *mut [u64; 16],
+        worker: i64,
         runs: u64,
     ) -> u64;
     pub fn pelmetsavory_integration_weights_at_grid_points(

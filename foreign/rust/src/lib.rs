@@ -1,5 +1,6 @@
 //! A safe face of the proved library. A slice crosses as a pointer and a count; the borrow checker gives what a call takes for granted:
 //! valid memory, and no overlap with what is written. An `Err` carries the first question that is answered no; nothing was written then.
+//! A run and a carry-on name their worker, 0 to 15, and move that worker's count alone: see [`Tally`].
 //! The thread's float mode must be IEEE 754's, and the library of this crate's interface version: see [`ready`].
 
 #![deny(missing_docs)]
@@ -144,13 +145,25 @@ macro_rules! on_sheet {
     };
 }
 
+/// Sixteen counts of accepted runs, repeats included: that of worker k in place k. A worker that is not 0 to 15 is refused by question 21, and
+/// then a run or a carry-on that would not keep its worker's count below 2^63 by question 20; the other counts are not looked at.
+pub type Tally = [u64; 16];
+
 /// One call of a list.
 #[derive(Clone, Copy, Debug)]
 pub enum Call<'a> {
     /// [`Sheet::run_piece`]
-    Run(Piece),
+    Run {
+        /// who runs it, 0 to 15
+        worker: i64,
+        /// what is run
+        piece: Piece,
+    },
     /// [`Sheet::carry_on`]
-    CarryOn,
+    CarryOn {
+        /// who carries on, 0 to 15
+        worker: i64,
+    },
     /// [`Sheet::average_triplet`]
     Average {
         /// the triplet, from 0
@@ -162,16 +175,16 @@ pub enum Call<'a> {
     },
 }
 
-/// Of a call in a list: its answer, and the tally after it.
-pub type Played = (Result<(), Refused>, u64);
+/// Of a call in a list: its answer, and the counts after it.
+pub type Played = (Result<(), Refused>, Tally);
 
 /// A list of calls as numbers, six a call, and the ids that it names by their places.
 fn numbered(calls: &[Call]) -> (Vec<i64>, Vec<i64>) {
     let (mut list, mut ids) = (Vec::new(), Vec::new());
     for call in calls {
         list.extend(match *call {
-            Call::Run(p) => [0, p.triplet, p.b1, p.b2, 0, 0],
-            Call::CarryOn => [1, 0, 0, 0, 0, 0],
+            Call::Run { worker, piece: p } => [0, worker, p.triplet, p.b1, p.b2, 0],
+            Call::CarryOn { worker } => [1, worker, 0, 0, 0, 0],
             Call::Average { triplet, ids1, ids2 } => {
                 let start = ids.len();
                 ids.extend(ids1.iter().chain(ids2));
@@ -193,9 +206,9 @@ pub struct Sheet {
     pub flags: Vec<i8>,
     /// Marks, by triplet, b1, b2: 0 open, 1 computed, 2 averaged.
     pub marks: Vec<u8>,
-    /// How many runs were accepted, on the tally that the sheet began with.
-    pub tally: u64,
-    began: u64,
+    /// How many runs of each worker were accepted, on the tally that the sheet began with.
+    pub tally: Tally,
+    began: Tally,
     study: [u8; 32],
     shape: store::Dimensions,
 }
@@ -203,48 +216,50 @@ pub struct Sheet {
 impl Sheet {
     /// A sheet of the study's size with every piece open. Numbers out of range give an empty one, which every call refuses.
     pub fn new(y: &Study) -> Sheet {
-        Sheet::with_tally(y, 0)
+        Sheet::with_tally(y, [0; 16])
     }
 
     /// The same, beginning with a tally.
-    pub fn with_tally(y: &Study, tally: u64) -> Sheet {
+    pub fn with_tally(y: &Study, tally: Tally) -> Sheet {
         let shape = store::Dimensions::of(y);
         let [weights, flags, marks] = shape.lengths();
         Sheet { weights: vec![0.0; weights], flags: vec![0; flags], marks: vec![0; marks], tally, began: tally, study: store::fingerprint(y), shape }
     }
 
     /// The tally that the sheet began with, or had when it was last taken over.
-    pub fn began(&self) -> u64 {
+    pub fn began(&self) -> Tally {
         self.began
     }
 
-    /// Runs one piece: writes its weights and flags at every point and its mark, and counts it.
-    pub fn run_piece(&mut self, y: &Study, piece: Piece) -> Result<(), Refused> {
-        on_sheet!(pelmetsavory_run_piece, self, y, piece)
+    /// Runs one piece: writes its weights and flags at every point and its mark, and counts it for the worker, 0 to 15.
+    pub fn run_piece(&mut self, y: &Study, worker: i64, piece: Piece) -> Result<(), Refused> {
+        on_sheet!(pelmetsavory_run_piece, self, y, worker, piece)
     }
 
-    /// Runs every piece that is open.
-    pub fn carry_on(&mut self, y: &Study) -> Result<(), Refused> {
-        on_sheet!(pelmetsavory_carry_on, self, y)
+    /// Runs every piece that is open, and counts them for the worker, 0 to 15.
+    pub fn carry_on(&mut self, y: &Study, worker: i64) -> Result<(), Refused> {
+        on_sheet!(pelmetsavory_carry_on, self, y, worker)
     }
 
-    /// Averages a triplet whose pieces are all computed over its degenerate sets: each id is its own place or the id before it.
+    /// Averages a triplet whose pieces are all computed over its degenerate sets: each id is its own place or the id before it. It is no run: it
+    /// names no worker, and every count stays.
     pub fn average_triplet(&mut self, y: &Study, triplet: i64, ids1: &[i64], ids2: &[i64]) -> Result<(), Refused> {
         on_sheet!(pelmetsavory_average_triplet, self, y, triplet, ids1.as_ptr(), ids1.len(), ids2.as_ptr(), ids2.len())
     }
 
-    /// Plays a list of calls: of each its answer, and the tally after it. What a call asks is in its own answer, and the next call is made;
+    /// Plays a list of calls: of each its answer, and the counts after it. What a call asks is in its own answer, and the next call is made;
     /// what all of them ask is asked once. (An `Err` of the list itself would be 12, which cannot be here.)
     pub fn play(&mut self, y: &Study, calls: &[Call]) -> Result<Vec<Played>, Refused> {
         let (list, ids) = numbered(calls);
-        let (mut answers, mut tallies) = (vec![0; calls.len()], vec![0; calls.len()]);
+        let (mut answers, mut tallies) = (vec![0; calls.len()], vec![0; calls.len() * 16]);
         self.play_list(y, &list, &ids, &mut answers, &mut tallies)?;
-        Ok(answers.into_iter().map(told).zip(tallies).collect())
+        let after = tallies.chunks_exact(16).map(|counts| counts.try_into().unwrap());
+        Ok(answers.into_iter().map(told).zip(after).collect())
     }
 
-    /// The same by numbers, six a call: 0, triplet, b1, b2 runs a piece; 1 carries on; any other kind averages a triplet, with the start
-    /// and the end in `ids` of either id list. An `Err` is 12: has the list six numbers for each of `answers` and of
-    /// `tallies`?
+    /// The same by numbers, six a call: 0, worker, triplet, b1, b2 runs a piece; 1, worker carries on; any other kind averages a triplet, with
+    /// the start and the end in `ids` of either id list. The counts after a call are sixteen numbers of `tallies`. An `Err` is 12: has the list
+    /// six numbers, and `tallies` sixteen, for each of `answers`?
     pub fn play_list(&mut self, y: &Study, list: &[i64], ids: &[i64], answers: &mut [u64], tallies: &mut [u64]) -> Result<(), Refused> {
         on_sheet!(
             pelmetsavory_play, self, y, list.as_ptr(), list.len(), ids.as_ptr(), ids.len(),
@@ -392,9 +407,9 @@ pub fn num_channels(tp_type: i64) -> Result<usize, Refused> {
     Ok(channels)
 }
 
-/// Adds runs to a tally.
-pub fn tally_add(tally: &mut u64, runs: u64) -> Result<(), Refused> {
-    told(unsafe { c::pelmetsavory_tally_add(tally, runs) })
+/// Adds runs to the count of a worker, 0 to 15.
+pub fn tally_add(tally: &mut Tally, worker: i64, runs: u64) -> Result<(), Refused> {
+    told(unsafe { c::pelmetsavory_tally_add(tally, worker, runs) })
 }
 
 /// Fills the first frequency record, then the second, then the points with test frequencies that anyone can make again from the start. Any

@@ -2,12 +2,14 @@
 //! C, Rust and Python write the same bytes. What is wrong is found before anything is written: after an error the sheets are as they were.
 
 use crate::sha256::{sha256, Sha256};
-use crate::{num_channels, tally_add, Refused, Sheet, Study};
+use crate::{num_channels, tally_add, Refused, Sheet, Study, Tally};
 use std::{fmt, fs, io, path::Path, path::PathBuf};
 
 const MAGIC: &[u8; 8] = b"PELSHEET";
-const FORMAT: u64 = 1;
-const HEAD: usize = 104;
+const FORMAT: u64 = 2;
+const BEGAN: usize = 88;
+const TALLY: usize = 216;
+const HEAD: usize = 344;
 const DIGEST: usize = 32;
 
 /// Why a sheet was not stored, not read or not taken over.
@@ -17,7 +19,7 @@ pub enum Error {
     File(io::Error),
     /// The file is not a stored sheet.
     NotASheet,
-    /// The stored sheet has this format version, and not 1.
+    /// The stored sheet has this format version, and not 2.
     Version(u64),
     /// The stored sheet is cut short or too long.
     Length,
@@ -27,11 +29,11 @@ pub enum Error {
     Study,
     /// The sheet has another shape than the study's.
     Shape,
-    /// The worker's tally is below the one that its sheet began with.
-    Tally,
+    /// In the worker's sheet the count of this worker is below the one that the sheet began with.
+    Tally(usize),
     /// The worker has averaged this triplet, which is not averaged here.
     Averaged(usize),
-    /// A question is answered no: 13 (the marks) or 20 (the tally).
+    /// A question is answered no: 13 (the marks) or 20 (a count of the tally).
     Refused(Refused),
 }
 
@@ -45,7 +47,7 @@ impl fmt::Display for Error {
             Error::Checksum => f.write_str("the stored sheet is damaged: its checksum is not right"),
             Error::Study => f.write_str("the sheet is of another study"),
             Error::Shape => f.write_str("the sheet has another shape than the study's"),
-            Error::Tally => f.write_str("the worker's sheet is damaged: its tally is below the one that it began with"),
+            Error::Tally(k) => write!(f, "the worker's sheet is damaged: its count of worker {k} is below the one that it began with"),
             Error::Averaged(t) => write!(f, "the worker has averaged triplet {t}, which is not averaged here"),
             Error::Refused(e) => e.fmt(f),
         }
@@ -145,13 +147,20 @@ fn number_at(bytes: &[u8], at: usize) -> u64 {
     u64::from_le_bytes(bytes[at..at + 8].try_into().unwrap())
 }
 
+fn tally_at(bytes: &[u8], at: usize) -> Tally {
+    std::array::from_fn(|k| number_at(bytes, at + 8 * k))
+}
+
 /// The shape that the bytes of a whole and undamaged file have.
 fn undamaged(bytes: &[u8]) -> Result<Dimensions, Error> {
-    if bytes.len() < HEAD + DIGEST || !bytes.starts_with(MAGIC) {
+    if bytes.len() < 16 || !bytes.starts_with(MAGIC) {
         return Err(Error::NotASheet);
     }
     if number_at(bytes, 8) != FORMAT {
-        return Err(Error::Version(number_at(bytes, 8)));
+        return Err(Error::Version(number_at(bytes, 8))); // another format has another head
+    }
+    if bytes.len() < HEAD + DIGEST {
+        return Err(Error::Length);
     }
     let shape = Dimensions([48, 56, 64, 72, 80].map(|at| number_at(bytes, at)));
     if bytes.len() as u64 != shape.sizes()[3] {
@@ -188,8 +197,7 @@ impl Sheet {
         out.extend(FORMAT.to_le_bytes());
         out.extend(self.study);
         out.extend(self.shape.0.iter().flat_map(|n| n.to_le_bytes()));
-        out.extend(self.began.to_le_bytes());
-        out.extend(self.tally.to_le_bytes());
+        out.extend(self.began.iter().chain(&self.tally).flat_map(|n| n.to_le_bytes()));
         out.extend(self.weights.iter().flat_map(|w| w.to_le_bytes()));
         out.extend(self.flags.iter().map(|f| *f as u8));
         out.extend(&self.marks);
@@ -214,8 +222,8 @@ impl Sheet {
             weights: w.chunks_exact(8).map(|b| f64::from_le_bytes(b.try_into().unwrap())).collect(),
             flags: f.iter().map(|b| *b as i8).collect(),
             marks: marks.to_vec(),
-            tally: number_at(bytes, 96),
-            began: number_at(bytes, 88),
+            tally: tally_at(bytes, TALLY),
+            began: tally_at(bytes, BEGAN),
             study,
             shape,
         })
@@ -238,8 +246,9 @@ impl Sheet {
     }
 
     /// Takes over the pieces that a worker's sheet of the same study has computed and this one has open: their weights, flags and marks.
-    /// The tally grows by the runs that the worker has counted since its sheet began, repeats included. The worker's sheet then counts as
-    /// taken: it begins with its tally, and taking it again adds nothing.
+    /// Each of the sixteen counts grows by what that count has grown in the worker's sheet since it began, repeats included. Question 20 is
+    /// asked of the counts that grow alone: one that is full and idle, in either sheet, keeps nobody from taking over. The worker's sheet then
+    /// counts as taken: it begins with its tally, and taking it again adds nothing.
     pub fn take(&mut self, worker: &mut Sheet) -> Result<(), Error> {
         let tally = self.tally_with(worker)?;
         let (points, pairs, cells) = (self.shape.points(), self.shape.pairs(), self.flags.len());
@@ -262,7 +271,7 @@ impl Sheet {
     }
 
     /// The tally after a worker's sheet is taken over, where nothing keeps it from that.
-    fn tally_with(&self, worker: &Sheet) -> Result<u64, Error> {
+    fn tally_with(&self, worker: &Sheet) -> Result<Tally, Error> {
         if self.study != worker.study {
             return Err(Error::Study);
         }
@@ -276,8 +285,13 @@ impl Sheet {
         if let Some(p) = (0..self.marks.len()).find(|&p| worker.marks[p] == 2 && self.marks[p] != 2) {
             return Err(Error::Averaged(p / self.shape.pairs()));
         }
+        if let Some(k) = (0..16).find(|&k| worker.tally[k] < worker.began[k]) {
+            return Err(Error::Tally(k));
+        }
         let mut tally = self.tally;
-        tally_add(&mut tally, worker.tally.checked_sub(worker.began).ok_or(Error::Tally)?)?;
+        for k in (0..16).filter(|&k| worker.tally[k] > worker.began[k]) {
+            tally_add(&mut tally, k as i64, worker.tally[k] - worker.began[k])?;
+        }
         Ok(tally)
     }
 }

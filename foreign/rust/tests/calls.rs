@@ -1,7 +1,7 @@
 //! Calls every entry. Writes what it got, as text, to the file that PELMETSAVORY_OUT names: C and Python write the same.
 mod small;
 use pelmetsavory::*;
-use small::{all_of, filled, Small, ADDRESSES, GP_MAP};
+use small::{all_of, filled, plus, Small, ADDRESSES, BEGUN, GP_MAP};
 use std::fmt::Display;
 
 const IDS1: [i64; 3] = [0, 0, 2];
@@ -49,13 +49,13 @@ fn every_entry_and_every_refusal() {
     let y = small.study();
     let mut out = String::new();
     let stored = std::fs::read_to_string(concat!(env!("CARGO_MANIFEST_DIR"), "/../data/listing.txt")).unwrap();
-    let mut s = filled(&y, -7.25, 5, 40);
+    let mut s = filled(&y, -7.25, 5, BEGUN);
 
     // refusals, each of which leaves the sheet as it was
     let mut bad = |number, change: &dyn Fn(&mut Study)| {
         let mut b = y;
         change(&mut b);
-        kept(number, &mut s, |s| s.carry_on(&b));
+        kept(number, &mut s, |s| s.carry_on(&b, 2));
     };
     bad(3, &|b| b.shape.bz_grid_type = i64::MIN);
     bad(4, &|b| b.shape.d_diag[1] = 129);
@@ -69,13 +69,13 @@ fn every_entry_and_every_refusal() {
     bad(11, &|b| b.frequencies1 = &b.frequencies1[1..]);
     bad(11, &|b| b.frequency_points = &[f64::NAN]);
     let last = s.weights.pop().unwrap();
-    kept(12, &mut s, |s| s.carry_on(&y));
+    kept(12, &mut s, |s| s.carry_on(&y, 2));
     s.weights.push(last);
     s.marks[19] = 3;
-    kept(13, &mut s, |s| s.carry_on(&y));
+    kept(13, &mut s, |s| s.carry_on(&y, 2));
     s.marks[19] = 0;
     for (t, b1, b2) in [(3, 0, 0), (0, 3, 0), (0, 0, 3), (-1, 0, 0), (0, i64::MIN, 0)] {
-        kept(14, &mut s, |s| s.run_piece(&y, piece(t, b1, b2)));
+        kept(14, &mut s, |s| s.run_piece(&y, 2, piece(t, b1, b2)));
     }
     kept(18, &mut s, |s| s.average_triplet(&y, 0, &IDS1, &IDS2));
     kept(17, &mut s, |s| s.average_triplet(&y, 0, &IDS1, &[]));
@@ -83,35 +83,37 @@ fn every_entry_and_every_refusal() {
     narrow.shape.num_band2 = 2;
     narrow.frequencies2 = &y.frequencies2[..24];
     kept(16, &mut Sheet::new(&narrow), |s| s.average_triplet(&narrow, 0, &[0, 0], &[0, 0]));
-    s.tally = i64::MAX as u64;
-    kept(20, &mut s, |s| s.run_piece(&y, piece(0, 0, 0)));
-    kept(20, &mut s, |s| s.carry_on(&y));
-    s.tally = 40;
+    kept(20, &mut s, |s| s.run_piece(&y, 9, piece(0, 0, 0)));
+    kept(20, &mut s, |s| s.carry_on(&y, 9));
+    kept(21, &mut s, |s| s.run_piece(&y, 16, piece(0, 0, 0)));
+    kept(21, &mut s, |s| s.carry_on(&y, -1));
 
-    // pieces in a mixed order, repeats counted, averages
+    // pieces in a mixed order, of nine workers; repeats counted, averages
     for k in 0..27 {
         let p = k * 5 % 27;
-        assert_eq!(s.run_piece(&y, piece(p / 9, p / 3 % 3, p % 3)), Ok(()));
+        assert_eq!(s.run_piece(&y, k % 9, piece(p / 9, p / 3 % 3, p % 3)), Ok(()));
     }
-    assert!(listing(&s) == stored && s.tally == 67);
-    assert_eq!(s.run_piece(&y, piece(1, 1, 1)), Ok(()));
-    assert_eq!(s.tally, 68);
+    assert!(listing(&s) == stored);
+    assert_eq!(s.run_piece(&y, 15, piece(1, 1, 1)), Ok(()));
+    let thrice: Vec<(usize, u64)> = (0..9).map(|k| (k, 3)).collect();
+    assert_eq!(s.tally, plus(plus(BEGUN, &thrice), &[(15, 1)]));
     let counts = Counts { num_triplets: 3, num_band0: 5, num_band1: 3, num_band2: 3 };
     let open: Vec<u64> = (0..3).map(|t| open_count(counts, &s.flags, t).unwrap()).collect();
     say(&mut out, "open", vec![text(&open)]);
     assert_eq!(open_count(counts, &s.flags, 3), Err(Refused(14)));
     assert_eq!(open_count(counts, &[], 0), Err(Refused(12)));
     let mut carried = Sheet::new(&y);
-    assert_eq!(carried.run_piece(&y, piece(0, 2, 1)), Ok(()));
-    assert_eq!(carried.carry_on(&y), Ok(()));
-    assert!(listing(&carried) == stored && carried.tally == 27);
+    assert_eq!(carried.run_piece(&y, 15, piece(0, 2, 1)), Ok(()));
+    assert_eq!(carried.carry_on(&y, 0), Ok(()));
+    assert!(listing(&carried) == stored && carried.tally == plus([0; 16], &[(0, 26), (15, 1)]));
     let mut nan = carried.clone();
     nan.weights[135] = f64::NAN;
     kept(19, &mut nan, |s| s.average_triplet(&y, 0, &IDS1, &IDS2));
     assert_eq!(s.average_triplet(&y, 1, &IDS1, &IDS2), Ok(()));
-    kept(15, &mut s, |s| s.run_piece(&y, piece(1, 0, 0)));
+    kept(15, &mut s, |s| s.run_piece(&y, 0, piece(1, 0, 0)));
     kept(15, &mut s, |s| s.average_triplet(&y, 1, &IDS1, &IDS2));
-    say(&mut out, "averaged", vec![hex(&s.weights), text(&s.flags), text(&s.marks), text(&[s.tally])]);
+    say(&mut out, "averaged", vec![hex(&s.weights), text(&s.flags), text(&s.marks), text(&s.tally)]);
+    say(&mut out, "stored", vec![text(&s.to_bytes().unwrap())]);
 
     // all triplets, one triplet, its averages
     let (mut w, mut f, mut w1, mut f1) = (vec![-1.0; 405], vec![7i8; 135], vec![-1.0; 135], vec![7i8; 45]);
@@ -170,23 +172,23 @@ fn every_entry_and_every_refusal() {
     let channels: Vec<usize> = (2..5).map(|t| num_channels(t).unwrap()).collect();
     say(&mut out, "channels", vec![text(&channels)]);
     assert_eq!(num_channels(1), Err(Refused(8)));
-    let mut tally = i64::MAX as u64 - 1;
-    assert_eq!(tally_add(&mut tally, 1), Ok(()));
-    assert_eq!(tally_add(&mut tally, 1), Err(Refused(20)));
-    assert_eq!(tally, i64::MAX as u64);
 
     // empty arrays: no triplets is a sheet, no grid points is an answer
     let mut no_triplets = y;
     no_triplets.triplets = &[];
-    let mut empty = Sheet::new(&no_triplets);
-    assert_eq!(empty.carry_on(&no_triplets), Ok(()));
-    kept(14, &mut empty, |s| s.run_piece(&no_triplets, piece(0, 0, 0)));
+    let mut empty = Sheet::with_tally(&no_triplets, BEGUN);
+    assert_eq!(empty.carry_on(&no_triplets, 9), Ok(()));
+    kept(21, &mut empty, |s| s.carry_on(&no_triplets, 16));
+    kept(14, &mut empty, |s| s.run_piece(&no_triplets, 16, piece(0, 0, 0)));
+    assert_eq!(empty.tally, BEGUN);
     assert_eq!(integration_weight(&no_triplets, &mut [], &mut []), Ok(()));
     assert_eq!(neighboring_grid_points_many(&mut [], &[], &[0, 0, 0], g), Ok(()));
     assert_eq!(integration_weights_at_grid_points(&mut [], &[0.5], &small.table, &[], at, g, Function::J), Ok(()));
     assert_eq!(fill_neighboring_grid_points(&mut [], 0, &[], g), Err(Refused(7)));
 
     lists(&y, &mut out);
+    no_workers_and_full_counts(&y);
+    others_are_full(&y);
     answers(&stored, &mut out);
     loads(&mut out);
     if let Ok(path) = std::env::var("PELMETSAVORY_OUT") {
@@ -195,58 +197,141 @@ fn every_entry_and_every_refusal() {
 }
 
 const IDS: [i64; 6] = [0, 0, 2, 0, 1, 1];
-const LIST: [[i64; 6]; 14] = [
-    [0, 1, 1, 1, 9, 9], [0, 3, 0, 0, 9, 9], [2, 1, 0, 3, 3, 6], [0, 1, 1, 1, 9, 9], [1, 9, 9, 9, 9, 9], [2, 1, 0, 3, 3, 6], [0, 1, 0, 0, 9, 9],
-    [2, 1, 3, 6, 0, 3], [2, 0, 0, 2, 3, 6], [2, 0, -1, 3, 3, 6], [2, 2, 0, 3, 4, 7], [i64::MIN, 2, 3, 6, 0, 3], [1, 9, 9, 9, 9, 9], [2, i64::MIN, 0, 3, 3, 6],
+const LIST: [[i64; 6]; 20] = [
+    [0, 3, 1, 1, 1, 99], [0, 3, 3, 0, 0, 99], [2, 1, 0, 3, 3, 6], [0, 15, 1, 1, 1, 99], [0, 9, 1, 1, 1, 99], [0, 256, 1, 1, 1, 99], [1, 9, 99, 99, 99, 99],
+    [1, -1, 99, 99, 99, 99], [1, 0, 99, 99, 99, 99], [2, 1, 0, 3, 3, 6], [0, i64::MIN, 1, 0, 0, 99], [2, 1, 3, 6, 0, 3], [2, 0, 0, 2, 3, 6], [2, 0, -1, 3, 3, 6],
+    [2, 2, 0, 3, 4, 7], [i64::MIN, 2, 3, 6, 0, 3], [1, 9, 99, 99, 99, 99], [1, 16, 99, 99, 99, 99], [2, i64::MIN, 0, 3, 3, 6], [0, 7, 0, 2, 2, 99],
 ];
-const STATUSES: [u64; 14] = [0, 14, 18, 0, 0, 0, 15, 15, 17, 17, 17, 0, 0, 14];
+const STATUSES: [u64; 20] = [0, 14, 18, 0, 20, 21, 20, 21, 0, 0, 15, 15, 17, 17, 17, 0, 0, 21, 14, 0];
 
 /// The call that six numbers name.
 fn named(c: &[i64; 6]) -> Call<'static> {
     let part = |start: i64, end: i64| if 0 <= start && start <= end && end <= 6 { &IDS[start as usize..end as usize] } else { &[] };
     match c[0] {
-        0 => Call::Run(piece(c[1], c[2], c[3])),
-        1 => Call::CarryOn,
+        0 => Call::Run { worker: c[1], piece: piece(c[2], c[3], c[4]) },
+        1 => Call::CarryOn { worker: c[1] },
         _ => Call::Average { triplet: c[1], ids1: part(c[2], c[3]), ids2: part(c[4], c[5]) },
     }
 }
 
+/// The number of an answer, 0 where the call was made.
+fn number(told: Result<(), Refused>) -> u64 {
+    told.map_or_else(|no| no.0, |()| 0)
+}
+
 /// A list of calls in one call: in every bit what the same calls make one by one.
 fn lists(y: &Study, out: &mut String) {
-    let (mut answers, mut tallies) = ([7; 14], [7; 14]);
-    let mut s = filled(y, -7.25, 5, 40);
+    let (mut answers, mut tallies) = ([7; 20], [7; 320]);
+    let mut s = filled(y, -7.25, 5, BEGUN);
     let (mut other, mut one_by_one, list) = (s.clone(), s.clone(), LIST.concat());
     kept(12, &mut s, |s| s.play_list(y, &list[1..], &IDS, &mut answers, &mut tallies));
     kept(12, &mut s, |s| s.play_list(y, &list[6..], &IDS, &mut answers, &mut tallies));
-    kept(12, &mut s, |s| s.play_list(y, &list, &IDS, &mut answers[1..], &mut tallies[1..]));
-    kept(12, &mut s, |s| s.play_list(y, &list, &IDS, &mut answers, &mut tallies[1..]));
+    kept(12, &mut s, |s| s.play_list(y, &list, &IDS, &mut answers[1..], &mut tallies[16..]));
+    for length in [0, 20, 300, 304, 319] {
+        kept(12, &mut s, |s| s.play_list(y, &list, &IDS, &mut answers, &mut tallies[..length]));
+    }
     s.marks[26] = 1;
     kept(12, &mut s, |s| s.play_list(y, &[], &IDS, &mut answers, &mut tallies));
     assert_eq!(s.play(y, &[]), Ok(vec![]));
     s.marks[26] = 0;
-    assert!(answers == [7; 14] && tallies == [7; 14]);
+    assert!(answers == [7; 20] && tallies == [7; 320]);
     assert_eq!(s.play(y, &[]), Ok(vec![]));
     assert!(all_of(&s) == all_of(&other));
 
     assert_eq!(s.play_list(y, &list, &IDS, &mut answers, &mut tallies), Ok(()));
     for (k, c) in LIST.iter().enumerate() {
         let told = match named(c) {
-            Call::Run(p) => one_by_one.run_piece(y, p),
-            Call::CarryOn => one_by_one.carry_on(y),
+            Call::Run { worker, piece } => one_by_one.run_piece(y, worker, piece),
+            Call::CarryOn { worker } => one_by_one.carry_on(y, worker),
             Call::Average { triplet, ids1, ids2 } => one_by_one.average_triplet(y, triplet, ids1, ids2),
         };
-        assert_eq!(told.map_or_else(|no| no.0, |()| 0), STATUSES[k]);
-        assert_eq!((answers[k], tallies[k]), (STATUSES[k], one_by_one.tally));
+        assert_eq!(number(told), STATUSES[k]);
+        assert_eq!((answers[k], &tallies[16 * k..16 * k + 16]), (STATUSES[k], &one_by_one.tally[..]));
     }
-    assert!(all_of(&s) == all_of(&one_by_one) && s.tally == 68);
+    assert!(all_of(&s) == all_of(&one_by_one) && s.tally == plus(BEGUN, &[(0, 26), (3, 1), (7, 1), (15, 1)]));
     let calls: Vec<Call> = LIST.iter().map(named).collect();
-    let told: Vec<u64> = other.play(y, &calls).unwrap().iter().map(|(answer, _)| answer.map_or_else(|no| no.0, |()| 0)).collect();
-    assert!(told == STATUSES && all_of(&other) == all_of(&s));
-    let (mut cut, mut told, mut counts) = (filled(y, -7.25, 5, 40), [0; 14], [0; 14]);
-    assert_eq!(cut.play_list(y, &list[..30], &IDS, &mut told[..5], &mut counts[..5]), Ok(()));
-    assert_eq!(cut.play_list(y, &list[30..], &IDS, &mut told[5..], &mut counts[5..]), Ok(())); // resumed where the cut left the sheet
+    let (told, after): (Vec<u64>, Vec<Tally>) = other.play(y, &calls).unwrap().into_iter().map(|(answer, counts)| (number(answer), counts)).unzip();
+    assert!(told == STATUSES && after.concat() == tallies && all_of(&other) == all_of(&s));
+    let (mut cut, mut told, mut counts) = (filled(y, -7.25, 5, BEGUN), [0; 20], [0; 320]);
+    assert_eq!(cut.play_list(y, &list[..30], &IDS, &mut told[..5], &mut counts[..80]), Ok(()));
+    assert_eq!(cut.play_list(y, &list[30..], &IDS, &mut told[5..], &mut counts[80..]), Ok(())); // resumed where the cut left the sheet
     assert!(told == answers && counts == tallies && all_of(&cut) == all_of(&s));
-    say(out, "list", vec![text(&answers), text(&tallies), hex(&s.weights), text(&s.flags), text(&s.marks), text(&[s.tally])]);
+    say(out, "list", vec![text(&answers), text(&tallies), hex(&s.weights), text(&s.flags), text(&s.marks), text(&s.tally)]);
+    s.marks[26] = 3; // refused whole: every call by the same number, and after every one the counts of the beginning
+    assert!(s.play(y, &calls).unwrap() == vec![(Err(Refused(13)), s.tally); 20]);
+}
+
+const NONE: [i64; 6] = [-1, 16, 256, 1 << 32, i64::MIN, i64::MAX];
+const TOP: u64 = i64::MAX as u64;
+const FULL: [u64; 3] = [TOP, TOP + 1, u64::MAX];
+
+/// A run and a carry-on, one by one and as a list, are refused with these numbers.
+fn both_kept(s: &mut Sheet, y: &Study, worker: i64, numbers: [u64; 2]) {
+    kept(numbers[0], s, |s| s.run_piece(y, worker, piece(0, 1, 1)));
+    kept(numbers[1], s, |s| s.carry_on(y, worker));
+    let before = all_of(s);
+    let played = s.play(y, &[Call::Run { worker, piece: piece(0, 1, 1) }, Call::CarryOn { worker }]).unwrap();
+    assert!(played == numbers.map(|n| (Err(Refused(n)), s.tally)) && before == all_of(s));
+}
+
+/// What is no worker is 21, whatever the counts are; 20 is asked of the worker's own.
+fn no_workers_and_full_counts(y: &Study) {
+    for counts in [BEGUN, [FULL[0]; 16], [FULL[1]; 16], [FULL[2]; 16]] {
+        let (mut s, mut tally, full) = (filled(y, -7.25, 5, counts), counts, counts != BEGUN);
+        for worker in NONE {
+            both_kept(&mut s, y, worker, [21, 21]);
+            kept(14, &mut s, |s| s.run_piece(y, worker, piece(0, 3, 0)));
+            for runs in [0, 1, u64::MAX] {
+                assert_eq!(tally_add(&mut tally, worker, runs), Err(Refused(21)));
+            }
+        }
+        for worker in (0..16).filter(|_| full) {
+            both_kept(&mut s, y, worker, [20, 20]);
+            assert_eq!(tally_add(&mut tally, worker, 1), Err(Refused(20)));
+            assert_eq!(tally_add(&mut tally, worker, u64::MAX), Err(Refused(20)));
+            assert_eq!(number(tally_add(&mut tally, worker, 0)), if counts[0] == TOP { 0 } else { 20 });
+        }
+        assert!(tally == counts && s.tally == counts);
+
+        // nothing is open: both are still asked; an averaged triplet is 15 before either, and averaging asks neither
+        s.marks.fill(1);
+        NONE.iter().for_each(|&worker| kept(21, &mut s, |s| s.carry_on(y, worker)));
+        for worker in 0..16 {
+            assert_eq!(number(s.carry_on(y, worker)), if counts[0] > TOP { 20 } else { 0 });
+        }
+        assert_eq!(s.average_triplet(y, 0, &IDS1, &IDS2), Ok(()));
+        for worker in NONE.into_iter().chain([9]) {
+            kept(15, &mut s, |s| s.run_piece(y, worker, piece(0, 1, 1)));
+        }
+        assert_eq!(s.tally, counts);
+    }
+}
+
+/// The other counts are full: they refuse nobody, and the sum is far beyond 2^63.
+fn others_are_full(y: &Study) {
+    for w in 0..16 {
+        let (mut s, worker, mut counts) = (Sheet::new(y), w as i64, [0; 16]);
+        (0..16).for_each(|k| counts[k] = FULL[(w + k) % 3]);
+        counts[w] = TOP - 27;
+        s.tally = counts;
+        assert_eq!(s.run_piece(y, worker, piece(0, 1, 1)), Ok(()));
+        assert_eq!(s.tally, plus(counts, &[(w, 1)]));
+        s.tally[w] += 1;
+        kept(20, &mut s, |s| s.carry_on(y, worker)); // 26 are open
+        s.tally[w] -= 1;
+        assert_eq!(s.carry_on(y, worker), Ok(()));
+        assert_eq!(s.tally, plus(counts, &[(w, 27)]));
+        assert_eq!(s.carry_on(y, worker), Ok(()));
+        kept(20, &mut s, |s| s.run_piece(y, worker, piece(0, 1, 1)));
+        counts[w] = 7;
+        s.tally = counts;
+        s.marks.fill(0);
+        let played = s.play(y, &[Call::Run { worker, piece: piece(2, 0, 1) }, Call::CarryOn { worker }]);
+        assert_eq!(played, Ok(vec![(Ok(()), plus(counts, &[(w, 1)])), (Ok(()), plus(counts, &[(w, 27)]))]));
+        counts[w] = TOP - 1;
+        assert_eq!((tally_add(&mut counts, worker, 1), tally_add(&mut counts, worker, 1)), (Ok(()), Err(Refused(20))));
+        assert!(counts[w] == TOP && (0..16).all(|k| k == w || counts[k] == s.tally[k]));
+    }
 }
 
 /// The answer to the text of the stored study is the stored listing.

@@ -1,13 +1,17 @@
 //! Storing and taking over: what comes back, and each refusal, which leaves every sheet as it was.
 mod small;
 use pelmetsavory::{store::fingerprint, store::Error, Refused, Sheet, Study};
-use small::{all_of, filled, piece_at, Small};
+use small::{all_of, filled, piece_at, plus, Small, BEGUN};
 use std::{fs, path::PathBuf, process};
 
 const IDS1: [i64; 3] = [0, 0, 2];
 const IDS2: [i64; 3] = [0, 1, 1];
-const FILE_BYTES: usize = 136 + 405 * 8 + 135 + 27;
-const MARKS_AT: usize = 104 + 405 * 8 + 135;
+const TOP: u64 = i64::MAX as u64;
+const BEGAN_AT: usize = 88;
+const TALLY_AT: usize = 216;
+const HEAD: usize = 344;
+const MARKS_AT: usize = HEAD + 405 * 8 + 135;
+const FILE_BYTES: usize = MARKS_AT + 27 + 32;
 
 fn place(name: &str) -> PathBuf {
     std::env::temp_dir().join(format!("pelmetsavory.{name}.{}", process::id()))
@@ -50,8 +54,8 @@ fn each_other_study(y: &Study, mut with: impl FnMut(&Study)) {
 fn a_stored_sheet_comes_back_or_is_refused() {
     let small = Small::new();
     let (y, path) = (small.study(), place("store"));
-    let mut s = filled(&y, -7.25, 5, 40);
-    (0..12).for_each(|k| s.run_piece(&y, piece_at(k)).unwrap());
+    let mut s = filled(&y, -7.25, 5, BEGUN);
+    (0..12).for_each(|k| s.run_piece(&y, if k < 8 { k as i64 } else { 15 }, piece_at(k)).unwrap());
     s.average_triplet(&y, 0, &IDS1, &IDS2).unwrap();
 
     // what is stored comes back, and no other file stays
@@ -60,7 +64,8 @@ fn a_stored_sheet_comes_back_or_is_refused() {
     assert!(good.len() == FILE_BYTES && fs::read(&path).unwrap() == good);
     assert!(!place(&format!("store.{}", process::id())).exists());
     let back = Sheet::load(&y, &path).unwrap();
-    assert!(all_of(&back) == all_of(&s) && back == s && (back.tally, back.began()) == (52, 40));
+    let ones: Vec<(usize, u64)> = (0..8).map(|k| (k, 1)).collect();
+    assert!(all_of(&back) == all_of(&s) && back == s && (back.tally, back.began()) == (plus(plus(BEGUN, &ones), &[(15, 4)]), BEGUN));
     assert!(back.to_bytes().unwrap() == good);
 
     // no stored sheet, another version, cut, longer, damaged at any byte
@@ -68,21 +73,32 @@ fn a_stored_sheet_comes_back_or_is_refused() {
         fs::write(&path, bytes).unwrap();
         is(Sheet::load(&y, &path), want);
     };
-    let sealed = |edits: &[(usize, u8)], want: &str| {
-        let mut bytes = good.clone();
-        edits.iter().for_each(|&(at, byte)| bytes[at] = byte);
-        fs::write(&path, &bytes[..FILE_BYTES - 32]).unwrap();
+    let seal = |content: &[u8]| {
+        fs::write(&path, content).unwrap();
         let digest = process::Command::new("sha256sum").arg(&path).output().unwrap().stdout;
         let hex = std::str::from_utf8(&digest[..64]).unwrap();
-        (0..32).for_each(|k| bytes[FILE_BYTES - 32 + k] = u8::from_str_radix(&hex[2 * k..2 * k + 2], 16).unwrap());
-        refused(&bytes, want);
+        let bytes: Vec<u8> = (0..32).map(|k| u8::from_str_radix(&hex[2 * k..2 * k + 2], 16).unwrap()).collect();
+        [content, &bytes].concat()
     };
+    let edited = |edits: &[(usize, u8)]| {
+        let mut bytes = good[..FILE_BYTES - 32].to_vec();
+        edits.iter().for_each(|&(at, byte)| bytes[at] = byte);
+        seal(&bytes)
+    };
+    let sealed = |edits: &[(usize, u8)], want: &str| refused(&edited(edits), want);
     is(Sheet::load(&y, &place("none")), "File");
     refused(&[], "NotASheet");
-    refused(&good[..135], "NotASheet");
+    refused(&good[..15], "NotASheet");
     sealed(&[(7, 0)], "NotASheet");
-    sealed(&[(8, 2)], "Version(2)");
-    refused(&good[..136], "Length");
+    sealed(&[(8, 1)], "Version(1)");
+    sealed(&[(8, 3)], "Version(3)");
+    let mut first = [&edited(&[(8, 1)])[..96], &good[TALLY_AT..TALLY_AT + 8], &good[HEAD..FILE_BYTES - 32]].concat(); // format 1: one count, of 8 bytes
+    refused(&seal(&first), "Version(1)");
+    first[56..64].fill(0);
+    refused(&seal(&first[..104]), "Version(1)");
+    refused(&good[..16], "Length");
+    refused(&good[..375], "Length");
+    refused(&good[..376], "Length");
     refused(&good[..FILE_BYTES - 1], "Length");
     refused(&[&good[..], &[0]].concat(), "Length");
     sealed(&(48..88).map(|at| (at, 0xff)).collect::<Vec<_>>(), "Length");
@@ -96,6 +112,15 @@ fn a_stored_sheet_comes_back_or_is_refused() {
             _ => "Checksum",
         };
         is(Sheet::from_bytes(&y, &bytes), want);
+    }
+
+    // each count in its own place, any number
+    for k in 0..32 {
+        let at = BEGAN_AT + 8 * k;
+        let v = Sheet::from_bytes(&y, &edited(&(at..at + 8).map(|at| (at, 0xff)).collect::<Vec<_>>())).unwrap();
+        let mut counts = [s.began(), s.tally].concat();
+        counts[k] = u64::MAX;
+        assert_eq!([v.began(), v.tally].concat(), counts);
     }
 
     // another study, by each of its numbers and arrays; another shape; marks that are not sound
@@ -124,9 +149,11 @@ fn a_stored_sheet_comes_back_or_is_refused() {
 
     // no triplets is a sheet too
     let none = Study { triplets: &[], ..y };
-    Sheet::with_tally(&none, 9).save(&path).unwrap();
+    let mut empty = Sheet::with_tally(&none, BEGUN);
+    empty.tally[4] = 5;
+    empty.save(&path).unwrap();
     let back = Sheet::load(&none, &path).unwrap();
-    assert!(fs::metadata(&path).unwrap().len() == 136 && (back.tally, back.began()) == (9, 9));
+    assert!(fs::metadata(&path).unwrap().len() == 376 && (back.tally, back.began()) == (empty.tally, BEGUN));
     fs::remove_file(path).unwrap();
 }
 
@@ -141,11 +168,13 @@ fn not_taken(s: &mut Sheet, w: &mut Sheet, want: &str) {
 fn a_worker_is_taken_over_or_refused() {
     let small = Small::new();
     let y = small.study();
-    let (mut s, mut w, mut one) = (filled(&y, -7.25, 5, 40), filled(&y, 0.5, 3, 7), filled(&y, -7.25, 5, 40));
-    s.run_piece(&y, piece_at(0)).unwrap();
-    [0, 1, 2, 2].into_iter().for_each(|k| w.run_piece(&y, piece_at(k)).unwrap());
+    let mut counts: [u64; 16] = std::array::from_fn(|k| 7 + k as u64);
+    counts[14] = u64::MAX; // full, and idle
+    let (mut s, mut w, mut one) = (filled(&y, -7.25, 5, BEGUN), filled(&y, 0.5, 3, counts), filled(&y, -7.25, 5, BEGUN));
+    s.run_piece(&y, 0, piece_at(0)).unwrap();
+    [(3, 0), (3, 1), (3, 2), (15, 2)].into_iter().for_each(|(worker, k)| w.run_piece(&y, worker, piece_at(k)).unwrap());
 
-    // another study, another shape, unsound marks, an average of the worker, a tally that went back, one at the top
+    // another study, another shape, unsound marks, an average of the worker, a count that went back, one at the top
     each_other_study(&y, |other| {
         let mut v = Sheet::new(other);
         not_taken(&mut s, &mut v, "Study");
@@ -173,33 +202,49 @@ fn a_worker_is_taken_over_or_refused() {
     w.marks[18..].fill(2);
     not_taken(&mut s, &mut w, "Averaged(2)");
     w.marks[18..].fill(0);
-    w.tally = 6;
-    not_taken(&mut s, &mut w, "Tally");
-    w.tally = 11;
-    for tally in [i64::MAX as u64 - 3, u64::MAX] {
-        s.tally = tally;
-        not_taken(&mut s, &mut w, "Refused(Refused(20))");
+    let (before, counts) = (s.tally, w.tally);
+    for k in 0..16 {
+        w.tally[k] = w.began()[k] - 1;
+        not_taken(&mut s, &mut w, &format!("Tally({k})"));
+        s.tally[3] = TOP;
+        not_taken(&mut s, &mut w, &format!("Tally({k})"));
+        (s.tally, w.tally) = (before, counts);
     }
-    s.tally = 41;
+    // worker 3 grows by 3; 15 is the last one: the others are not changed before
+    for (worker, tally) in [(3, TOP - 2), (3, TOP), (3, TOP + 1), (3, u64::MAX), (15, TOP), (15, TOP + 1), (15, u64::MAX)] {
+        s.tally[worker] = tally;
+        not_taken(&mut s, &mut w, "Refused(Refused(20))");
+        s.tally = before;
+    }
+    w.tally[6] = u64::MAX;
+    not_taken(&mut s, &mut w, "Refused(Refused(20))");
+    w.tally = counts;
 
     // what is open here is taken over, what is not stays; repeats are counted; taking it again adds nothing
     (w.weights[0], w.flags[0]) = (99.0, 99); // of piece 0, which this sheet has
     s.take(&mut w).unwrap();
-    (0..3).for_each(|k| one.run_piece(&y, piece_at(k)).unwrap());
-    one.tally = 45;
-    assert!(all_of(&s) == all_of(&one) && w.began() == 11);
+    (0..3).for_each(|k| one.run_piece(&y, 0, piece_at(k)).unwrap());
+    one.tally = plus(before, &[(3, 3), (15, 1)]);
+    assert!(all_of(&s) == all_of(&one) && w.began() == counts && w.tally == counts);
     s.take(&mut w).unwrap();
     assert!(all_of(&s) == all_of(&one));
 
-    // a triplet that is averaged here takes nothing over, and the worker's runs count; an average of both is no hindrance
-    (3..9).for_each(|k| s.run_piece(&y, piece_at(k)).unwrap());
+    // a triplet that is averaged here takes nothing over, and the worker's runs count; the counts that do not grow are full, and are not asked
+    (3..9).for_each(|k| s.run_piece(&y, 1, piece_at(k)).unwrap());
     s.average_triplet(&y, 0, &IDS1, &IDS2).unwrap();
-    w.run_piece(&y, piece_at(1)).unwrap();
     let mut before = all_of(&s);
-    s.tally = i64::MAX as u64 - 1;
-    s.take(&mut w).unwrap();
-    before.3 = i64::MAX as u64;
-    assert!(all_of(&s) == before);
+    for full in [TOP, TOP + 1, u64::MAX] {
+        w.run_piece(&y, 5, piece_at(1)).unwrap();
+        s.tally = [full; 16];
+        s.tally[5] = TOP - 1;
+        before.3 = plus(s.tally, &[(5, 1)]);
+        s.take(&mut w).unwrap();
+        assert!(all_of(&s) == before);
+        s.take(&mut w).unwrap(); // nothing grows: nothing is asked
+        assert!(all_of(&s) == before);
+    }
+
+    // and an average of both is no hindrance
     w.marks[..9].fill(2);
     s.take(&mut w).unwrap();
     assert!(all_of(&s) == before);

@@ -9,7 +9,7 @@ fn another_version_is_refused() {
     let calls: [fn(); 6] = [
         || _ = num_channels(2),
         || _ = answer(b""),
-        || _ = tally_add(&mut 0, 1),
+        || _ = tally_add(&mut [0; 16], 0, 1),
         || _ = all_relative_grid_address(),
         || fill_frequencies(0, &mut [], &mut [], &mut []),
         || _ = relative_grid_address(&[1., 0., 0., 0., 1., 0., 0., 0., 1.]),

@@ -10,9 +10,10 @@ use sheet::Shape;
 use sheet::SheetAnswer;
 use sheet::Tally;
 
-// What a call names: its kind, a triplet and two bands; 0 where its kind names none.
+// What a call names: its kind, a worker, a triplet and two bands; 0 where its kind names none.
 pub struct Call {
     pub kind: u64,
+    pub worker: i64,
     pub triplet: i64,
     pub band1: i64,
     pub band2: i64,
@@ -32,7 +33,7 @@ pub fn call_made(
     weights: &mut [f64],
     flags: &mut [i8],
     marks: &mut [u8],
-    tally: u64,
+    tally: Tally,
     list1: &[i64],
     list2: &[i64],
     answers: &mut [u64],
@@ -51,7 +52,8 @@ pub fn call_made(
             weights,
             flags,
             marks,
-            Tally { runs: tally },
+            tally,
+            call.worker,
             call.triplet,
             call.band1,
             call.band2,
@@ -70,7 +72,8 @@ pub fn call_made(
             weights,
             flags,
             marks,
-            Tally { runs: tally },
+            tally,
+            call.worker,
         );
     }
     if call.kind == 5 {
@@ -86,7 +89,7 @@ pub fn call_made(
             weights,
             flags,
             marks,
-            Tally { runs: tally },
+            tally,
             list1,
             list2,
             answers,
@@ -105,7 +108,7 @@ pub fn call_made(
         weights,
         flags,
         marks,
-        Tally { runs: tally },
+        tally,
         call.triplet,
         list1,
         list2,
@@ -118,9 +121,10 @@ pub struct CallRead {
     pub next: Cursor,
 }
 
-fn call_of(kind: u64, triplet: i64, band1: i64, band2: i64, next: Cursor) -> CallRead {
+fn call_of(kind: u64, worker: i64, triplet: i64, band1: i64, band2: i64, next: Cursor) -> CallRead {
     let call = Call {
         kind,
+        worker,
         triplet,
         band1,
         band2,
@@ -128,20 +132,26 @@ fn call_of(kind: u64, triplet: i64, band1: i64, band2: i64, next: Cursor) -> Cal
     CallRead { call, next }
 }
 
-// What a call names: triplet and bands of a run, the triplet of an averaging.
+// What a call names: worker, triplet and bands of a run, the worker of a carry-on, the triplet of an averaging.
 pub fn read_call(text: &[u8], kind: u64, c: Cursor) -> CallRead {
     if kind == 1 {
-        let three = input::next_three(text, c);
+        let w = input::next_whole(text, c);
+        let three = input::next_three(text, w.next);
         let named = three.value;
         let next = three.next;
-        return call_of(kind, named[0], named[1], named[2], next);
+        return call_of(kind, w.value, named[0], named[1], named[2], next);
     }
-    if (kind == 2) | (kind == 5) {
-        return call_of(kind, 0, 0, 0, c);
+    if kind == 2 {
+        let w = input::next_whole(text, c);
+        let next = w.next;
+        return call_of(kind, w.value, 0, 0, 0, next);
+    }
+    if kind == 5 {
+        return call_of(kind, 0, 0, 0, 0, c);
     }
     let t = input::next_whole(text, c);
     let next = t.next;
-    call_of(kind, t.value, 0, 0, next)
+    call_of(kind, 0, t.value, 0, 0, next)
 }
 
 // A list of an averaging or of a list of calls; a run and a carry-on have none.

@@ -8,6 +8,7 @@ use replay_input::kernel::Cursor;
 use replay_study::kernel as records;
 use sheet::Shape;
 use sheet::SheetAnswer;
+use sheet::Tally;
 
 pub fn numbers() -> [i64; 1500]
     ensures { λ r. ⌜ 1500 ≡ length r ⌝ }
@@ -34,7 +35,7 @@ pub fn study_call(
     weights: &mut [f64],
     flags: &mut [i8],
     marks: &mut [u8],
-    tally: u64,
+    tally: Tally,
     list1: &[i64],
     list2: &[i64],
     answers: &mut [u64],

@@ -41,7 +41,7 @@ returns c =
 sizes-of-requires : tie.Need-sizes-of-requires
 sizes-of-requires c κs =
     let s : _ = c .before .before .before .before .before .before .before .before in
-    few-counts (tested (asked s) (study-yes (asked s) (start s) (average (s .args .triplet) (s .args .degenerate-ids1 .now) (s .args .degenerate-ids2 .now)) (sym (c .before .common-first-no .ensures) ∙ c .if1 .left)))
+    few-counts (tested (asked s) (study-yes (asked s) (start s) (sym (c .before .common-first-no .ensures) ∙ c .if1 .left)))
 
 average-asked-requires : tie.Need-average-asked-requires
 average-asked-requires c κs =

@@ -2,6 +2,8 @@
 use borrow.Author.Needs.{needs}
 use lib.ListN.{length, take}
 use mathlib.Core.Path.{_∙_, _≡_, ap, sym}
+use mir.Syntax.{w64}
+use mir.ValLaws.{toZ-ofZ}
 use native.Mathlib.Omega.{arith}
 use Rattle.sheet_fill.proofs.PieceLaws.{kept-none}
 use Rattle.sheet_step.proofs.StepLaws.{common-refused, study-yes}
@@ -50,12 +52,12 @@ same-length c = search needs
 returns : tie.Need-returns
 returns c =
     let s : _ = c .before .before .before .before .before .before .before .before .before in
-    common-refused (asked s) (start s) carry (c .before .before .common-first-no .result) _ (c .before .before .common-first-no .ensures) (c .before .if1 .taken) (c .refused .ensures)
+    common-refused (asked s) (start s) (carry (s .args .worker)) (c .before .before .common-first-no .result) _ (c .before .before .common-first-no .ensures) (c .before .if1 .taken) (c .refused .ensures)
 
 sizes-of-requires : tie.Need-sizes-of-requires
 sizes-of-requires c κs =
     let s : _ = c .before .before .before .before .before .before .before .before in
-    few-counts (tested (asked s) (study-yes (asked s) (start s) carry (sym (c .before .common-first-no .ensures) ∙ c .if1 .left)))
+    few-counts (tested (asked s) (study-yes (asked s) (start s) (sym (c .before .common-first-no .ensures) ∙ c .if1 .left)))
 
 second-steps-requires : tie.Need-second-steps-requires
 second-steps-requires c κs =
@@ -91,7 +93,8 @@ same-length-4 c = search needs
 returns-2 : tie.Need-returns-2
 returns-2 c =
     let s : _ = c .before .before .before .before .before .before .before .before .before .before .before .before .before .before .before .before .before .before .before .before .before .before .before .before .before in
-    did (asked s) (start s) carry _ _ _ _ _ _ (called-shaped (asked s) (start s) (c .before .before .before .before .before .before .before .before .before .before .before .before .before .before .before .before .sizes-of .ensures) (c .before .before .before .before .before .before .carry-asked .ensures .0)) (c .answer-of .ensures)
+    let told = rw (toZ-ofZ w64 (s .args .worker) (s .fits .worker)) at (c .before .before .before .before .before .before .carry-asked .ensures .0) in
+    did (asked s) (start s) (carry (s .args .worker)) _ _ _ _ _ _ (called-shaped (asked s) (start s) (c .before .before .before .before .before .before .before .before .before .before .before .before .before .before .before .before .sizes-of .ensures) told) (c .answer-of .ensures)
 
 pub carry-on-spec : {M : Type 1} → statement M
 carry-on-spec =

@@ -44,9 +44,9 @@ ready-all c = let s = c .before .before .before .before .before .before .before 
 lent : (c : tie.After-second-steps) → let s = c .before .before .before .before .before .before .before .before .before .before .before .before .before in take (length (s .args .relative-grid-address .now)) (c .second-steps .result) ≡ secondSteps (c .before .before .before .before .sizes-of .result .tp) (s .args .relative-grid-address .now)
 lent c = let s = c .before .before .before .before .before .before .before .before .before .before .before .before .before in second-lent (c .before .before .before .before .sizes-of .result .tp) (s .args .relative-grid-address .now) (c .second-steps .result) (c .second-steps .ensures)
 
--- what 14, 15 and 20 say
-own : (c : tie.After-run-first-no) → let s = c .before .before .before .before .before .before .before .before .before .before .before in c .run-first-no .result ≡ firstNo (pieceQuestions (c .before .before .sizes-of .result) (s .args .marks .now) (s .args .triplet) (s .args .b1) (s .args .b2) ++ tallyQuestions (s .args .tally .runs) 1)
-own c = let s = c .before .before .before .before .before .before .before .before .before .before .before in rw (toZ-ofZ w64 (s .args .triplet) (s .fits .triplet), toZ-ofZ w64 (s .args .b1) (s .fits .b1), toZ-ofZ w64 (s .args .b2) (s .fits .b2)) at (c .run-first-no .ensures)
+-- what 14, 15, 21 and 20 say
+own : (c : tie.After-run-first-no) → let s = c .before .before .before .before .before .before .before .before .before .before .before in c .run-first-no .result ≡ firstNo (pieceQuestions (c .before .before .sizes-of .result) (s .args .marks .now) (s .args .triplet) (s .args .b1) (s .args .b2) ++ tallyQuestions (s .args .tally .runs) (s .args .worker) 1)
+own c = let s = c .before .before .before .before .before .before .before .before .before .before .before in rw (toZ-ofZ w64 (s .args .worker) (s .fits .worker), toZ-ofZ w64 (s .args .triplet) (s .fits .triplet), toZ-ofZ w64 (s .args .b1) (s .fits .b1), toZ-ofZ w64 (s .args .b2) (s .fits .b2)) at (c .run-first-no .ensures)
 
 common-first-no-requires : tie.Need-common-first-no-requires
 common-first-no-requires c κs = search needs
@@ -60,12 +60,12 @@ same-length c = search needs
 returns : tie.Need-returns
 returns c =
     let s : _ = c .before .before .before .before .before .before .before .before .before in
-    common-refused (asked s) (start s) (run (s .args .triplet) (s .args .b1) (s .args .b2)) (c .before .before .common-first-no .result) _ (c .before .before .common-first-no .ensures) (c .before .if1 .taken) (c .refused .ensures)
+    common-refused (asked s) (start s) (run (s .args .worker) (s .args .triplet) (s .args .b1) (s .args .b2)) (c .before .before .common-first-no .result) _ (c .before .before .common-first-no .ensures) (c .before .if1 .taken) (c .refused .ensures)
 
 sizes-of-requires : tie.Need-sizes-of-requires
 sizes-of-requires c κs =
     let s : _ = c .before .before .before .before .before .before .before .before in
-    few-counts (tested (asked s) (study-yes (asked s) (start s) (run (s .args .triplet) (s .args .b1) (s .args .b2)) (sym (c .before .common-first-no .ensures) ∙ c .if1 .left)))
+    few-counts (tested (asked s) (study-yes (asked s) (start s) (sym (c .before .common-first-no .ensures) ∙ c .if1 .left)))
 
 run-first-no-requires : tie.Need-run-first-no-requires
 run-first-no-requires c κs =
@@ -82,8 +82,8 @@ same-length-2 c = search needs
 returns-2 : tie.Need-returns-2
 returns-2 c =
     let s : _ = c .before .before .before .before .before .before .before .before .before .before .before .before .before in
-    let t : _ = run-no (asked s) (start s) (yes (c .before .before .before .before)) (c .before .before .before .before .sizes-of .ensures) (s .args .triplet) (s .args .b1) (s .args .b2) (own (c .before .before)) (c .before .if2 .taken) in
-    did (asked s) (start s) (run (s .args .triplet) (s .args .b1) (s .args .b2)) _ _ _ _ _ _ t (c .refused2 .ensures ∙ refused-is (c .before .before .run-first-no .result) (s .args .tally .runs) (c .before .if2 .taken))
+    let t : _ = run-no (asked s) (start s) (yes (c .before .before .before .before)) (c .before .before .before .before .sizes-of .ensures) (s .args .worker) (s .args .triplet) (s .args .b1) (s .args .b2) (own (c .before .before)) (c .before .if2 .taken) in
+    did (asked s) (start s) (run (s .args .worker) (s .args .triplet) (s .args .b1) (s .args .b2)) _ _ _ _ _ _ t (c .refused2 .ensures ∙ refused-is (c .before .before .run-first-no .result) (s .args .tally .runs) (c .before .if2 .taken))
 
 second-steps-requires : tie.Need-second-steps-requires
 second-steps-requires c κs =
@@ -103,7 +103,7 @@ run-accepted-requires c κs =
     let s : _ = c .before .before .before .before .before .before .before .before .before .before .before .before .before .before .before .before .before .before .before .before .before in
     let z : _ = c .before .before .before .before .before .before .before .before .before .before .before .before .sizes-of .ensures in (
       (shaped-yes (asked s) (start s) z (yes (c .before .before .before .before .before .before .before .before .before .before .before .before)), prepared (asked s) (start s) z (lent (c .before .before .before .before .before .before .before .before))),
-      (rw (toZ-ofZ w64 (s .args .triplet) (s .fits .triplet), toZ-ofZ w64 (s .args .b1) (s .fits .b1), toZ-ofZ w64 (s .args .b2) (s .fits .b2)) (sym (own (c .before .before .before .before .before .before .before .before .before .before)) ∙ c .before .before .before .before .before .before .before .before .before .if2 .left), kept-none _ _ _ _),
+      (rw (toZ-ofZ w64 (s .args .worker) (s .fits .worker), toZ-ofZ w64 (s .args .triplet) (s .fits .triplet), toZ-ofZ w64 (s .args .b1) (s .fits .b1), toZ-ofZ w64 (s .args .b2) (s .fits .b2)) (sym (own (c .before .before .before .before .before .before .before .before .before .before)) ∙ c .before .before .before .before .before .before .before .before .before .if2 .left), kept-none _ _ _ _),
     )
 
 answer-of-requires : tie.Need-answer-of-requires
@@ -121,8 +121,8 @@ same-length-5 c = search needs
 returns-3 : tie.Need-returns-3
 returns-3 c =
     let s : _ = c .before .before .before .before .before .before .before .before .before .before .before .before .before .before .before .before .before .before .before .before .before .before .before .before .before .before .before .before in
-    let t : _ = rw (toZ-ofZ w64 (s .args .triplet) (s .fits .triplet), toZ-ofZ w64 (s .args .b1) (s .fits .b1), toZ-ofZ w64 (s .args .b2) (s .fits .b2)) at (c .before .before .before .before .before .before .run-accepted .ensures .0) in
-    did (asked s) (start s) (run (s .args .triplet) (s .args .b1) (s .args .b2)) _ _ _ _ _ _ (called-shaped (asked s) (start s) (c .before .before .before .before .before .before .before .before .before .before .before .before .before .before .before .before .before .before .before .sizes-of .ensures) t) (c .answer-of .ensures)
+    let t : _ = rw (toZ-ofZ w64 (s .args .worker) (s .fits .worker), toZ-ofZ w64 (s .args .triplet) (s .fits .triplet), toZ-ofZ w64 (s .args .b1) (s .fits .b1), toZ-ofZ w64 (s .args .b2) (s .fits .b2)) at (c .before .before .before .before .before .before .run-accepted .ensures .0) in
+    did (asked s) (start s) (run (s .args .worker) (s .args .triplet) (s .args .b1) (s .args .b2)) _ _ _ _ _ _ (called-shaped (asked s) (start s) (c .before .before .before .before .before .before .before .before .before .before .before .before .before .before .before .before .before .before .before .sizes-of .ensures) t) (c .answer-of .ensures)
 
 pub run-piece-spec : {M : Type 1} → statement M
 run-piece-spec =

@@ -9,7 +9,6 @@ ghost use Rattle.sheet_marks.specs.Tallies.{tallyQuestions};
 ghost use Rattle.triplet_study.specs.Tested.{Counted};
 ghost use Rattle.triplet_study.specs.Lent.{studyIn};
 ghost use Rattle.sheet_step.specs.Steps.{commonQuestions, sheetQuestions, pieceQuestions, averageQuestions, areTripletWeights, piecesOf};
-use ask::kernel::number_of;
 use marks::kernel as mark;
 use sheet_marks::Tally;
 use triplet_study::Shape;
@@ -89,19 +88,24 @@ fn piece_first_no(z: Sizes, marks: &[u8], triplet: i64, b1: i64, b2: i64) -> u64
     0
 }
 
-// Questions 14, 15 and 20, of a run.
-pub fn run_first_no(z: Sizes, marks: &[u8], runs: u64, triplet: i64, b1: i64, b2: i64) -> u64
+// Questions 14, 15, 21 and 20, of a run.
+pub fn run_first_no(
+    z: Sizes,
+    marks: &[u8],
+    tally: Tally,
+    worker: i64,
+    triplet: i64,
+    b1: i64,
+    b2: i64,
+) -> u64
     requires { ⌜ Counted z × Holds (piecesOf z) (now marks) ⌝ }
-    ensures { λ r. ⌜ r ≡ firstNo (pieceQuestions z (now (marks .entry)) triplet b1 b2 ++ tallyQuestions runs 1) ⌝ }
+    ensures { λ r. ⌜ r ≡ firstNo (pieceQuestions z (now (marks .entry)) triplet b1 b2 ++ tallyQuestions (tally .runs) worker 1) ⌝ }
 {
     let own = piece_first_no(z, marks, triplet, b1, b2);
     if own != 0 {
         return own;
     }
-    let tally = Tally { runs };
-    let added = tally.add(1);
-    let room = added.answer;
-    number_of(room)
+    sheet_marks::kernel::tally_first_no(tally, worker, 1)
 }
 
 // Question 19, of triplet `t`.

@@ -15,8 +15,8 @@ abbrev μ-loop : tie.MeasureT-loop
 read-sheet-requires : tie.Need-read-sheet-requires Inv-loop μ-loop
 read-sheet-requires c κs = search needs
 
-next-bits-requires : tie.Need-next-bits-requires Inv-loop μ-loop
-next-bits-requires c κs = search needs
+read-tally-requires : tie.Need-read-tally-requires Inv-loop μ-loop
+read-tally-requires c κs = search needs
 
 next-count-requires : tie.Need-next-count-requires Inv-loop μ-loop
 next-count-requires c κs = search needs
@@ -36,8 +36,8 @@ kind-call-requires c κs = search needs
 next-count-requires-3 : tie.Need-next-count-requires-3 Inv-loop μ-loop
 next-count-requires-3 c κs = search needs
 
-next-bits-requires-2 : tie.Need-next-bits-requires-2 Inv-loop μ-loop
-next-bits-requires-2 c κs = search needs
+same-tally-requires : tie.Need-same-tally-requires Inv-loop μ-loop
+same-tally-requires c κs = search needs
 
 next-count-requires-4 : tie.Need-next-count-requires-4 Inv-loop μ-loop
 next-count-requires-4 c κs = search needs
@@ -87,14 +87,14 @@ calls-spec =
     Inv-loop
     μ-loop
     read-sheet-requires
-    next-bits-requires
+    read-tally-requires
     next-count-requires
     loop-holds
     sub-left
     next-count-requires-2
     kind-call-requires
     next-count-requires-3
-    next-bits-requires-2
+    same-tally-requires
     next-count-requires-4
     either-requires
     same-sheet-requires

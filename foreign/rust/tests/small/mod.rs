@@ -1,9 +1,11 @@
 //! The small study of the tests and the example: data/study.txt.
 #![allow(dead_code)] // each test and the example uses a part of it
-use pelmetsavory::{relative_grid_address, Piece, Shape, Sheet, Study};
+use pelmetsavory::{relative_grid_address, Piece, Shape, Sheet, Study, Tally};
 
 pub const ADDRESSES: [i64; 36] = [0, 0, 0, 1, 0, 0, -1, 0, 0, 0, 1, 0, 0, -1, 0, 1, 1, 0, 0, 0, 1, 0, 0, -1, 1, 0, 1, 0, 1, 1, 1, 1, 1, -1, -1, -1];
 pub const GP_MAP: [i64; 9] = [0, 1, 3, 5, 6, 8, 9, 10, 12];
+/// What the counts of a test begin with: worker 9's is full.
+pub const BEGUN: Tally = [40, 43, 46, 49, 52, 55, 58, 61, 64, i64::MAX as u64, 70, 73, 76, 79, 82, 85];
 
 pub struct Small {
     pub table: [i64; 288],
@@ -35,7 +37,7 @@ impl Small {
 }
 
 /// A sheet with every entry as told, all pieces open.
-pub fn filled(y: &Study, weight: f64, flag: i8, tally: u64) -> Sheet {
+pub fn filled(y: &Study, weight: f64, flag: i8, tally: Tally) -> Sheet {
     let mut s = Sheet::with_tally(y, tally);
     s.weights.fill(weight);
     s.flags.fill(flag);
@@ -43,8 +45,14 @@ pub fn filled(y: &Study, weight: f64, flag: i8, tally: u64) -> Sheet {
 }
 
 /// All that a sheet holds, with the floats as bits.
-pub fn all_of(s: &Sheet) -> (Vec<u64>, Vec<i8>, Vec<u8>, u64, u64) {
+pub fn all_of(s: &Sheet) -> (Vec<u64>, Vec<i8>, Vec<u8>, Tally, Tally) {
     (s.weights.iter().map(|w| w.to_bits()).collect(), s.flags.clone(), s.marks.clone(), s.tally, s.began())
+}
+
+/// A tally in which some counts are greater by so many.
+pub fn plus(mut tally: Tally, added: &[(usize, u64)]) -> Tally {
+    added.iter().for_each(|&(worker, runs)| tally[worker] += runs);
+    tally
 }
 
 pub fn piece_at(p: usize) -> Piece {

@@ -27,7 +27,7 @@ same-length-5 c = search needs
 
 returns : tie.Need-returns
 returns c =
-    called-play _ _ _ _ _ _ _ _ (c .before .before .before .before .before .before .before .before .before .before .before .play .ensures) _ (c .number-of .ensures)
+    called-play _ _ _ _ _ _ _ _ (c .before .before .before .before .before .before .before .before .before .before .before .before .play .ensures) _ (c .number-of .ensures)
 
 pub pelmetsavory-play-spec : {M : Type 1} → statement M
 pelmetsavory-play-spec =

@@ -24,9 +24,9 @@ same-length-3 c = search needs
 
 returns : tie.Need-returns
 returns c =
-    let s : _ = c .before .before .before .before .before .before .before .before .before .before .before .before .before .before .before .before .before in
+    let s : _ = c .before .before .before .before .before .before .before .before .before .before .before .before .before .before .before .before .before .before in
     called _ _ _ _ (λ i. average (toZ-ofZ w64 (s .args .triplet) (s .fits .triplet) i) (s .args .degenerate-ids1 .now) (s .args .degenerate-ids2 .now)) _ _
-    (c .before .before .before .before .before .before .before .average-triplet .ensures) _ (c .number-of .ensures)
+    (c .before .before .before .before .before .before .before .before .average-triplet .ensures) _ (c .number-of .ensures)
 
 pub pelmetsavory-average-triplet-spec : {M : Type 1} → statement M
 pelmetsavory-average-triplet-spec =

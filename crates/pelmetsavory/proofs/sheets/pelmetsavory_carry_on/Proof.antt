@@ -1,7 +1,9 @@
 -- `pelmetsavory::sheets::pelmetsavory_carry_on` meets its contract: it hands on what the call on the sheet ensures, as status and tally. Assumes nothing.
 use borrow.Author.Needs.{needs}
-use mathlib.Core.Path.{refl}
+use mir.Syntax.{w64}
+use mir.ValLaws.{toZ-ofZ}
 use Rattle.pelmetsavory.proofs.SheetLaws.{called}
+use Rattle.sheet_step.specs.Steps.{carry}
 use Rattle.pelmetsavory.proofs.sheets.pelmetsavory_carry_on.Statement.{statement}
 use Rattle.pelmetsavory.proofs.sheets.pelmetsavory_carry_on.Tie as tie
 
@@ -22,7 +24,8 @@ same-length-3 c = search needs
 
 returns : tie.Need-returns
 returns c =
-    called _ _ _ _ refl _ _ (c .before .before .before .before .before .before .before .carry-on .ensures) _ (c .number-of .ensures)
+    let s = c .before .before .before .before .before .before .before .before .before .before .before .before .before .before .before .before .before .before in
+    called _ _ _ _ (λ i. carry (toZ-ofZ w64 (s .args .worker) (s .fits .worker) i)) _ _ (c .before .before .before .before .before .before .before .before .carry-on .ensures) _ (c .number-of .ensures)
 
 pub pelmetsavory-carry-on-spec : {M : Type 1} → statement M
 pelmetsavory-carry-on-spec =

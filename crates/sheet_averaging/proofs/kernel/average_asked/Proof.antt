@@ -17,7 +17,7 @@ abbrev asked : tie.Start → Study
 asked s = study (s .args .z .shape) (s .args .addresses .now) (s .args .gp-map .now) (s .args .steps .now) (s .args .frequencies1 .now) (s .args .frequencies2 .now) (s .args .points .now) (s .args .triplets .now)
 
 abbrev start : tie.Start → Sheet
-start s = sheet (s .args .weights .now) (s .args .flags .now) (s .args .marks .now) (s .args .runs)
+start s = sheet (s .args .weights .now) (s .args .flags .now) (s .args .marks .now) (s .args .tally .runs)
 
 -- ---- the facts that the checker asks for
 

@@ -26,18 +26,18 @@ arg2 c = back (c .before .number3 .result) (c .before .number3 .ok) ∙ c .befor
 arg3 : (c : tie.After-number4) → let s = c .before .before .before .before .before .before .before .before .before in toZ w64 (ofZ w64 (c .number4 .result)) ≡ numberAt (s .args .list .now) (s .args .i) 3
 arg3 c = back (c .number4 .result) (c .number4 .ok) ∙ c .number4 .ensures
 
-arg4 : (c : tie.After-number6) → let s = c .before .before .before .before .before .before .before .before .before .before .before .before .before .before .before in toZ w64 (ofZ w64 (c .before .number5 .result)) ≡ numberAt (s .args .list .now) (s .args .i) 4
-arg4 c = back (c .before .number5 .result) (c .before .number5 .ok) ∙ c .before .number5 .ensures
+arg4 : (c : tie.After-number5) → let s = c .before .before .before .before .before .before .before .before .before .before in toZ w64 (ofZ w64 (c .number5 .result)) ≡ numberAt (s .args .list .now) (s .args .i) 4
+arg4 c = back (c .number5 .result) (c .number5 .ok) ∙ c .number5 .ensures
 
 arg5 : (c : tie.After-number6) → let s = c .before .before .before .before .before .before .before .before .before .before .before .before .before .before .before in toZ w64 (ofZ w64 (c .number6 .result)) ≡ numberAt (s .args .list .now) (s .args .i) 5
 arg5 c = back (c .number6 .result) (c .number6 .ok) ∙ c .number6 .ensures
 
 -- whether its kind is 0, and whether it is 1
-is-run : (c : tie.After-is-nat) → let s = c .before .before .before .before .before .before .before .before .before .before in c .is-nat .result ≡ isNat (numberAt (s .args .list .now) (s .args .i) 0) 0
-is-run c = c .is-nat .ensures ∙ ap (λ (k : ℤ). isNat k 0) (kind (c .before))
+is-run : (c : tie.After-is-nat) → let s = c .before .before .before .before .before .before .before .before .before .before .before in c .is-nat .result ≡ isNat (numberAt (s .args .list .now) (s .args .i) 0) 0
+is-run c = c .is-nat .ensures ∙ ap (λ (k : ℤ). isNat k 0) (kind (c .before .before))
 
-is-carry : (c : tie.After-is-nat2) → let s = c .before .before .before .before .before .before .before .before .before .before .before .before in c .is-nat2 .result ≡ isNat (numberAt (s .args .list .now) (s .args .i) 0) 1
-is-carry c = c .is-nat2 .ensures ∙ ap (λ (k : ℤ). isNat k 1) (kind (c .before .before .before))
+is-carry : (c : tie.After-is-nat2) → let s = c .before .before .before .before .before .before .before .before .before .before .before .before .before in c .is-nat2 .result ≡ isNat (numberAt (s .args .list .now) (s .args .i) 0) 1
+is-carry c = c .is-nat2 .ensures ∙ ap (λ (k : ℤ). isNat k 1) (kind (c .before .before .before .before))
 
 number-requires : tie.Need-number-requires
 number-requires c κs = search needs
@@ -51,11 +51,14 @@ number-requires-3 c κs = search needs
 number-requires-4 : tie.Need-number-requires-4
 number-requires-4 c κs = search needs
 
+number-requires-5 : tie.Need-number-requires-5
+number-requires-5 c κs = search needs
+
 is-nat-requires : tie.Need-is-nat-requires
 is-nat-requires c κs = search needs
 
 run-asked-requires : tie.Need-run-asked-requires
-run-asked-requires c κs = c .before .before .before .before .before .before .before .before .before .before .before .before .before .before .before .before .before .before .pre .1
+run-asked-requires c κs = c .before .before .before .before .before .before .before .before .before .before .before .before .before .before .before .before .before .before .before .pre .1
 
 same-length : tie.Need-same-length
 same-length c = search needs
@@ -68,16 +71,16 @@ same-length-3 c = search needs
 
 returns : tie.Need-returns
 returns c =
-    let s : _ = c .before .before .before .before .before .before .before .before .before .before .before .before .before .before .before .before .before .before .before .before .before .before .before .before in
-    let n : _ = (c .before .before .before .before .before .before .before .before .before .before .before .before .before .before .before) in
+    let s : _ = c .before .before .before .before .before .before .before .before .before .before .before .before .before .before .before .before .before .before .before .before .before .before .before .before .before in
+    let n : _ = (c .before .before .before .before .before .before .before .before .before .before .before .before .before .before .before .before) in
     let f : _ = c .before .before .before .before .before .run-asked .ensures in
-    (rw (call-run (s .args .list .now) (s .args .ids .now) (s .args .i) (sym (is-run (c .before .before .before .before .before .before .before .before .before .before .before .before .before .before)) ∙ c .before .before .before .before .before .before .before .before .before .before .before .before .before .if1 .taken)) (rw (arg1 n, arg2 n, arg3 n) at (f .0)), f .1)
+    (rw (call-run (s .args .list .now) (s .args .ids .now) (s .args .i) (sym (is-run (c .before .before .before .before .before .before .before .before .before .before .before .before .before .before)) ∙ c .before .before .before .before .before .before .before .before .before .before .before .before .before .if1 .taken)) (rw (arg1 n, arg2 n, arg3 n, arg4 (c .before .before .before .before .before .before .before .before .before .before .before .before .before .before .before)) at (f .0)), f .1)
 
 is-nat-requires-2 : tie.Need-is-nat-requires-2
 is-nat-requires-2 c κs = search needs
 
 carry-asked-requires : tie.Need-carry-asked-requires
-carry-asked-requires c κs = c .before .before .before .before .before .before .before .before .before .before .before .before .before .before .before .before .before .before .before .before .pre .1
+carry-asked-requires c κs = c .before .before .before .before .before .before .before .before .before .before .before .before .before .before .before .before .before .before .before .before .before .pre .1
 
 same-length-4 : tie.Need-same-length-4
 same-length-4 c = search needs
@@ -90,12 +93,9 @@ same-length-6 c = search needs
 
 returns-2 : tie.Need-returns-2
 returns-2 c =
-    let s : _ = c .before .before .before .before .before .before .before .before .before .before .before .before .before .before .before .before .before .before .before .before .before .before .before .before .before .before in
+    let s : _ = c .before .before .before .before .before .before .before .before .before .before .before .before .before .before .before .before .before .before .before .before .before .before .before .before .before .before .before in
     let f : _ = c .before .before .before .before .before .carry-asked .ensures in
-    (rw (call-carry (s .args .list .now) (s .args .ids .now) (s .args .i) (sym (is-run (c .before .before .before .before .before .before .before .before .before .before .before .before .before .before .before .before)) ∙ c .before .before .before .before .before .before .before .before .before .before .before .before .before .before .before .if1 .left) (sym (is-carry (c .before .before .before .before .before .before .before .before .before .before .before .before .before .before)) ∙ c .before .before .before .before .before .before .before .before .before .before .before .before .before .if2 .taken)) (f .0), f .1)
-
-number-requires-5 : tie.Need-number-requires-5
-number-requires-5 c κs = search needs
+    (rw (call-carry (s .args .list .now) (s .args .ids .now) (s .args .i) (sym (is-run (c .before .before .before .before .before .before .before .before .before .before .before .before .before .before .before .before)) ∙ c .before .before .before .before .before .before .before .before .before .before .before .before .before .before .before .if1 .left) (sym (is-carry (c .before .before .before .before .before .before .before .before .before .before .before .before .before .before)) ∙ c .before .before .before .before .before .before .before .before .before .before .before .before .before .if2 .taken)) (rw (arg1 (c .before .before .before .before .before .before .before .before .before .before .before .before .before .before .before .before .before .before)) at (f .0)), f .1)
 
 number-requires-6 : tie.Need-number-requires-6
 number-requires-6 c κs = search needs
@@ -128,8 +128,8 @@ returns-3 c =
     let n : _ = (c .before .before .before .before .before .before .before .before .before .before .before .before .before .before .before .before .before) in
     let m : _ = (c .before .before .before .before .before .before .before .before .before .before .before) in
     let i1 : ids-from .result .now ≡ idsFrom (s .args .ids .now) (numberAt (s .args .list .now) (s .args .i) 2) (numberAt (s .args .list .now) (s .args .i) 3) = ids-from .ensures ∙ (λ k. idsFrom (s .args .ids .now) (arg2 n k) (arg3 n k)) in
-    let i2 : ids-from2 .result .now ≡ idsFrom (s .args .ids .now) (numberAt (s .args .list .now) (s .args .i) 4) (numberAt (s .args .list .now) (s .args .i) 5) = ids-from2 .ensures ∙ (λ k. idsFrom (s .args .ids .now) (arg4 m k) (arg5 m k)) in
-    (rw (call-average (s .args .list .now) (s .args .ids .now) (s .args .i) (sym (is-run (c .before .before .before .before .before .before .before .before .before .before .before .before .before .before .before .before)) ∙ c .before .before .before .before .before .before .before .before .before .before .before .before .before .before .before .if1 .left) (sym (is-carry (c .before .before .before .before .before .before .before .before .before .before .before .before .before .before)) ∙ c .before .before .before .before .before .before .before .before .before .before .before .before .before .if2 .left)) (rw (arg1 n, i1, i2) at (c .before .before .before .before .before .average-asked .ensures)), s .pre .1 .1)
+    let i2 : ids-from2 .result .now ≡ idsFrom (s .args .ids .now) (numberAt (s .args .list .now) (s .args .i) 4) (numberAt (s .args .list .now) (s .args .i) 5) = ids-from2 .ensures ∙ (λ k. idsFrom (s .args .ids .now) (arg4 (c .before .before .before .before .before .before .before .before .before .before .before .before .before .before .before .before) k) (arg5 m k)) in
+    (rw (call-average (s .args .list .now) (s .args .ids .now) (s .args .i) (sym (is-run (c .before .before .before .before .before .before .before .before .before .before .before .before .before .before .before)) ∙ c .before .before .before .before .before .before .before .before .before .before .before .before .before .before .if1 .left) (sym (is-carry (c .before .before .before .before .before .before .before .before .before .before .before .before .before)) ∙ c .before .before .before .before .before .before .before .before .before .before .before .before .if2 .left)) (rw (arg1 n, i1, i2) at (c .before .before .before .before .before .average-asked .ensures)), s .pre .1 .1)
 
 pub one-turn-spec : {M : Type 1} → statement M
 one-turn-spec =
@@ -139,6 +139,7 @@ one-turn-spec =
     number-requires-2
     number-requires-3
     number-requires-4
+    number-requires-5
     is-nat-requires
     run-asked-requires
     same-length
@@ -151,7 +152,6 @@ one-turn-spec =
     same-length-5
     same-length-6
     returns-2
-    number-requires-5
     number-requires-6
     ids-from-requires
     ids-from-requires-2

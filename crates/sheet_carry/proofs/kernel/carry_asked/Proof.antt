@@ -1,6 +1,8 @@
 -- `sheet_carry::kernel::carry_asked` meets its contract. Assumes nothing.
 use borrow.Author.Needs.{needs}
 use mathlib.Core.Path.{_∙_, _≡_, ap, sym}
+use mir.Syntax.{w64}
+use mir.ValLaws.{toZ-ofZ}
 use native.Mathlib.Omega.{arith}
 use Rattle.marks.proofs.BytesLaws.{held-few}
 use Rattle.sheet_marks.specs.Tallies.{addedTo}
@@ -18,13 +20,14 @@ asked s =
     study (s .args .z .shape) (s .args .addresses .now) (s .args .gp-map .now) (s .args .steps .now) (s .args .frequencies1 .now) (s .args .frequencies2 .now) (s .args .points .now) (s .args .triplets .now)
 
 abbrev start : tie.Start → Sheet
-start s = sheet (s .args .weights .now) (s .args .flags .now) (s .args .marks .now) (s .args .runs)
+start s = sheet (s .args .weights .now) (s .args .flags .now) (s .args .marks .now) (s .args .tally .runs)
 
 -- the tally with all runs of the call
-added : (c : tie.After-add) → let s = c .before .before .before .before .before .before .before .before .before in c .add .result ≡ addedTo (s .args .runs) (opens (asked s) (start s) (s .pre .0 .0) (s .pre .0 .1 .counts))
+added : (c : tie.After-add) → let s = c .before .before .before .before .before .before .before .before .before in c .add .result ≡ addedTo (s .args .tally .runs) (s .args .worker) (opens (asked s) (start s) (s .pre .0 .0) (s .pre .0 .1 .counts))
 added c =
     let s = c .before .before .before .before .before .before .before .before .before in
-    c .add .ensures ∙ ap (addedTo (s .args .runs)) (c .before .open-pieces .ensures)
+    let told = rw (toZ-ofZ w64 (s .args .worker) (s .fits .worker)) at (c .add .ensures) in
+    told ∙ ap (addedTo (s .args .tally .runs) (s .args .worker)) (c .before .open-pieces .ensures)
 
 mul-pieces : tie.Need-mul-pieces
 mul-pieces c =
@@ -50,7 +53,7 @@ returns c =
     let s : _ = c .before .before .before .before .before .before .before .before .before .before .before in
     let y = s .pre .0 .0 in
     let p = s .pre .0 .1 .counts in
-    (carry-full (asked s) (start s) y p (added-no (s .args .runs) (opens (asked s) (start s) y p) (added (c .before .before)) (c .before .number-of .ensures)) (c .if1 .taken), s .pre .1)
+    (carry-full (asked s) (start s) y p (s .args .worker) (added-no (s .args .tally .runs) (s .args .worker) (opens (asked s) (start s) y p) (added (c .before .before)) (c .before .number-of .ensures)) (c .if1 .taken), s .pre .1)
 
 fill-open-requires : tie.Need-fill-open-requires
 fill-open-requires c κs =
@@ -74,9 +77,9 @@ returns-2 c =
     let y = s .pre .0 .0 in
     let p = s .pre .0 .1 .counts in
     let a = added (c .before .before .before .before .before .before .before .before .before .before .before .before .before .before .before .before) in
-    let u = sym (added-no (s .args .runs) (opens (asked s) (start s) y p) a (c .before .before .before .before .before .before .before .before .before .before .before .before .before .before .before .number-of .ensures)) ∙ c .before .before .before .before .before .before .before .before .before .before .before .before .before .before .if1 .left in
+    let u = sym (added-no (s .args .tally .runs) (s .args .worker) (opens (asked s) (start s) y p) a (c .before .before .before .before .before .before .before .before .before .before .before .before .before .before .before .number-of .ensures)) ∙ c .before .before .before .before .before .before .before .before .before .before .before .before .before .before .if1 .left in
     let f = c .before .before .before .before .before .before .fill-open .ensures in
-    (carry-done (asked s) (start s) y p u (added-runs (s .args .runs) (opens (asked s) (start s) y p) a u) (f .1 .0) (f .1 .1), f .0)
+    (carry-done (asked s) (start s) y p (s .args .worker) u (added-runs (s .args .tally .runs) (s .args .worker) (opens (asked s) (start s) y p) a u) (f .1 .0) (f .1 .1), f .0)
 
 pub carry-asked-spec : {M : Type 1} → statement M
 carry-asked-spec =

@@ -3,9 +3,8 @@ use Rattle.sheet_list.proofs.ListLaws.{outcome-refused}
 use Rattle.sheet_play.specs.Outcomes.{outcome}
 use Rattle.sheet_step.specs.Steps.{Sheet, sheet}
 use Rattle.triplet_study.specs.Study.{Study, study}
-use lib.ListN.{length, replicate}
-use Prim.Native.Nat.{ℕ}
-use mathlib.Core.Path.{_∙_, ap, sym}
+use lib.ListN.{length}
+use mathlib.Core.Path.{_∙_, sym}
 use borrow.Author.Needs.{needs}
 use Rattle.sheet_list.proofs.along.play_all.Statement.{statement}
 use Rattle.sheet_list.proofs.along.play_all.Tie as tie
@@ -16,7 +15,7 @@ abbrev asked : tie.Start → Study
 asked s = study (s .args .shape) (s .args .addresses .now) (s .args .gp-map .now) (s .args .steps .now) (s .args .frequencies1 .now) (s .args .frequencies2 .now) (s .args .points .now) (s .args .triplets .now)
 
 abbrev start : tie.Start → Sheet
-start s = sheet (s .args .weights .now) (s .args .flags .now) (s .args .marks .now) (s .args .before)
+start s = sheet (s .args .weights .now) (s .args .flags .now) (s .args .marks .now) (s .args .before .runs)
 
 common-first-no-requires : tie.Need-common-first-no-requires
 common-first-no-requires c κs = search needs
@@ -24,8 +23,8 @@ common-first-no-requires c κs = search needs
 fill-with-requires : tie.Need-fill-with-requires
 fill-with-requires c κs = search needs
 
-fill-with-requires-2 : tie.Need-fill-with-requires-2
-fill-with-requires-2 c κs = search needs
+fill-tallies-requires : tie.Need-fill-tallies-requires
+fill-tallies-requires c κs = c .before .before .before .before .before .before .before .before .before .before .before .before .before .before .before .pre .1
 
 same-length : tie.Need-same-length
 same-length c = search needs
@@ -41,8 +40,7 @@ returns c =
     let common-first-no = c .before .before .before .before .before .before .before .before .before .common-first-no in
     let s : _ = c .before .before .before .before .before .before .before .before .before .before .before .before .before .before .before .before .before .before in
     let n = common-first-no .result in
-    let t = c .before .before .fill-with2 .ensures ∙ ap (λ (k : ℕ). replicate k (s .args .before)) (s .pre .1) in
-    (λ i. outcome (start s) (c .before .before .before .before .before .before .fill-with .ensures i) (t i)) ∙ outcome-refused (asked s) (start s) (s .args .list .now) (s .args .ids .now) (length (s .args .answers .now)) (s .pre .0) n (common-first-no .ensures) (c .before .before .before .before .before .before .before .before .if1 .taken)
+    (λ i. outcome (start s) (c .before .before .before .before .before .before .fill-with .ensures i) (c .before .before .fill-tallies .ensures i)) ∙ outcome-refused (asked s) (start s) (s .args .list .now) (s .args .ids .now) (length (s .args .answers .now)) (s .pre .0) n (common-first-no .ensures) (c .before .before .before .before .before .before .before .before .if1 .taken)
 
 play-asked-requires : tie.Need-play-asked-requires
 play-asked-requires c κs =
@@ -74,7 +72,7 @@ play-all-spec =
     (tie.spec
     common-first-no-requires
     fill-with-requires
-    fill-with-requires-2
+    fill-tallies-requires
     same-length
     same-length-2
     same-length-3

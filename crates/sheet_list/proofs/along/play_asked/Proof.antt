@@ -6,7 +6,7 @@ use native.Mathlib.Omega.{arith}
 use Rattle.sheet_calls.specs.Calls.{callsOf}
 use Rattle.sheet_play.specs.Outcomes.{outcomeOf}
 use Rattle.sheet_step.proofs.StepLaws.{study-yes}
-use Rattle.sheet_step.specs.Steps.{Sheet, sheet, carry}
+use Rattle.sheet_step.specs.Steps.{Sheet, sheet}
 use Rattle.sheet_turn.proofs.EntryLaws.{prepared, shaped-yes}
 use Rattle.sheet_turn.proofs.TurnLaws.{ready-made}
 use Rattle.triplet_corners.proofs.CornerLaws.{second-length, second-lent}
@@ -24,7 +24,7 @@ asked s =
     study (s .args .shape) (s .args .addresses .now) (s .args .gp-map .now) (s .args .steps .now) (s .args .frequencies1 .now) (s .args .frequencies2 .now) (s .args .points .now) (s .args .triplets .now)
 
 abbrev start : tie.Start → Sheet
-start s = sheet (s .args .weights .now) (s .args .flags .now) (s .args .marks .now) (s .args .before)
+start s = sheet (s .args .weights .now) (s .args .flags .now) (s .args .marks .now) (s .args .before .runs)
 
 -- the study is ready
 ready-all : (c : tie.After-sizes-of) → let s = c .before .before .before .before .before .before .before .before in Ready (asked s) (c .sizes-of .result) (length (s .args .weights .now)) (length (s .args .flags .now))
@@ -37,7 +37,7 @@ lent c = let s = c .before .before .before .before .before .before .before .befo
 sizes-of-requires : tie.Need-sizes-of-requires
 sizes-of-requires c κs =
     let s : _ = c .before .before .before .before .before .before .before in
-    few-counts (tested (asked s) (study-yes (asked s) (start s) carry (s .pre .0)))
+    few-counts (tested (asked s) (study-yes (asked s) (start s) (s .pre .0)))
 
 second-steps-requires : tie.Need-second-steps-requires
 second-steps-requires c κs =

@@ -10,11 +10,11 @@ refused-requires c κs = search needs
 
 returns : tie.Need-returns
 returns c =
-    c .refused .ensures ∙ refused-is (c .before .before .args .no) (c .before .before .args .runs) (c .before .if1 .taken)
+    c .refused .ensures ∙ refused-is (c .before .before .args .no) (c .before .before .args .tally .runs) (c .before .if1 .taken)
 
 returns-2 : tie.Need-returns-2
 returns-2 c =
-    answer-done (c .before .args .no) (c .before .args .runs) (c .if1 .left)
+    answer-done (c .before .args .no) (c .before .args .tally .runs) (c .if1 .left)
 
 pub answer-of-spec : {M : Type 1} → statement M
 answer-of-spec = tie.close (tie.spec refused-requires returns returns-2)

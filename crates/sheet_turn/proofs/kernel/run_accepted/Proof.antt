@@ -20,7 +20,7 @@ asked s =
     study (s .args .z .shape) (s .args .addresses .now) (s .args .gp-map .now) (s .args .steps .now) (s .args .frequencies1 .now) (s .args .frequencies2 .now) (s .args .points .now) (s .args .triplets .now)
 
 abbrev start : tie.Start → Sheet
-start s = sheet (s .args .weights .now) (s .args .flags .now) (s .args .marks .now) (s .args .runs)
+start s = sheet (s .args .weights .now) (s .args .flags .now) (s .args .marks .now) (s .args .tally .runs)
 
 -- the piece by its three numbers
 nt : (c : tie.After-magnitude3) → let s = c .before .before .before .before .before .before .before .before in c .before .before .magnitude .result ≡ mag (s .args .triplet)
@@ -33,7 +33,7 @@ n2 : (c : tie.After-magnitude3) → let s = c .before .before .before .before .b
 n2 c = let s = c .before .before .before .before .before .before .before .before in c .magnitude3 .ensures ∙ ap mag (toZ-ofZ w64 (s .args .b2) (s .fits .b2))
 
 small : (c : tie.After-magnitude3) → let s = c .before .before .before .before .before .before .before .before in c .before .before .magnitude .result * s .args .z .pairs + (c .before .magnitude2 .result * s .args .z .bands2 + c .magnitude3 .result) < 268435456
-small c = let s = c .before .before .before .before .before .before .before .before in run-small (asked s) (start s) (s .pre .0 .0) (s .pre .0 .1 .counts) (s .args .triplet) (s .args .b1) (s .args .b2) (s .pre .1 .0) _ _ _ (nt c) (n1 c) (n2 c)
+small c = let s = c .before .before .before .before .before .before .before .before in run-small (asked s) (start s) (s .pre .0 .0) (s .pre .0 .1 .counts) (s .args .worker) (s .args .triplet) (s .args .b1) (s .args .b2) (s .pre .1 .0) _ _ _ (nt c) (n1 c) (n2 c)
 
 magnitude-requires : tie.Need-magnitude-requires
 magnitude-requires c κs = search needs
@@ -48,7 +48,7 @@ fill-named-requires : tie.Need-fill-named-requires
 fill-named-requires c κs =
     let s : _ = c .before .before .before .before .before .before .before .before .before .before .before .before .before .before in
     let k : _ = (c .before .before .before .before .before .before) in
-    (ready-made (asked s) (start s) (s .pre .0 .0) (s .pre .0 .1 .counts), ((s .pre .0 .1 .copy, run-on (asked s) (start s) (s .pre .0 .0) (s .pre .0 .1 .counts) (s .args .triplet) (s .args .b1) (s .args .b2) (s .pre .1 .0) _ _ _ (nt k) (n1 k) (n2 k)), s .pre .1 .1))
+    (ready-made (asked s) (start s) (s .pre .0 .0) (s .pre .0 .1 .counts), ((s .pre .0 .1 .copy, run-on (asked s) (start s) (s .pre .0 .0) (s .pre .0 .1 .counts) (s .args .worker) (s .args .triplet) (s .args .b1) (s .args .b2) (s .pre .1 .0) _ _ _ (nt k) (n1 k) (n2 k)), s .pre .1 .1))
 
 mul-set-mark : tie.Need-mul-set-mark
 mul-set-mark c = omega (arith, small (c .before .before .before .before .before .before .before .before .before .before .before))
@@ -66,12 +66,12 @@ set-mark-requires : tie.Need-set-mark-requires
 set-mark-requires c κs =
     let s : _ = c .before .before .before .before .before .before .before .before .before .before .before .before .before .before .before .before .before .before .before in
     let k : _ = (c .before .before .before .before .before .before .before .before .before .before .before) in
-    (run-place (asked s) (start s) (s .pre .0 .0) (s .pre .0 .1 .counts) (s .args .triplet) (s .args .b1) (s .args .b2) (s .pre .1 .0) _ _ _ (nt k) (n1 k) (n2 k), small-mark 1 (omega arith))
+    (run-place (asked s) (start s) (s .pre .0 .0) (s .pre .0 .1 .counts) (s .args .worker) (s .args .triplet) (s .args .b1) (s .args .b2) (s .pre .1 .0) _ _ _ (nt k) (n1 k) (n2 k), small-mark 1 (omega arith))
 
-add-t42 : tie.Need-add-t42
-add-t42 c =
+with-runs-requires : tie.Need-with-runs-requires
+with-runs-requires c κs =
     let s : _ = c .before .before .before .before .before .before .before .before .before .before .before .before .before .before .before .before .before .before .before .before .before .before in
-    omega (arith, run-yes (s .args .z) (s .args .marks .now) (s .args .triplet) (s .args .b1) (s .args .b2) (s .args .runs) (s .pre .1 .0) .1)
+    rw (toZ-ofZ w64 (s .args .worker) (s .fits .worker)) (run-yes (s .args .z) (s .args .marks .now) (s .args .triplet) (s .args .b1) (s .args .b2) (s .args .tally .runs) (s .args .worker) (s .pre .1 .0) .1)
 
 same-length : tie.Need-same-length
 same-length c = search needs
@@ -84,10 +84,11 @@ same-length-3 c = search needs
 
 returns : tie.Need-returns
 returns c =
-    let s : _ = c .before .before .before .before .before .before .before .before .before .before .before .before .before .before .before .before .before .before .before .before .before .before in
-    let k : _ = (c .before .before .before .before .before .before .before .before .before .before .before .before .before .before) in
-    let f = c .before .before .before .before .before .before .before .fill-named .ensures in
-    (run-done (asked s) (start s) (s .pre .0 .0) (s .pre .0 .1 .counts) (s .args .triplet) (s .args .b1) (s .args .b2) (s .pre .1 .0) _ _ _ (nt k) (n1 k) (n2 k) (f .1) (c .before .before .set-mark .ensures), f .0)
+    let s : _ = c .before .before .before .before .before .before .before .before .before .before .before .before .before .before .before .before .before .before .before .before .before .before .before in
+    let k : _ = (c .before .before .before .before .before .before .before .before .before .before .before .before .before .before .before) in
+    let f = c .before .before .before .before .before .before .before .before .fill-named .ensures in
+    let moved = rw (toZ-ofZ w64 (s .args .worker) (s .fits .worker)) at (c .with-runs .ensures) in
+    (run-done (asked s) (start s) (s .pre .0 .0) (s .pre .0 .1 .counts) (s .args .worker) (s .args .triplet) (s .args .b1) (s .args .b2) (s .pre .1 .0) _ _ _ (nt k) (n1 k) (n2 k) moved (f .1) (c .before .before .before .set-mark .ensures), f .0)
 
 pub run-accepted-spec : {M : Type 1} → statement M
 run-accepted-spec =
@@ -102,7 +103,7 @@ run-accepted-spec =
     add-set-mark
     add-set-mark-2
     set-mark-requires
-    add-t42
+    with-runs-requires
     same-length
     same-length-2
     same-length-3

@@ -18,13 +18,13 @@ asked s =
     study (s .args .z .shape) (s .args .addresses .now) (s .args .gp-map .now) (s .args .steps .now) (s .args .frequencies1 .now) (s .args .frequencies2 .now) (s .args .points .now) (s .args .triplets .now)
 
 abbrev start : tie.Start → Sheet
-start s = sheet (s .args .weights .now) (s .args .flags .now) (s .args .marks .now) (s .args .runs)
+start s = sheet (s .args .weights .now) (s .args .flags .now) (s .args .marks .now) (s .args .tally .runs)
 
--- what 14, 15 and 20 say
-own : (c : tie.After-run-first-no) → let s = c .before .before .before .before .before .before .before in c .run-first-no .result ≡ firstNo (pieceQuestions (s .args .z) (s .args .marks .now) (s .args .triplet) (s .args .b1) (s .args .b2) ++ tallyQuestions (s .args .runs) 1)
+-- what 14, 15, 21 and 20 say
+own : (c : tie.After-run-first-no) → let s = c .before .before .before .before .before .before .before in c .run-first-no .result ≡ firstNo (pieceQuestions (s .args .z) (s .args .marks .now) (s .args .triplet) (s .args .b1) (s .args .b2) ++ tallyQuestions (s .args .tally .runs) (s .args .worker) 1)
 own c =
     let s = c .before .before .before .before .before .before .before in
-    rw (toZ-ofZ w64 (s .args .triplet) (s .fits .triplet), toZ-ofZ w64 (s .args .b1) (s .fits .b1), toZ-ofZ w64 (s .args .b2) (s .fits .b2)) at (c .run-first-no .ensures)
+    rw (toZ-ofZ w64 (s .args .worker) (s .fits .worker), toZ-ofZ w64 (s .args .triplet) (s .fits .triplet), toZ-ofZ w64 (s .args .b1) (s .fits .b1), toZ-ofZ w64 (s .args .b2) (s .fits .b2)) at (c .run-first-no .ensures)
 
 run-first-no-requires : tie.Need-run-first-no-requires
 run-first-no-requires c κs =
@@ -37,12 +37,12 @@ same-length c = search needs
 returns : tie.Need-returns
 returns c =
     let s : _ = c .before .before .before .before .before .before .before .before in
-    (run-no (asked s) (start s) (s .pre .0 .0) (s .pre .0 .1 .counts) (s .args .triplet) (s .args .b1) (s .args .b2) (own (c .before)) (c .if1 .taken), s .pre .1)
+    (run-no (asked s) (start s) (s .pre .0 .0) (s .pre .0 .1 .counts) (s .args .worker) (s .args .triplet) (s .args .b1) (s .args .b2) (own (c .before)) (c .if1 .taken), s .pre .1)
 
 run-accepted-requires : tie.Need-run-accepted-requires
 run-accepted-requires c κs =
     let s : _ = c .before .before .before .before .before .before .before .before .before .before .before .before .before .before .before in
-    (s .pre .0, (rw (toZ-ofZ w64 (s .args .triplet) (s .fits .triplet), toZ-ofZ w64 (s .args .b1) (s .fits .b1), toZ-ofZ w64 (s .args .b2) (s .fits .b2)) (sym (own (c .before .before .before .before .before .before .before .before)) ∙ c .before .before .before .before .before .before .before .if1 .left), s .pre .1))
+    (s .pre .0, (rw (toZ-ofZ w64 (s .args .worker) (s .fits .worker), toZ-ofZ w64 (s .args .triplet) (s .fits .triplet), toZ-ofZ w64 (s .args .b1) (s .fits .b1), toZ-ofZ w64 (s .args .b2) (s .fits .b2)) (sym (own (c .before .before .before .before .before .before .before .before)) ∙ c .before .before .before .before .before .before .before .if1 .left), s .pre .1))
 
 same-length-2 : tie.Need-same-length-2
 same-length-2 c = search needs
@@ -56,7 +56,7 @@ same-length-4 c = search needs
 returns-2 : tie.Need-returns-2
 returns-2 c =
     let s : _ = c .before .before .before .before .before .before .before .before .before .before .before .before .before .before .before .before .before .before .before .before .before in
-    rw (toZ-ofZ w64 (s .args .triplet) (s .fits .triplet), toZ-ofZ w64 (s .args .b1) (s .fits .b1), toZ-ofZ w64 (s .args .b2) (s .fits .b2)) at (c .before .before .before .before .before .run-accepted .ensures)
+    rw (toZ-ofZ w64 (s .args .worker) (s .fits .worker), toZ-ofZ w64 (s .args .triplet) (s .fits .triplet), toZ-ofZ w64 (s .args .b1) (s .fits .b1), toZ-ofZ w64 (s .args .b2) (s .fits .b2)) at (c .before .before .before .before .before .run-accepted .ensures)
 
 pub run-asked-spec : {M : Type 1} → statement M
 run-asked-spec =
