@@ -1,2 +1,3 @@
 -- The laws.
 pub mod AnswerLaws
+pub mod EntryLaws

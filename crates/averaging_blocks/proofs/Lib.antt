@@ -3,3 +3,4 @@ pub mod WeightLaws
 pub mod PointLaws
 pub mod StartLaws
 pub mod SingleLaws
+pub mod StayLaws

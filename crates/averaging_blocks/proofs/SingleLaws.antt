@@ -70,7 +70,8 @@ weights-single z n ids1 ids2 m s1 s2 len =
 flag-kept : (z : ℤ) → cond (false || (false || eqZ z (pos 0))) (pos 0) z ≡ z
 flag-kept z = ⊎-elim (λ t. rw t (sym (equal-is z (pos 0) t))) (λ t. rw t) (true-or-false (eqZ z (pos 0)))
 
-flag-single : (n r c : ℕ) (m : List ℤ) → flagIn n (block r (suc r) c (suc c)) m r c ≡ at m (r * n + c)
+-- a flag that is a block by itself stays
+pub flag-single : (n r c : ℕ) (m : List ℤ) → flagIn n (block r (suc r) c (suc c)) m r c ≡ at m (r * n + c)
 unfolding flagIn
 flag-single n r c m =
     let a : suc r - r ≡ 1 = omega arith in

@@ -1,4 +1,4 @@
--- Laws of the sums of weights. Assumes nothing.
+-- Laws of the sums of weights, and the averaging of weights as the walk over its blocks. Assumes nothing.
 use mathlib.Core.Path.{_≡_, refl, sym, ap, _∙_}
 use mathlib.Core.List.{List}
 use Prim.Native.Nat.{ℕ, zero, suc, _+_, _-_, _*_, _≤_, _<_}
@@ -8,8 +8,11 @@ use lib.IntN.{ℤ}
 use lib.ListN.{length, getD}
 use lib.Ieee.{Float, nan, binary64, add}
 use borrow.Author.Tests.{lt-ltb, le-ltb}
-use Rattle.list_laws.specs.Matrix.{Block, InBlock, entries}
+use Rattle.list_laws.specs.Matrix.{Block, entries}
 use Rattle.list_laws.proofs.FillLaws.{length-tabulate}
+use Rattle.degenerate_sets.specs.Blocks.{blocksOf}
+use Rattle.degenerate_sets.specs.Turns.{inTurn}
+use Rattle.degenerate_sets.proofs.TurnLaws.{Local, matrix-in-turn}
 use Rattle.averaging_blocks.specs.Weights.{rowSum, blockSum, mean, averagedIn, averagedFrom}
 
 module _ (z : Float) (m : List Float) (n top left wide : ℕ) where
@@ -53,23 +56,22 @@ module _ (z : Float) (m m' : List Float) where
         row-agree ((top + high) * n + left) wide (λ j g. rw add-assoc (h high j (omega arith) g)),
       )
 
-  averaged-agree : (n : ℕ) (b : Block) → b .right ≤ n
-      → ((r c : ℕ) → c < n → InBlock b r c → getD m (r * n + c) nan ≡ getD m' (r * n + c) nan)
-      → (r c : ℕ) → InBlock b r c → averagedIn z n b m r c ≡ averagedIn z n b m' r c
-  unfolding averagedIn mean
-  averaged-agree n b le h r c i =
-      cc (
-        sum-agree n (b .top) (b .left) (b .right - b .left) (b .bottom - b .top)
-            (λ i j l g. h (b .top + i) (b .left + j) (omega arith) (omega arith)),
-        h r c (omega arith) i,
-      )
-
-pub averaged-local : (z : Float) (n : ℕ) (b : Block) (m m' : List Float) → b .right ≤ n
-    → ((r c : ℕ) → c < n → InBlock b r c → getD m (r * n + c) nan ≡ getD m' (r * n + c) nan)
-    → (r c : ℕ) → InBlock b r c → averagedIn z n b m r c ≡ averagedIn z n b m' r c
-averaged-local z n b m m' = averaged-agree z m m' n b
+averaged-local : (z : Float) (n : ℕ) → Local nan n (averagedIn z n)
+unfolding averagedIn mean
+averaged-local z n b m m' le h r c i =
+    cc (
+      sum-agree z m m' n (b .top) (b .left) (b .right - b .left) (b .bottom - b .top)
+          (λ i j l g. h (b .top + i) (b .left + j) (omega arith) (omega arith)),
+      h r c (omega arith) i,
+    )
 
 -- a matrix keeps its length
 pub averaged-length : (z : Float) (n : ℕ) (ids1 ids2 : List ℤ) (m : List Float) → length (averagedFrom z n ids1 ids2 m) ≡ n * n
 unfolding averagedFrom
 averaged-length z n ids1 ids2 m = length-tabulate (n * n) _
+
+-- the averaging is the walk over the blocks of the two id lists, with sums begun at z
+pub weights-in-turn : (z : Float) (n : ℕ) (ids1 ids2 : List ℤ) (m : List Float) → length m ≡ n * n
+    → averagedFrom z n ids1 ids2 m ≡ inTurn n (averagedIn z n) (blocksOf n ids1 ids2) m
+unfolding averagedFrom
+weights-in-turn z n ids1 ids2 m len = sym (matrix-in-turn nan n (averagedIn z n) (averaged-local z n) ids1 ids2 m len)

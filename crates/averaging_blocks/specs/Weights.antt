@@ -2,7 +2,6 @@
 use mathlib.Core.Bool.{cond}
 use mathlib.Core.List.{List}
 use Prim.Native.Nat.{ℕ, zero, suc, _+_, _-_, _*_, _/_, _%_}
-use lib.Dec.{ltb}
 use lib.IntN.{ℤ, pos}
 use lib.ListN.{getD}
 use lib.Ieee.{Float, nan, binary64, add, div, ofInt}
@@ -10,6 +9,8 @@ use Rattle.list_laws.specs.Lists.{tabulate}
 use Rattle.list_laws.specs.Matrix.{Block, entries, eachPart}
 use Rattle.ieee_laws.specs.Zeros.{plusZero}
 use Rattle.degenerate_sets.specs.Sets.{startsAt, startOf, endOf, blockOf}
+use Rattle.degenerate_sets.specs.Blocks.{isLarger, blocksOf}
+use Rattle.degenerate_sets.specs.Turns.{inTurn}
 
 -- "row sums left to right": begun at z, the sum of `wide` weights from `from` on
 unfoldable pub rowSum : Float → List Float → ℕ → ℕ → Float
@@ -32,7 +33,7 @@ mean z n b m =
 -- what becomes of the entry (r, c), in the block b: the mean, and itself in a block of one entry
 unfoldable pub averagedIn : Float → ℕ → Block → List Float → ℕ → ℕ → Float
 unfolding mean
-averagedIn z n b m r c = cond (ltb 1 (entries b)) (mean z n b m) (getD m (r * n + c) nan)
+averagedIn z n b m r c = cond (isLarger b) (mean z n b m) (getD m (r * n + c) nan)
 
 -- the matrix of n bands by n bands after averaging, with sums begun at z
 unfoldable pub averagedFrom : Float → ℕ → List ℤ → List ℤ → List Float → List Float
@@ -43,6 +44,10 @@ averagedFrom z n ids1 ids2 m =
 -- the matrix after averaging: sums begin at 0.0
 abbrev pub averaged : ℕ → List ℤ → List ℤ → List Float → List Float
 averaged = averagedFrom plusZero
+
+-- the same, block after block: what each block of the two id lists in turn makes of the matrix (`weights-in-turn`)
+abbrev pub weightsInTurn : ℕ → List ℤ → List ℤ → List Float → List Float
+weightsInTurn n ids1 ids2 m = inTurn n (averagedIn plusZero n) (blocksOf n ids1 ids2) m
 
 -- the matrices of several frequency points, one after another, each averaged by itself
 unfoldable pub averagedPoints : ℕ → List ℤ → List ℤ → ℕ → List Float → List Float

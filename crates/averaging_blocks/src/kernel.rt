@@ -1,2 +1,2 @@
-// Averages matrices in place: weights and flags.
+// For the crates above.
 pub mod weights;

@@ -1,2 +1,2 @@
-// The blocks of one triplet's matrices averaged in place, one matrix for each frequency point: weights and flags.
+// The weights of one triplet's matrices averaged in place, block by block, one matrix for each frequency point.
 pub mod kernel;

@@ -1,4 +1,4 @@
--- Laws of the flags of a block. Assumes nothing.
+-- Laws of the flags of a block, and the averaging of flags as the walk over its blocks. Assumes nothing.
 use mathlib.Core.Path.{_≡_, refl, sym, ap, _∙_}
 use mathlib.Core.Bool.{true, false, _||_}
 use mathlib.Core.List.{List}
@@ -8,9 +8,10 @@ use native.Mathlib.Omega.{arith}
 use lib.IntN.{ℤ, pos}
 use lib.ListN.{length}
 use Rattle.list_laws.specs.Lists.{at}
-use Rattle.list_laws.specs.Matrix.{Block, InBlock}
+use Rattle.list_laws.specs.Matrix.{Block}
 use Rattle.list_laws.proofs.FillLaws.{length-tabulate}
-use Rattle.averaging_flags.specs.Flags.{rowHasZero, rowsHaveZero, hasZero, flagIn, averagedFlags}
+use Rattle.degenerate_sets.proofs.TurnLaws.{Local, matrix-in-turn}
+use Rattle.averaging_flags.specs.Flags.{rowHasZero, rowsHaveZero, hasZero, flagIn, averagedFlags, flagsInTurn}
 
 module _ (m : List ℤ) (n top left wide : ℕ) where
   pub zero-none : rowsHaveZero m n top left wide (top - top) ≡ false
@@ -53,9 +54,7 @@ module _ (m m' : List ℤ) where
         row-agree ((top + high) * n + left) wide (λ j g. rw add-assoc (h high j (omega arith) g)),
       )
 
-pub flag-local : (n : ℕ) (b : Block) (m m' : List ℤ) → b .right ≤ n
-    → ((r c : ℕ) → c < n → InBlock b r c → at m (r * n + c) ≡ at m' (r * n + c))
-    → (r c : ℕ) → InBlock b r c → flagIn n b m r c ≡ flagIn n b m' r c
+flag-local : (n : ℕ) → Local (pos 0) n (flagIn n)
 unfolding flagIn
 flag-local n b m m' le h r c i =
     cc (
@@ -68,3 +67,8 @@ flag-local n b m m' le h r c i =
 pub flags-length : (n : ℕ) (ids1 ids2 m : List ℤ) → length (averagedFlags n ids1 ids2 m) ≡ n * n
 unfolding averagedFlags
 flags-length n ids1 ids2 m = length-tabulate (n * n) _
+
+-- the averaging of flags is the walk over the blocks of the two id lists
+pub flags-in-turn : (n : ℕ) (ids1 ids2 m : List ℤ) → length m ≡ n * n → averagedFlags n ids1 ids2 m ≡ flagsInTurn n ids1 ids2 m
+unfolding averagedFlags
+flags-in-turn n ids1 ids2 m len = sym (matrix-in-turn (pos 0) n (flagIn n) (flag-local n) ids1 ids2 m len)

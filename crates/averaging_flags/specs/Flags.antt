@@ -7,6 +7,8 @@ use Rattle.list_laws.specs.Lists.{at, tabulate}
 use Rattle.list_laws.specs.Matrix.{Block, eachPart}
 use Rattle.list_laws.specs.Signed.{eqZ}
 use Rattle.degenerate_sets.specs.Sets.{startsAt, startOf, endOf, blockOf}
+use Rattle.degenerate_sets.specs.Blocks.{blocksOf}
+use Rattle.degenerate_sets.specs.Turns.{inTurn}
 
 -- whether one of `wide` flags from `from` on is 0
 unfoldable pub rowHasZero : List ℤ → ℕ → ℕ → Bool
@@ -33,6 +35,10 @@ unfoldable pub averagedFlags : ℕ → List ℤ → List ℤ → List ℤ → Li
 unfolding flagIn tabulate startsAt startOf endOf
 averagedFlags n ids1 ids2 m =
     tabulate (n * n) (λ k. flagIn n (blockOf (startsAt ids1) (startsAt ids2) n (k / n) (k % n)) m (k / n) (k % n))
+
+-- the same, block after block: what each block of the two id lists in turn makes of the flags (`flags-in-turn`)
+abbrev pub flagsInTurn : ℕ → List ℤ → List ℤ → List ℤ → List ℤ
+flagsInTurn n ids1 ids2 m = inTurn n (flagIn n) (blocksOf n ids1 ids2) m
 
 -- the flags of several frequency points, one after another, each point's by themselves
 unfoldable pub averagedFlagPoints : ℕ → List ℤ → List ℤ → ℕ → List ℤ → List ℤ

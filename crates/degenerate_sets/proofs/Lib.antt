@@ -1,5 +1,9 @@
 -- The laws.
 pub mod SetLaws
+pub mod CoverLaws
+pub mod BlockLaws
+pub mod TurnLaws
 pub mod WalkLaws
 pub mod IdLaws
 pub mod SizeLaws
+pub mod Example

@@ -1,4 +1,4 @@
--- Laws of degenerate sets: what `endOf` and `startOf` are, and that every place of a set has the same two. Assumes nothing.
+-- Laws of degenerate sets: what `endOf` and `startOf` are, that every place of a set has the same two, and which places are first. Assumes nothing.
 use mathlib.Core.Path.{_≡_, refl, sym, ap, _∙_, subst}
 use mathlib.Core.Logic.{⊎-elim}
 use mathlib.Core.Bool.{Bool, true, false, cond, true≢false}
@@ -6,8 +6,9 @@ use Prim.Native.Nat.{ℕ, zero, suc, _+_, _-_, _≤_, _<_}
 use native.Mathlib.Nat.{add-suc, add-zero}
 use native.Mathlib.Numerals.{add-one}
 use native.Mathlib.Omega.{arith}
-use Rattle.list_laws.proofs.BoolLaws.{true-or-false, lt-eq-gt}
+use Rattle.list_laws.proofs.BoolLaws.{true-or-false, lt-eq-gt, lt-or-le}
 use Rattle.degenerate_sets.specs.Sets.{startOf, nextFrom, endOf}
+use Rattle.degenerate_sets.specs.Blocks.{isFirst}
 
 -- what the place after the last of the set of b is
 pub record Ends (p : ℕ → Bool) (n b e : ℕ) : Type 0 where
@@ -93,13 +94,9 @@ module _ (p : ℕ → Bool) where
   start-hit zero h = refl
   start-hit (suc b) h = rw h
 
-  pub start-zero : startOf p 0 ≡ 0
+  start-zero : startOf p 0 ≡ 0
   unfolding startOf
   start-zero = refl
-
-  -- the end of a set starts the next
-  pub start-end : (n s : ℕ) → s < n → endOf p n s < n → startOf p (endOf p n s) ≡ endOf p n s
-  start-end n s h l = start-hit (endOf p n s) (ends n s h .stop l)
 
   pub start-le : (b : ℕ) → startOf p b ≤ b
   unfolding startOf
@@ -111,6 +108,62 @@ module _ (p : ℕ → Bool) where
   pub next-bounds : {n s e : ℕ} → s < n → e ≡ endOf p n s → (s < e) × (e ≤ n)
   next-bounds {n} {s} {e} h q = let x = ends n s h in omega (arith, x .after, x .upto)
 
-  pub next-start : {n s e : ℕ} → s < n → e ≡ endOf p n s → e < n → startOf p e ≡ e
-  next-start {n} {s} {e} h q l =
-      subst (λ (x : ℕ). startOf p x ≡ x) (sym q) (start-end n s h (omega arith))
+  -- ---- the first place of a set
+
+  -- no later place of the set, up to b, starts one
+  start-none : (b k : ℕ) → startOf p b < k → k ≤ b → p k ≡ false
+  unfolding startOf
+  start-none zero k h l = absurd (omega arith)
+  start-none (suc b) k h l =
+      ⊎-elim
+      (λ t. let h′ : suc b < k = rw t at h in absurd (omega arith))
+      (λ t.
+      let h′ : startOf p b < k = rw t at h in
+      ⊎-elim (λ g. start-none b k h′ (omega arith)) (λ g. let e : k ≡ suc b = omega arith in ap p e ∙ t) (lt-or-le k (suc b)))
+      (true-or-false (p (suc b)))
+
+  -- the first place of a set, by the test
+  pub start-first : (b : ℕ) → isFirst p (startOf p b) ≡ true
+  unfolding startOf
+  start-first zero = refl
+  start-first (suc b) =
+      ⊎-elim
+      (λ t. let e : cond (p (suc b)) (suc b) (startOf p b) ≡ suc b = rw t in ap (isFirst p) e ∙ t)
+      (λ t. let e : cond (p (suc b)) (suc b) (startOf p b) ≡ startOf p b = rw t in ap (isFirst p) e ∙ start-first b)
+      (true-or-false (p (suc b)))
+
+  pub first-start : (b : ℕ) → isFirst p b ≡ true → startOf p b ≡ b
+  first-start zero t = start-zero
+  first-start (suc b) t = start-hit (suc b) t
+
+  pub first-later : (b k : ℕ) → b < k → isFirst p k ≡ p k
+  first-later b zero h = absurd (omega arith)
+  first-later b (suc k) h = refl
+
+  -- the first place of a set is its own
+  pub start-start : (b : ℕ) → startOf p (startOf p b) ≡ startOf p b
+  unfolding startOf
+  start-start zero = refl
+  start-start (suc b) =
+      ⊎-elim
+      (λ t. let e : cond (p (suc b)) (suc b) (startOf p b) ≡ suc b = rw t in ap (startOf p) e ∙ start-hit (suc b) t ∙ sym e)
+      (λ t. let e : cond (p (suc b)) (suc b) (startOf p b) ≡ startOf p b = rw t in ap (startOf p) e ∙ start-start b ∙ sym e)
+      (true-or-false (p (suc b)))
+
+  -- a walk from set to set: the end of a set is the first place of the next
+  pub next-first : {n s e : ℕ} → s < n → e ≡ endOf p n s → e < n → isFirst p e ≡ true
+  next-first {n} {s} {e} h q l =
+      let x = ends n s h in
+      first-later s e (omega (arith, x .after)) ∙ subst (λ (k : ℕ). p k ≡ true) (sym q) (x .stop (omega arith))
+
+  -- the set of the first place ends where the set of b does
+  pub end-start : (n b : ℕ) → b < n → endOf p n (startOf p b) ≡ endOf p n b
+  end-start n b h =
+      let x = ends n b h in
+      ends-unique n (startOf p b) (endOf p n (startOf p b)) (endOf p n b) (ends n (startOf p b) (omega (arith, start-le b)))
+      (record {
+        after = omega (arith, start-le b, x .after);
+        upto = x .upto;
+        none = λ k u v. ⊎-elim (λ g. x .none k g v) (λ g. start-none b k u g) (lt-or-le b k);
+        stop = x .stop;
+      })

@@ -1,114 +1,81 @@
--- The walk over the blocks, for any rule that says what becomes of the entries of a block and looks at no others. Assumes nothing.
-use mathlib.Core.Path.{_≡_, refl, sym, ap, _∙_, subst}
-use mathlib.Core.Logic.{inl, inr, ⊎-elim}
-use mathlib.Core.Bool.{Bool}
-use mathlib.Core.List.{List}
-use Prim.Native.Nat.{ℕ, _+_, _*_, _/_, _%_, _≤_, _<_}
+-- The program's walk, block after block: what its loops have done is the turns of the blocks so far. For any rule. Assumes nothing.
+use mathlib.Core.Path.{_≡_, refl, sym, ap, _∙_}
+use mathlib.Core.Logic.{⊎-elim}
+use mathlib.Core.Bool.{Bool, true}
+use mathlib.Core.List.{List, [], _∷_, map, map-append, foldl-append}
+use Prim.Native.Nat.{ℕ, _*_, _/_, _%_, _<_}
+use native.Mathlib.Nat.{div-add-mod', mod-lt}
 use native.Mathlib.Omega.{arith}
 use lib.ListN.{length, getD}
-use Rattle.list_laws.specs.Lists.{tabulate}
-use Rattle.list_laws.specs.Matrix.{Block, block, Replaced, InBlock, InRows}
-use Rattle.list_laws.proofs.BoolLaws.{lt-or-le}
-use Rattle.list_laws.proofs.MatrixLaws.{replaced-join, square-is}
-use Rattle.degenerate_sets.specs.Sets.{startOf, endOf, blockOf}
-use Rattle.degenerate_sets.proofs.SetLaws.{ends, end-same, start-same, start-le}
+use Rattle.list_laws.specs.Lists.{placesBelow}
+use Rattle.list_laws.specs.Matrix.{Block, block, InBlock, Replaced, hasEntry}
+use Rattle.list_laws.proofs.BoolLaws.{clash, true-or-false}
+use Rattle.list_laws.proofs.MatrixLaws.{square-pos, has-in, in-has}
+use Rattle.list_laws.proofs.PatchLaws.{patch-is}
+use Rattle.degenerate_sets.specs.Sets.{endOf}
+use Rattle.degenerate_sets.specs.Blocks.{DegenerateSet, degenerateSet, isFirst, setsBelow, product, products}
+use Rattle.degenerate_sets.specs.Turns.{onBlock, inTurn}
+use Rattle.degenerate_sets.proofs.CoverLaws.{sets-next}
+use Rattle.degenerate_sets.proofs.BlockLaws.{products-more}
 
-module _ {A : Type 0} (d : A) (n : ℕ) (rule : Block → List A → ℕ → ℕ → A) where
-  -- the rows from top to bottom are done in the columns before `left`
-  abbrev pub Columns : (ℕ → Bool) → ℕ → ℕ → ℕ → List A → List A → Type 0
-  Columns q top bottom left m₀ m =
-      Replaced d n (λ r c. ((top ≤ r) × (r < bottom)) × (c < left)) (λ r c. rule (block top bottom (startOf q c) (endOf q n c)) m₀ r c) m₀ m
+-- ---- one block
 
-  -- the rows before `top` are done
-  abbrev pub RowsDone : (ℕ → Bool) → (ℕ → Bool) → ℕ → List A → List A → Type 0
-  RowsDone p q top m₀ m = Replaced d n (λ r c. r < top) (λ r c. rule (blockOf p q n r c) m₀ r c) m₀ m
+-- a matrix in which the entries of the block were replaced, and no others, has had the block's turn
+pub block-turn : {A : Type 0} (d : A) (n : ℕ) (rule : Block → List A → ℕ → ℕ → A) (b : Block) (m m' : List A) → length m ≡ n * n
+    → Replaced d n (InBlock b) (rule b m) m m' → m' ≡ onBlock n rule m b
+block-turn d n rule b m m' len R =
+    patch-is d (λ k. hasEntry (k / n) (k % n) b) (λ k. rule b m (k / n) (k % n)) m m' (R .same-length)
+    (λ k h.
+    let some : 0 < n = square-pos n k (omega arith) in
+    let place = div-add-mod' k n in
+    ⊎-elim
+    (λ t.
+    rw t (ap (λ (j : ℕ). getD m' j d) (sym place) ∙ R .inside (k / n) (k % n) (mod-lt k some) (has-in (k / n) (k % n) b t)))
+    (λ t.
+    rw t
+    (ap (λ (j : ℕ). getD m' j d) (sym place)
+    ∙ R .outside (k / n) (k % n) (mod-lt k some) (λ i. clash (sym t ∙ in-has (k / n) (k % n) b i))
+    ∙ ap (λ (j : ℕ). getD m j d) place))
+    (true-or-false (hasEntry (k / n) (k % n) b)))
 
-module _ {A : Type 0} (d : A) (n : ℕ) (rule : Block → List A → ℕ → ℕ → A)
-    (local : (b : Block) (m m' : List A) → b .right ≤ n
-    → ((r c : ℕ) → c < n → InBlock b r c → getD m (r * n + c) d ≡ getD m' (r * n + c) d)
-    → (r c : ℕ) → InBlock b r c → rule b m r c ≡ rule b m' r c) where
-  -- ---- columns
+module _ {A : Type 0} (n : ℕ) (rule : Block → List A → ℕ → ℕ → A) where
+  -- ---- the blocks of one set of rows
 
-  pub columns-none : (q : ℕ → Bool) (top bottom : ℕ) (m : List A) → Columns d n rule q top bottom 0 m m
-  columns-none q top bottom m =
-      record { same-length = refl; inside = λ r c l h. absurd (omega arith); outside = λ r c l h. refl }
+  -- no block has had its turn
+  pub columns-none : (q : ℕ → Bool) (s : DegenerateSet) (m : List A) → m ≡ inTurn n rule (map (product s) (setsBelow q n 0)) m
+  unfolding placesBelow
+  columns-none q s m = refl
 
-  -- every column of a set has the same block
-  same-columns : (q : ℕ → Bool) (top bottom left c : ℕ) → left < n → startOf q left ≡ left → left ≤ c → c < endOf q n left
-      → block top bottom (startOf q c) (endOf q n c) ≡ block top bottom left (endOf q n left)
-  same-columns q top bottom left c h st l g =
-      cc (start-same q n left c h l g, end-same q n left c h l g, st)
+  -- one more has: that of the columns `left` up to below `right`
+  pub columns-turn : (q : ℕ → Bool) (s : DegenerateSet) (left right : ℕ) (m₀ m m' : List A) → left < n → isFirst q left ≡ true → right ≡ endOf q n left
+      → m ≡ inTurn n rule (map (product s) (setsBelow q n left)) m₀ → m' ≡ onBlock n rule m (product s (degenerateSet left right))
+      → m' ≡ inTurn n rule (map (product s) (setsBelow q n right)) m₀
+  columns-turn q s left right m₀ m m' h f e done this =
+      let before : List Block = map (product s) (setsBelow q n left) in
+      let b : Block = product s (degenerateSet left right) in
+      this
+      ∙ ap (λ (x : List A). onBlock n rule x b) done
+      ∙ sym (foldl-append (onBlock n rule) m₀ before (b ∷ []))
+      ∙ ap (λ (blocks : List Block). inTurn n rule blocks m₀)
+      (sym (ap (map (product s)) (sets-next q n left right h f e) ∙ map-append (product s) (setsBelow q n left) (degenerateSet left right ∷ [])))
 
-  pub columns-more : (q : ℕ → Bool) (top bottom left : ℕ) (m₀ m m' : List A) → Columns d n rule q top bottom left m₀ m
-      → left < n → startOf q left ≡ left
-      → Replaced d n (InBlock (block top bottom left (endOf q n left))) (rule (block top bottom left (endOf q n left)) m) m m'
-      → Columns d n rule q top bottom (endOf q n left) m₀ m'
-  columns-more q top bottom left m₀ m m' R h st S =
-      let x = ends q n left h in
-      let b = block top bottom left (endOf q n left) in
-      replaced-join (λ r c. ((top ≤ r) × (r < bottom)) × (c < endOf q n left)) R S
-      (λ r c E D. omega arith)
-      (λ r c l E.
-      local b m m₀ (x .upto) (λ r' c' l' i. R .outside r' c' l' (λ D. omega arith)) r c E
-      ∙ sym (ap (λ (b' : Block). rule b' m₀ r c) (same-columns q top bottom left c h st (omega arith) (omega arith))))
-      (λ r c l D. ⊎-elim (λ g. inl (omega arith)) (λ g. inr (omega arith)) (lt-or-le c left))
-      (λ r c D. omega (arith, x .after))
-      (λ r c l E. omega arith)
+  -- ---- all blocks
 
-  pub columns-turn : (q : ℕ → Bool) (top bottom left right : ℕ) (m₀ m m' : List A) → Columns d n rule q top bottom left m₀ m
-      → left < n → startOf q left ≡ left → right ≡ endOf q n left
-      → Replaced d n (InBlock (block top bottom left right)) (rule (block top bottom left right) m) m m'
-      → Columns d n rule q top bottom right m₀ m'
-  columns-turn q top bottom left right m₀ m m' R h st e S =
-      subst (λ (x : ℕ). Columns d n rule q top bottom x m₀ m') (sym e)
-      (columns-more q top bottom left m₀ m m' R h st
-      (subst (λ (x : ℕ). Replaced d n (InBlock (block top bottom left x)) (rule (block top bottom left x) m) m m') e S))
+  pub rows-none : (p : ℕ → Bool) (columns : List DegenerateSet) (m : List A) → m ≡ inTurn n rule (products (setsBelow p n 0) columns) m
+  unfolding placesBelow products
+  rows-none p columns m = refl
 
-  -- all columns are done
-  pub columns-all : (q : ℕ → Bool) (top bottom left : ℕ) (m₀ m : List A) → Columns d n rule q top bottom left m₀ m → n ≤ left
-      → Replaced d n (InRows top bottom) (λ r c. rule (block top bottom (startOf q c) (endOf q n c)) m₀ r c) m₀ m
-  columns-all q top bottom left m₀ m R h =
-      record {
-        same-length = R .same-length;
-        inside = λ r c l D. R .inside r c l (omega arith);
-        outside = λ r c l no. R .outside r c l (λ D. no (omega arith));
-      }
-
-  -- ---- rows
-
-  pub rows-none : (p q : ℕ → Bool) (m : List A) → RowsDone d n rule p q 0 m m
-  rows-none p q m = record { same-length = refl; inside = λ r c l h. absurd (omega arith); outside = λ r c l h. refl }
-
-  pub rows-more : (p q : ℕ → Bool) (top : ℕ) (m₀ m m' : List A) → RowsDone d n rule p q top m₀ m
-      → top < n → startOf p top ≡ top
-      → Replaced d n (InRows top (endOf p n top)) (λ r c. rule (block top (endOf p n top) (startOf q c) (endOf q n c)) m r c) m m'
-      → RowsDone d n rule p q (endOf p n top) m₀ m'
-  rows-more p q top m₀ m m' R h st S =
-      let x = ends p n top h in
-      replaced-join (λ r c. r < endOf p n top) R S
-      (λ r c E D. omega arith)
-      (λ r c l E.
-      let y = ends q n c l in
-      let e : blockOf p q n r c ≡ block top (endOf p n top) (startOf q c) (endOf q n c) =
-      cc (start-same p n top r h (omega arith) (omega arith), end-same p n top r h (omega arith) (omega arith), st) in
-      local (block top (endOf p n top) (startOf q c) (endOf q n c)) m m₀ (y .upto)
-      (λ r' c' l' i. R .outside r' c' l' (λ D. omega arith)) r c (omega (arith, y .after, start-le q c))
-      ∙ sym (ap (λ (b : Block). rule b m₀ r c) e))
-      (λ r c l D. ⊎-elim (λ g. inl (omega arith)) (λ g. inr (omega arith)) (lt-or-le r top))
-      (λ r c D. omega (arith, x .after))
-      (λ r c l E. omega arith)
-
-  pub rows-turn : (p q : ℕ → Bool) (top bottom : ℕ) (m₀ m m' : List A) → RowsDone d n rule p q top m₀ m
-      → top < n → startOf p top ≡ top → bottom ≡ endOf p n top
-      → Replaced d n (InRows top bottom) (λ r c. rule (block top bottom (startOf q c) (endOf q n c)) m r c) m m'
-      → RowsDone d n rule p q bottom m₀ m'
-  rows-turn p q top bottom m₀ m m' R h st e S =
-      subst (λ (x : ℕ). RowsDone d n rule p q x m₀ m') (sym e)
-      (rows-more p q top m₀ m m' R h st
-      (subst (λ (x : ℕ). Replaced d n (InRows top x) (λ r c. rule (block top x (startOf q c) (endOf q n c)) m r c) m m') e S))
-
-  -- all rows are done: the matrix is the table of what the rule says of each entry
-  pub rows-all : (p q : ℕ → Bool) (top : ℕ) (m₀ m : List A) → RowsDone d n rule p q top m₀ m → n ≤ top → length m₀ ≡ n * n
-      → m ≡ tabulate (n * n) (λ k. rule (blockOf p q n (k / n) (k % n)) m₀ (k / n) (k % n))
-  rows-all p q top m₀ m R h len =
-      square-is d n (λ r c. rule (blockOf p q n r c) m₀ r c) m (R .same-length ∙ len) (λ r c l g. R .inside r c g (omega arith))
+  -- one set of rows more has had its turn, `top` up to below `bottom`
+  pub rows-turn : (p : ℕ → Bool) (columns : List DegenerateSet) (top bottom : ℕ) (m₀ m m' : List A) → top < n → isFirst p top ≡ true
+      → bottom ≡ endOf p n top → m ≡ inTurn n rule (products (setsBelow p n top) columns) m₀
+      → m' ≡ inTurn n rule (map (product (degenerateSet top bottom)) columns) m
+      → m' ≡ inTurn n rule (products (setsBelow p n bottom) columns) m₀
+  rows-turn p columns top bottom m₀ m m' h f e done this =
+      let before : List Block = products (setsBelow p n top) columns in
+      let more : List Block = map (product (degenerateSet top bottom)) columns in
+      this
+      ∙ ap (inTurn n rule more) done
+      ∙ sym (foldl-append (onBlock n rule) m₀ before more)
+      ∙ ap (λ (blocks : List Block). inTurn n rule blocks m₀)
+      (sym (ap (λ (sets : List DegenerateSet). products sets columns) (sets-next p n top bottom h f e)
+      ∙ products-more (setsBelow p n top) (degenerateSet top bottom) columns))

@@ -1,2 +1,4 @@
 -- The definitions.
 pub mod Sets
+pub mod Blocks
+pub mod Turns

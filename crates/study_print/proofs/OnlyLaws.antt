@@ -11,6 +11,8 @@ use lib.IntN.{ℤ}
 use lib.ListN.{length, getD, take, drop, length-append}
 use lib.Seq.{take-at, drop-at}
 use borrow.Author.Tests.{eqb-true, eqb-false, leb-true}
+use Rattle.list_laws.specs.Lists.{Each}
+use Rattle.list_laws.proofs.CountLaws.{each-append}
 use Rattle.text.specs.declared.Magnitude.{Magnitude}
 use Rattle.text.specs.declared.Magnitude.the-variants as M
 use Rattle.text.specs.declared.Whole.{Whole}
@@ -22,7 +24,7 @@ use Rattle.text.proofs.RoundTrip.{Text, plain, minus, whole-only, bits-only}
 use Rattle.text.proofs.SpelledLaws.{decimal-is}
 use Rattle.sections.specs.Lines.{Got, got, none, Row, is, bad, front, next, values, tagOf, afterTag, Part, read, wrong, joined, rows, once, wholeGot, wholeField, patternGot, patternField}
 use Rattle.sections.proofs.LineLaws.{same-is}
-use Rattle.study_print.specs.Printed.{fields, line, section, textOf, Each, Signed64, Pattern64}
+use Rattle.study_print.specs.Printed.{fields, line, section, textOf, Signed64, Pattern64}
 
 -- ---- one field
 
@@ -162,10 +164,6 @@ pub record Sectioned {A : Type 0} (spell : A → List ℕ) (P : A → Type 0) (t
   pub lines : ls ≡ section spell tag n k vs ++ rest
   pub count : length vs ≡ k * n
   pub all-kept : Each P vs
-
-each-append : {A : Type 0} (P : A → Type 0) (u v : List A) → Each P u → Each P v → Each P (u ++ v)
-each-append P [] v e f = f
-each-append P (x ∷ u) v e f = (e .0, each-append P u v (e .1) f)
 
 module _ {A : Type 0} (field : List ℕ → Got A) (spell : A → List ℕ) (P : A → Type 0) (only : Only field spell P) where
   values-only : (n : ℕ) (fs : List (List ℕ)) (vs : List A) → values field n fs ≡ is vs → AllSpelled spell P n fs vs

@@ -10,6 +10,7 @@ use lib.Dec.{eqb, leb}
 use lib.IntN.{ℤ}
 use lib.ListN.{length, getD}
 use borrow.Author.Tests.{eqb-true, ne-eqb, leb-true}
+use Rattle.list_laws.specs.Lists.{Each}
 use Rattle.list_laws.specs.Lists.{at}
 use Rattle.list_laws.specs.Signed.{isBetween}
 use Rattle.text.specs.Pieces.{ended}
@@ -18,7 +19,7 @@ use Rattle.sections.specs.Lines.{Got, Part, read, wrong, andThen, rows, once, w
 use Rattle.study_head.specs.declared.Head.{Head}
 use Rattle.study.specs.Studies.{StudyText, holds, holdsNone, whole, studyIn, studyOfLines, gridPart, floatsPart, addrTag, mapTag, f1Tag, f2Tag, pointTag, tripletTag}
 use Rattle.study_head.specs.Heads.{endsLine, headPart, headFrom, gridTag, diagTag, typeTag, bandsTag}
-use Rattle.study_print.specs.Printed.{line, section, textOf, headLines, studyLines, printed, Each, Signed64, Pattern64, Printable}
+use Rattle.study_print.specs.Printed.{line, section, textOf, headLines, studyLines, printed, Signed64, Pattern64, Printable}
 use Rattle.study_print.proofs.StudyTextLaws.{read-printed}
 use Rattle.study_print.proofs.OnlyLaws.{Only, only-signed, only-pattern, lines-only, once-only, Sectioned, rows-only}
 

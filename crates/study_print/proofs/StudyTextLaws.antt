@@ -9,6 +9,7 @@ use lib.IntN.{ℤ}
 use lib.ListN.{length, drop}
 use lib.Seq.{drop-length}
 use borrow.Author.Tests.{eq-eqb}
+use Rattle.list_laws.specs.Lists.{Each}
 use Rattle.text.specs.Pieces.{ended, same}
 use Rattle.text.specs.Spelled.{signed, hexadecimal}
 use Rattle.sections.specs.Lines.{Got, read, rows, wholeField, patternField}
@@ -16,7 +17,7 @@ use Rattle.study.specs.Studies.{StudyText, holds, studyIn, gridPart, floatsPart
 use Rattle.study_head.specs.Heads.{endsLine, headPart, headFrom, gridTag, diagTag, typeTag, bandsTag}
 use Rattle.study_head.proofs.HeadLaws.{head-read}
 use Rattle.study.proofs.StudyLaws.{grid-read, floats-read, study-read}
-use Rattle.study_print.specs.Printed.{line, section, headLines, studyLines, printed, Each, Signed64, Pattern64, Printable}
+use Rattle.study_print.specs.Printed.{line, section, headLines, studyLines, printed, Signed64, Pattern64, Printable}
 use Rattle.study_print.proofs.LineLaws.{absent, AllSpell, Stops, once-read, section-read, stops-through, Clean, clean-append, clean-line, clean-section, lines-read, last-byte}
 use Rattle.study_print.proofs.FieldLaws.{spells-signed, spells-pattern}
 

@@ -6,6 +6,7 @@ use Prim.Native.Nat.{ℕ, zero, suc, _*_, _/_, _^_, _≤_, _<_}
 use lib.IntN.{ℤ}
 use lib.ListN.{length, take, drop}
 use lib.Signed.{mag}
+use Rattle.list_laws.specs.Lists.{Each}
 use Rattle.list_laws.specs.Signed.{isBetween}
 use Rattle.text.specs.Spelled.{signed, hexadecimal}
 use Rattle.study_head.specs.declared.Head.{Head}
@@ -54,11 +55,6 @@ studyLines s =
 -- the text of a study
 unfoldable pub printed : StudyText → List ℕ
 printed s = textOf (studyLines s)
-
--- a property of each value of a list
-abbrev pub Each : {A : Type 0} → (A → Type 0) → List A → Type 0
-Each P [] = Unit
-Each P (v ∷ vs) = P v × Each P vs
 
 -- a signed number of 64 bits
 abbrev pub Signed64 : ℤ → Type 0

@@ -1,13 +1,15 @@
 // Weights: the mean of each block of more than one entry.
 use degenerate_sets::kernel::sets::set_end;
 ghost use mathlib.Core.Path.{_≡_};
+ghost use mathlib.Core.List.{map};
 ghost use Prim.Native.Nat.{_+_, _-_, _*_, _≤_, _<_};
 ghost use lib.ListN.{length};
 ghost use lib.Ieee.{nan};
-ghost use Rattle.degenerate_sets.specs.Sets.{startsAt, startOf, endOf};
-ghost use Rattle.list_laws.specs.Matrix.{block, Filled, Replaced, InRows, InBlock};
+ghost use Rattle.degenerate_sets.specs.Blocks.{degenerateSet, setsOf, product};
+ghost use Rattle.degenerate_sets.specs.Turns.{onBlock, inTurn};
+ghost use Rattle.list_laws.specs.Matrix.{block, Filled, Replaced, InBlock};
 ghost use Rattle.ieee_laws.specs.Zeros.{plusZero};
-ghost use Rattle.averaging_blocks.specs.Weights.{rowSum, blockSum, averagedIn, averaged, averagedPoints};
+ghost use Rattle.averaging_blocks.specs.Weights.{rowSum, blockSum, averagedIn, weightsInTurn, averagedPoints};
 
 // The sum of n weights from `from` on, left to right.
 fn row_sum(m: &[f64], from: usize, n: usize) -> f64
@@ -71,9 +73,7 @@ fn average_block(m: &mut [f64], n: usize, top: usize, bottom: usize, left: usize
     requires { ⌜ (length (now m) ≡ n * n) × (n ≤ 64) ⌝ }
     requires { ⌜ (top ≤ bottom) × (bottom ≤ n) ⌝ }
     requires { ⌜ (left ≤ right) × (right ≤ n) ⌝ }
-    ensures { λ _. ⌜ Replaced nan n (InBlock (block top bottom left right))
-        (averagedIn plusZero n (block top bottom left right) (now (m .entry)))
-        (now (m .entry)) (now (m .exit)) ⌝ }
+    ensures { λ _. ⌜ now (m .exit) ≡ onBlock n (averagedIn plusZero n) (now (m .entry)) (block top bottom left right) ⌝ }
 {
     let count = (bottom - top) * (right - left);
     if 1 < count {
@@ -87,10 +87,8 @@ fn average_rows(m: &mut [f64], ids2: &[i64], n: usize, top: usize, bottom: usize
     requires { ⌜ (length (now m) ≡ n * n) × (n ≤ 64) ⌝ }
     requires { ⌜ length (now ids2) ≡ n ⌝ }
     requires { ⌜ (top ≤ bottom) × (bottom ≤ n) ⌝ }
-    ensures { λ _. ⌜ Replaced nan n (InRows top bottom)
-        (λ r c. averagedIn plusZero n (block top bottom (startOf (startsAt (now (ids2 .entry))) c) (endOf (startsAt (now (ids2 .entry))) n c))
-        (now (m .entry)) r c)
-        (now (m .entry)) (now (m .exit)) ⌝ }
+    ensures { λ _. ⌜ now (m .exit)
+        ≡ inTurn n (averagedIn plusZero n) (map (product (degenerateSet top bottom)) (setsOf n (now (ids2 .entry)))) (now (m .entry)) ⌝ }
 {
     let mut left = 0;
     while left < n {
@@ -104,7 +102,7 @@ fn average_rows(m: &mut [f64], ids2: &[i64], n: usize, top: usize, bottom: usize
 fn average_matrix(m: &mut [f64], ids1: &[i64], ids2: &[i64], n: usize)
     requires { ⌜ (length (now m) ≡ n * n) × (n ≤ 64) ⌝ }
     requires { ⌜ (length (now ids1) ≡ n) × (length (now ids2) ≡ n) ⌝ }
-    ensures { λ _. ⌜ now (m .exit) ≡ averaged n (now (ids1 .entry)) (now (ids2 .entry)) (now (m .entry)) ⌝ }
+    ensures { λ _. ⌜ now (m .exit) ≡ weightsInTurn n (now (ids1 .entry)) (now (ids2 .entry)) (now (m .entry)) ⌝ }
 {
     let mut top = 0;
     while top < n {

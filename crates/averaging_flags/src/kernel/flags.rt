@@ -1,12 +1,14 @@
 // Flags: a block with any flag 0 becomes all 0.
 use degenerate_sets::kernel::sets::set_end;
 ghost use mathlib.Core.Path.{_≡_};
+ghost use mathlib.Core.List.{map};
 ghost use Prim.Native.Nat.{_+_, _-_, _*_, _≤_, _<_};
 ghost use lib.ListN.{length};
 ghost use lib.IntN.{pos};
-ghost use Rattle.degenerate_sets.specs.Sets.{startsAt, startOf, endOf};
-ghost use Rattle.list_laws.specs.Matrix.{block, Filled, Replaced, InRows, InBlock};
-ghost use Rattle.averaging_flags.specs.Flags.{rowHasZero, rowsHaveZero, flagIn, averagedFlags, averagedFlagPoints};
+ghost use Rattle.degenerate_sets.specs.Blocks.{degenerateSet, setsOf, product};
+ghost use Rattle.degenerate_sets.specs.Turns.{onBlock, inTurn};
+ghost use Rattle.list_laws.specs.Matrix.{block, Filled, Replaced, InBlock};
+ghost use Rattle.averaging_flags.specs.Flags.{rowHasZero, rowsHaveZero, flagIn, flagsInTurn, averagedFlagPoints};
 
 // Whether one of n flags from `from` on is 0.
 fn row_has_zero(m: &[i8], from: usize, n: usize) -> bool
@@ -70,8 +72,7 @@ fn average_block(m: &mut [i8], n: usize, top: usize, bottom: usize, left: usize,
     requires { ⌜ (length (now m) ≡ n * n) × (n ≤ 64) ⌝ }
     requires { ⌜ (top ≤ bottom) × (bottom ≤ n) ⌝ }
     requires { ⌜ (left ≤ right) × (right ≤ n) ⌝ }
-    ensures { λ _. ⌜ Replaced (pos 0) n (InBlock (block top bottom left right))
-        (flagIn n (block top bottom left right) (now (m .entry))) (now (m .entry)) (now (m .exit)) ⌝ }
+    ensures { λ _. ⌜ now (m .exit) ≡ onBlock n (flagIn n) (now (m .entry)) (block top bottom left right) ⌝ }
 {
     if block_has_zero(m, n, top, bottom, left, right) {
         clear_block(m, n, top, bottom, left, right);
@@ -83,10 +84,8 @@ fn average_rows(m: &mut [i8], ids2: &[i64], n: usize, top: usize, bottom: usize)
     requires { ⌜ (length (now m) ≡ n * n) × (n ≤ 64) ⌝ }
     requires { ⌜ length (now ids2) ≡ n ⌝ }
     requires { ⌜ (top ≤ bottom) × (bottom ≤ n) ⌝ }
-    ensures { λ _. ⌜ Replaced (pos 0) n (InRows top bottom)
-        (λ r c. flagIn n (block top bottom (startOf (startsAt (now (ids2 .entry))) c) (endOf (startsAt (now (ids2 .entry))) n c))
-        (now (m .entry)) r c)
-        (now (m .entry)) (now (m .exit)) ⌝ }
+    ensures { λ _. ⌜ now (m .exit)
+        ≡ inTurn n (flagIn n) (map (product (degenerateSet top bottom)) (setsOf n (now (ids2 .entry)))) (now (m .entry)) ⌝ }
 {
     let mut left = 0;
     while left < n {
@@ -100,7 +99,7 @@ fn average_rows(m: &mut [i8], ids2: &[i64], n: usize, top: usize, bottom: usize)
 fn average_matrix(m: &mut [i8], ids1: &[i64], ids2: &[i64], n: usize)
     requires { ⌜ (length (now m) ≡ n * n) × (n ≤ 64) ⌝ }
     requires { ⌜ (length (now ids1) ≡ n) × (length (now ids2) ≡ n) ⌝ }
-    ensures { λ _. ⌜ now (m .exit) ≡ averagedFlags n (now (ids1 .entry)) (now (ids2 .entry)) (now (m .entry)) ⌝ }
+    ensures { λ _. ⌜ now (m .exit) ≡ flagsInTurn n (now (ids1 .entry)) (now (ids2 .entry)) (now (m .entry)) ⌝ }
 {
     let mut top = 0;
     while top < n {

@@ -4,14 +4,15 @@ use Prim.Native.Nat.{_-_, _*_}
 use native.Mathlib.Omega.{arith}
 use lib.Dec.{le→leb}
 use lib.IntN.{pos}
-use lib.Ieee.{Float, binary64, div, ofInt, inFloat}
+use lib.Ieee.{Float, nan, binary64, div, ofInt, inFloat}
 use borrow.Author.Needs.{needs}
 use Rattle.list_laws.specs.Matrix.{block, entries}
 use Rattle.ieee_laws.specs.Zeros.{plusZero}
-use Rattle.averaging_blocks.specs.Weights.{mean}
+use Rattle.averaging_blocks.specs.Weights.{mean, averagedIn}
 use Rattle.averaging_blocks.proofs.WeightLaws.{averaged-many, averaged-one}
 use Rattle.list_laws.proofs.MatrixLaws.{replaced-as, replaced-same}
 use Rattle.degenerate_sets.proofs.SizeLaws.{square-le}
+use Rattle.degenerate_sets.proofs.WalkLaws.{block-turn}
 use Rattle.averaging_blocks.proofs.kernel.weights.average_block.Statement.{statement}
 use Rattle.averaging_blocks.proofs.kernel.weights.average_block.Tie as tie
 
@@ -47,15 +48,18 @@ unfolding mean
 returns c =
     let args = c .before .before .before .before .before .before .before .before .before .args in
     let B = block (args .top) (args .bottom) (args .left) (args .right) in
-    replaced-as (c .before .before .fill-block .ensures)
+    block-turn nan (args .n) (averagedIn plusZero (args .n)) B (args .m .now) _ (omega arith)
+    (replaced-as (c .before .before .fill-block .ensures)
     (λ x y h.
     ap (λ (s : Float). div binary64 s (ofInt binary64 (pos (entries B)))) (c .before .before .before .before .before .block-sum .ensures)
-    ∙ sym (averaged-many plusZero (args .n) B (args .m .now) x y (omega arith)))
+    ∙ sym (averaged-many plusZero (args .n) B (args .m .now) x y (omega arith))))
 
 returns-2 : tie.Need-returns-2
 returns-2 c =
     let args = c .before .before .args in
-    replaced-same (λ x y h. sym (averaged-one plusZero (args .n) (block (args .top) (args .bottom) (args .left) (args .right)) (args .m .now) x y (omega arith)))
+    let B = block (args .top) (args .bottom) (args .left) (args .right) in
+    block-turn nan (args .n) (averagedIn plusZero (args .n)) B (args .m .now) (args .m .now) (omega arith)
+    (replaced-same (λ x y h. sym (averaged-one plusZero (args .n) B (args .m .now) x y (omega arith))))
 
 pub average-block-spec : {M : Type 1} → statement M
 average-block-spec =

@@ -1,15 +1,15 @@
 -- `averaging_blocks::kernel::weights::average_points` meets its contract: at each turn the matrices of the first k points are done. Assumes nothing.
-use mathlib.Core.Path.{_≡_, ap}
+use mathlib.Core.Path.{_≡_, sym, ap, _∙_}
 use Prim.Native.Nat.{ℕ, _≤_, _-_, _+_, _*_}
 use native.Mathlib.Omega.{arith}
-use lib.ListN.{length}
+use lib.ListN.{length, take, drop}
 use Rattle.list_laws.proofs.FillLaws.{part-length}
 use Rattle.list_laws.proofs.MatrixLaws.{Made, made-none, made-length, made-next, made-all}
 use Rattle.list_laws.proofs.ProductLaws.{row-le, row-next}
 use Rattle.ieee_laws.specs.Zeros.{plusZero}
 use Rattle.averaging_blocks.specs.Weights.{averaged, averagedPoints}
 use Rattle.degenerate_sets.proofs.SizeLaws.{square-le}
-use Rattle.averaging_blocks.proofs.WeightLaws.{averaged-length}
+use Rattle.averaging_blocks.proofs.WeightLaws.{averaged-length, weights-in-turn}
 use Rattle.averaging_blocks.proofs.kernel.weights.average_points.Statement.{statement}
 use Rattle.averaging_blocks.proofs.kernel.weights.average_points.Tie as tie
 
@@ -72,7 +72,10 @@ loop-again c =
     let size = args .bands * args .bands in (
       omega arith,
       row-next (at .k) size (at .start) (at .inv .1),
-      made-next size _ (averaged-length plusZero _ _ _) (at .k) (at .start) (args .w .now) (at .w) _ (at .inv .1) (at .inv .2) (c .before .before .average-matrix .ensures),
+      made-next size _ (averaged-length plusZero _ _ _) (at .k) (at .start) (args .w .now) (at .w) _ (at .inv .1) (at .inv .2)
+          (c .before .before .average-matrix .ensures
+          ∙ sym (weights-in-turn plusZero (args .bands) (args .ids1 .now) (args .ids2 .now) (take (at .start + size - at .start) (drop (at .start) (at .w)))
+          (part-length (at .w) (at .start) size (omega (arith, room (c .before .before .before .before)))))),
     )
 
 same-length : tie.Need-same-length Inv-loop μ-loop

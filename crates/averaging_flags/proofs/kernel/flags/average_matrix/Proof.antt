@@ -1,35 +1,46 @@
--- `averaging_flags::kernel::flags::average_matrix` meets its contract: at each turn the rows before `top`, where a set starts, are done. Assumes nothing.
-use mathlib.Core.Path.{_≡_}
-use Prim.Native.Nat.{_≤_, _<_, _-_}
+-- `averaging_flags::kernel::flags::average_matrix` meets its contract: at each turn the blocks of the sets of rows before
+-- `top`, which starts a set or is the end, have had theirs. Assumes nothing.
+use mathlib.Core.Path.{_≡_, refl, ap, _∙_}
+use mathlib.Core.Bool.{true}
+use Prim.Native.Nat.{ℕ, _≤_, _<_, _-_}
 use native.Mathlib.Omega.{arith}
-use lib.IntN.{pos}
-use Rattle.degenerate_sets.specs.Sets.{startsAt, startOf}
-use Rattle.averaging_flags.specs.Flags.{flagIn, averagedFlags}
-use Rattle.degenerate_sets.proofs.SetLaws.{start-zero, next-bounds, next-start}
-use Rattle.averaging_flags.proofs.FlagLaws.{flag-local}
-use Rattle.degenerate_sets.proofs.WalkLaws.{RowsDone, rows-none, rows-turn, rows-all}
+use lib.ListN.{length}
+use Rattle.degenerate_sets.specs.Sets.{startsAt}
+use Rattle.degenerate_sets.specs.Blocks.{isFirst, setsBelow, setsOf, products}
+use Rattle.degenerate_sets.specs.Turns.{inTurn}
+use Rattle.averaging_flags.specs.Flags.{flagIn}
+use Rattle.degenerate_sets.proofs.SetLaws.{next-bounds, next-first}
+use Rattle.degenerate_sets.proofs.TurnLaws.{turned-length}
+use Rattle.degenerate_sets.proofs.WalkLaws.{rows-none, rows-turn}
 use Rattle.averaging_flags.proofs.kernel.flags.average_matrix.Statement.{statement}
 use Rattle.averaging_flags.proofs.kernel.flags.average_matrix.Tie as tie
 
 abbrev Inv-loop : tie.InvT-loop
 Inv-loop m₀ ids1 ids2 n top₀ m top =
     (top ≤ n)
-    × (top < n → startOf (startsAt ids1) top ≡ top)
-    × RowsDone (pos 0) n (flagIn n) (startsAt ids1) (startsAt ids2) top m₀ m
+    × (top < n → isFirst (startsAt ids1) top ≡ true)
+    × (m ≡ inTurn n (flagIn n) (products (setsBelow (startsAt ids1) n top) (setsOf n ids2)) m₀)
 
 abbrev μ-loop : tie.MeasureT-loop
 μ-loop m₀ ids1 ids2 n top₀ m top = n - top
 
+-- the matrix keeps its length
+same-size : (c : tie.At-loop Inv-loop μ-loop) → let args = c .before .args in length (c .loop .m) ≡ length (args .m .now)
+same-size c =
+    let args = c .before .args in
+    turned-length (args .n) (flagIn (args .n)) (products (setsBelow (startsAt (args .ids1 .now)) (args .n) (c .loop .top)) (setsOf (args .n) (args .ids2 .now))) (args .m .now) (c .loop .m) (c .loop .inv .2)
+
 loop-holds : tie.Need-loop-holds Inv-loop μ-loop
-loop-holds c = (omega arith, (λ h. start-zero _), rows-none _ _ _ (flag-local _) _ _ _)
+loop-holds c =
+    let args = c .args in
+    (omega arith, (λ h. refl), rows-none (args .n) (flagIn (args .n)) (startsAt _) (setsOf (args .n) (args .ids2 .now)) (args .m .now))
 
 set-end-requires : tie.Need-set-end-requires Inv-loop μ-loop
 set-end-requires c κs = omega arith
 
 average-rows-requires : tie.Need-average-rows-requires Inv-loop μ-loop
 average-rows-requires c κs =
-    let at = c .before .before .before .loop in
-    omega (arith, at .inv .2 .same-length, next-bounds (startsAt _) (c .before .before .loop-test .taken) (c .before .set-end .ensures))
+    omega (arith, same-size (c .before .before .before), next-bounds (startsAt _) (c .before .before .loop-test .taken) (c .before .set-end .ensures))
 
 loop-less : tie.Need-loop-less Inv-loop μ-loop
 loop-less c =
@@ -39,20 +50,26 @@ loop-less c =
 loop-again : tie.Need-loop-again Inv-loop μ-loop
 loop-again c =
     let b = c .before .before .before in
-    let inv = b .before .before .loop .inv in
+    let at = b .before .before .loop in
+    let args = b .before .before .before .args in
+    let inv = at .inv in
     let h = b .before .loop-test .taken in
     let e = b .set-end .ensures in (
       next-bounds _ h e .1,
-      next-start _ h e,
-      rows-turn _ _ _ (flag-local _) _ _ _ _ _ _ _ (inv .2) h (inv .1 h) e (c .before .average-rows .ensures),
+      next-first _ h e,
+      rows-turn (args .n) (flagIn (args .n)) _ _ _ _ (args .m .now) (at .m) _ h (inv .1 h) e (inv .2) (c .before .average-rows .ensures),
     )
 
 same-length : tie.Need-same-length Inv-loop μ-loop
-same-length c = c .before .loop .inv .2 .same-length
+same-length c = same-size (c .before)
 
 returns : tie.Need-returns Inv-loop μ-loop
-unfolding averagedFlags
-returns c = rows-all _ _ _ (flag-local _) _ _ _ _ _ (c .before .loop .inv .2) (omega arith) (omega arith)
+returns c =
+    let args = c .before .before .args in
+    let at = c .before .loop in
+    at .inv .2
+    ∙ ap (λ (k : ℕ). inTurn (args .n) (flagIn (args .n)) (products (setsBelow (startsAt (args .ids1 .now)) (args .n) k) (setsOf (args .n) (args .ids2 .now))) (args .m .now))
+    (omega arith)
 
 pub average-matrix-spec : {M : Type 1} → statement M
 average-matrix-spec =

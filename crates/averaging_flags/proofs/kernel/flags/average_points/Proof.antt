@@ -1,14 +1,14 @@
 -- `averaging_flags::kernel::flags::average_points` meets its contract: at each turn the matrices of the first k points are done. Assumes nothing.
-use mathlib.Core.Path.{_≡_, ap}
+use mathlib.Core.Path.{_≡_, sym, ap, _∙_}
 use Prim.Native.Nat.{ℕ, _≤_, _-_, _+_, _*_}
 use native.Mathlib.Omega.{arith}
-use lib.ListN.{length}
+use lib.ListN.{length, take, drop}
 use Rattle.list_laws.proofs.FillLaws.{part-length}
 use Rattle.list_laws.proofs.MatrixLaws.{Made, made-none, made-length, made-next, made-all}
 use Rattle.list_laws.proofs.ProductLaws.{row-le, row-next}
 use Rattle.averaging_flags.specs.Flags.{averagedFlags, averagedFlagPoints}
 use Rattle.degenerate_sets.proofs.SizeLaws.{square-le}
-use Rattle.averaging_flags.proofs.FlagLaws.{flags-length}
+use Rattle.averaging_flags.proofs.FlagLaws.{flags-length, flags-in-turn}
 use Rattle.averaging_flags.proofs.kernel.flags.average_points.Statement.{statement}
 use Rattle.averaging_flags.proofs.kernel.flags.average_points.Tie as tie
 
@@ -68,7 +68,10 @@ loop-again c =
     let size = args .bands * args .bands in (
       omega arith,
       row-next (at .k) size (at .start) (at .inv .1),
-      made-next size _ (flags-length _ _ _) (at .k) (at .start) (args .flags .now) (at .flags) _ (at .inv .1) (at .inv .2) (c .before .average-matrix .ensures),
+      made-next size _ (flags-length _ _ _) (at .k) (at .start) (args .flags .now) (at .flags) _ (at .inv .1) (at .inv .2)
+          (c .before .average-matrix .ensures
+          ∙ sym (flags-in-turn (args .bands) (args .ids1 .now) (args .ids2 .now) (take (at .start + size - at .start) (drop (at .start) (at .flags)))
+          (part-length (at .flags) (at .start) size (omega (arith, room (c .before .before .before)))))),
     )
 
 same-length : tie.Need-same-length Inv-loop μ-loop
