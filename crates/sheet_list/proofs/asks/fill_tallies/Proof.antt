@@ -1,10 +1,9 @@
 -- `sheet_list::asks::fill_tallies` meets its contract. Assumes nothing.
-use borrow.Rule.Slice.PartMut.{same-len-mid}
 use lib.ListN.{length, take}
 use mathlib.Core.Path.{_∙_, _≡_, refl}
 use native.Mathlib.Omega.{arith}
 use Prim.Native.Nat.{_+_, _-_, _*_, _≤_}
-use Rattle.list_laws.proofs.FillLaws.{part-length, rows-end, rows-next, rows-none}
+use Rattle.list_laws.proofs.FillLaws.{part-length, rows-end, rows-none, rows-row}
 use Rattle.list_laws.specs.Lists.{rows}
 use Rattle.sheet_marks.specs.Tallies.{sixteenOf}
 use Rattle.sheet_list.proofs.asks.fill_tallies.Statement.{statement}
@@ -63,12 +62,8 @@ loop-again c =
     let l = t .before .loop in
     let v = l .inv in
     let stored = c .before .before .store-counts in
-    let next : l .i * 16 + 16 ≡ (l .i + 1) * 16 = omega arith in (
-      omega arith,
-      same-len-mid (l .i * 16) (l .i * 16 + 16 - l .i * 16) (l .tallies) (stored .last .0) (stored .kept .0) ∙ v .1,
-      rw (← next) (rows-next (λ k. sixteenOf (s .args .tally .runs)) (l .tallies) (stored .last .0) (l .i * 16) 16 (l .i) (room t)
-          (stored .kept .0 ∙ part-length (l .tallies) (l .i * 16) 16 (room t)) (v .2) (stored .ensures)),
-    )
+    let row = rows-row (λ k. sixteenOf (s .args .tally .runs)) (l .tallies) (stored .last .0) (l .i) 16 (room t) (stored .kept .0) (v .2) (stored .ensures) in
+    (omega arith, row .0 ∙ v .1, row .1)
 
 same-length : tie.Need-same-length Inv-loop μ-loop
 same-length c = c .before .loop .inv .1

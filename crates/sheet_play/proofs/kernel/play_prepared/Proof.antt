@@ -1,10 +1,9 @@
 -- `sheet_play::kernel::play_prepared` meets its contract. Assumes nothing.
-use borrow.Rule.Slice.PartMut.{same-len-mid}
 use lib.ListN.{length, length-set, take}
 use mathlib.Core.Path.{_∙_, _≡_, refl, sym, subst}
 use native.Mathlib.Omega.{arith}
 use Prim.Native.Nat.{_+_, _-_, _<_, _≤_, _*_, ℕ}
-use Rattle.list_laws.proofs.FillLaws.{front-next, front-none, part-length, rows-end, rows-next, rows-none}
+use Rattle.list_laws.proofs.FillLaws.{front-next, front-none, part-length, rows-end, rows-none, rows-row}
 use Rattle.list_laws.specs.Lists.{fronted, rows}
 use Rattle.sheet_fill.proofs.PieceLaws.{kept-none}
 use Rattle.sheet_fill.specs.Kept.{Kept}
@@ -131,17 +130,17 @@ loop-again c =
     let stored = c .before .before .store-counts in
     let d = one-turn .ensures in
     let k = one-turn .kept .1 .1 .1 .1 in
-    let next : l .i * 16 + 16 ≡ (l .i + 1) * 16 = omega arith in (
+    let row = rows-row (tallyAfter (asked s) (start s) (call s)) (l .tallies) (stored .last .0) (l .i) 16 (room t) (stored .kept .0) (v .8)
+    (stored .ensures ∙ tally-next (asked s) (start s) (call s) (l .i) x (v .6) (d .0)) in (
       omega (arith, at-call t),
       k .0 ∙ v .1,
       k .1 .0 ∙ v .2,
       k .1 .1 .0 ∙ v .3,
       simp length-set (v .4),
-      same-len-mid (l .i * 16) (l .i * 16 + 16 - l .i * 16) (l .tallies) (stored .last .0) (stored .kept .0) ∙ v .5,
+      row .0 ∙ v .5,
       sheet-next (asked s) (start s) (call s) (l .i) x (v .6) (d .0),
       rw (v .7) (front-next (numberAfter (asked s) (start s) (call s)) (s .args .answers .now) (l .i) (one-turn .result .no) (at-call t) (number-next (asked s) (start s) (call s) (l .i) x (v .6) (d .0))),
-      rw (← next) (rows-next (tallyAfter (asked s) (start s) (call s)) (l .tallies) (stored .last .0) (l .i * 16) 16 (l .i) (room t)
-          (stored .kept .0 ∙ part-length (l .tallies) (l .i * 16) 16 (room t)) (v .8) (stored .ensures ∙ tally-next (asked s) (start s) (call s) (l .i) x (v .6) (d .0))),
+      row .1,
       d .1,
     )
 
