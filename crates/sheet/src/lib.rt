@@ -3,10 +3,10 @@
 pub use ask::Answer;
 pub use sheet_averaging::average_triplet;
 pub use sheet_carry::carry_on;
-pub use sheet_marks::Counts;
-pub use sheet_marks::OpenAnswer;
-pub use sheet_marks::SheetAnswer;
-pub use sheet_marks::Tally;
-pub use sheet_marks::open_count;
 pub use sheet_run::run_piece;
+pub use sheet_tally::Counts;
+pub use sheet_tally::OpenAnswer;
+pub use sheet_tally::SheetAnswer;
+pub use sheet_tally::Tally;
+pub use sheet_tally::open_count;
 pub use triplet_study::Shape;

@@ -4,12 +4,12 @@ ghost use Prim.Native.Nat.{_*_};
 ghost use lib.ListN.{length};
 ghost use lib.Signed.{mag};
 ghost use Rattle.ask.specs.Ask.{firstNo, afterCall};
-ghost use Rattle.sheet_marks.specs.Tallies.{tallyQuestions, withRuns};
-ghost use Rattle.sheet_marks.specs.OpenCount.{openQuestions, zerosFrom, cellsPerTriplet};
+ghost use Rattle.sheet_tally.specs.Tallies.{tallyQuestions, withRuns};
+ghost use Rattle.sheet_tally.specs.OpenCount.{openQuestions, zerosFrom, cellsPerTriplet};
 use ask::kernel::number_of;
-use sheet_marks::Counts;
-use sheet_marks::OpenAnswer;
-use sheet_marks::Tally;
+use sheet_tally::Counts;
+use sheet_tally::OpenAnswer;
+use sheet_tally::Tally;
 
 // The open count of a triplet, behind `count`. Questions 9, 12, 14.
 pub fn open_count(counts: Counts, flags: &[i8], triplet: i64, count: &mut u64) -> u64
@@ -17,7 +17,7 @@ pub fn open_count(counts: Counts, flags: &[i8], triplet: i64, count: &mut u64) -
     ensures { λ r. ⌜ now (count .exit) ≡ afterCall (firstNo (openQuestions counts (length (now (flags .entry))) triplet))
         (zerosFrom (now (flags .entry)) (mag triplet * cellsPerTriplet counts) (cellsPerTriplet counts)) (now (count .entry)) ⌝ }
 {
-    match sheet_marks::open_count(counts, flags, triplet) {
+    match sheet_tally::open_count(counts, flags, triplet) {
         OpenAnswer::Open(zeros) => {
             *count = zeros;
             0

@@ -4,7 +4,7 @@ use mathlib.Core.Path.{_∙_, ap, sym}
 use mir.Syntax.{w64}
 use mir.ValLaws.{toZ-ofZ}
 use Rattle.statuses.proofs.StatusLaws.{count-done, count-refused}
-use Rattle.sheet_marks.specs.OpenCount.{openCountAnswer}
+use Rattle.sheet_tally.specs.OpenCount.{openCountAnswer}
 use Rattle.statuses.proofs.sheets.open_count.Statement.{statement}
 use Rattle.statuses.proofs.sheets.open_count.Tie as tie
 
