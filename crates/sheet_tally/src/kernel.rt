@@ -1,16 +1,10 @@
-// Tests and counts for the sheet's calls.
+// The tally's questions and sums, for the sheet's calls.
 ghost use mathlib.Core.Path.{_≡_};
-ghost use mathlib.Core.Bool.{true};
-ghost use Prim.Native.Nat.{_+_, _*_, _≤_, _<_};
-ghost use lib.ListN.{length};
 ghost use Rattle.ask.specs.Ask.{firstNo};
-ghost use Rattle.sheet_tally.specs.OpenCount.{areSheetCounts, cellsPerTriplet, openQuestions, isZeroAt, zerosFrom};
 ghost use Rattle.sheet_tally.specs.Tallies.{refusedWith, sheetAnswer, isRoom, tallyQuestions, withRuns};
-use crate::Counts;
 use crate::SheetAnswer;
 use crate::Tally;
 use ask::Answer;
-use marks::kernel::one_if;
 
 // How many workers there are.
 pub const WORKERS: usize = 16;
@@ -74,66 +68,4 @@ pub fn with_runs(tally: Tally, worker: i64, runs: u64) -> Tally
     let w = numbers::kernel::magnitude(worker);
     counts[w] = counts[w] + runs;
     Tally { runs: counts }
-}
-
-// Question 9, of all four counts.
-fn counts_ok(counts: Counts) -> bool
-    ensures { λ r. ⌜ r ≡ areSheetCounts counts ⌝ }
-{
-    question_values::kernel::counts::signed_counts_ok(
-        counts.num_band1,
-        counts.num_band2,
-        counts.num_band0,
-        counts.num_triplets,
-    )
-}
-
-// How many flags one triplet has.
-pub fn cells_of(counts: Counts) -> usize
-    requires { ⌜ areSheetCounts counts ≡ true ⌝ }
-    ensures { λ r. ⌜ (r ≡ cellsPerTriplet counts) × (r ≤ 4194304) ⌝ }
-{
-    let points = numbers::kernel::magnitude(counts.num_band0);
-    let bands1 = numbers::kernel::magnitude(counts.num_band1);
-    let bands2 = numbers::kernel::magnitude(counts.num_band2);
-    points * (bands1 * bands2)
-}
-
-// The number of the first question of the open count that is answered no, or 0.
-pub fn open_first_no(counts: Counts, num_flags: usize, triplet: i64) -> u64
-    ensures { λ r. ⌜ r ≡ firstNo (openQuestions counts «num_flags» triplet) ⌝ }
-{
-    if !counts_ok(counts) {
-        return questions::BAD_COUNT;
-    }
-    let triplets = numbers::kernel::magnitude(counts.num_triplets);
-    if num_flags != triplets * cells_of(counts) {
-        return questions::BAD_LENGTH;
-    }
-    if !numbers::kernel::is_below(triplet, triplets) {
-        return questions::NOT_ON_SHEET;
-    }
-    0
-}
-
-// Whether flag `k` is 0.
-fn is_zero_at(flags: &[i8], k: usize) -> bool
-    requires { ⌜ k < length (now flags) ⌝ }
-    ensures { λ r. ⌜ r ≡ isZeroAt (now (flags .entry)) k ⌝ }
-{
-    flags[k] == 0
-}
-
-// How many of `n` flags from `start` on are 0.
-pub fn zeros_from(flags: &[i8], start: usize, n: usize) -> u64
-    requires { ⌜ start + n ≤ length (now flags) ⌝ }
-    ensures { λ r. ⌜ r ≡ zerosFrom (now (flags .entry)) start n ⌝ }
-{
-    let mut count: u64 = 0;
-    let mut i = 0;
-    while i < n {
-        count = count + one_if(is_zero_at(flags, start + i));
-        i += 1;
-    }
-    count
 }

@@ -1,13 +1,15 @@
--- `sheet_tally::kernel::counts_ok` meets its contract. Assumes nothing.
+-- `sheet_counts::kernel::counts_ok` meets its contract. Assumes nothing.
 use borrow.Author.Needs.{needs}
 use Rattle.list_laws.proofs.SignedLaws.{back}
-use Rattle.sheet_tally.proofs.kernel.counts_ok.Statement.{statement}
-use Rattle.sheet_tally.proofs.kernel.counts_ok.Tie as tie
+use Rattle.sheet_counts.specs.SheetCounts.{areSheetCounts}
+use Rattle.sheet_counts.proofs.kernel.counts_ok.Statement.{statement}
+use Rattle.sheet_counts.proofs.kernel.counts_ok.Tie as tie
 
 signed-counts-ok-requires : tie.Need-signed-counts-ok-requires
 signed-counts-ok-requires c κs = search needs
 
 returns : tie.Need-returns
+unfolding areSheetCounts
 returns c =
     let counts = c .before .before .before .before .before .args .counts in
     let told = c .before .struct-told4 .given in
