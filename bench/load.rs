@@ -177,14 +177,7 @@ pub fn run_piece(l: &Load, s: &mut Sheet, worker: usize, piece: [usize; 3]) {
 pub fn list(l: &Load, s: &mut Sheet) {
     let n = l.runs.len() / 6;
     let (mut answers, mut tallies) = (vec![1; n], vec![0; 16 * n]);
-    let no = calls::play(
-        &l.study,
-        parts(s),
-        &l.runs,
-        &[],
-        &mut answers,
-        &mut tallies,
-    );
+    let no = calls::play(&l.study, parts(s), &l.runs, &[], &mut answers, &mut tallies);
     assert!(no == 0 && answers.iter().all(|a| *a == 0), "refused {no}");
 }
 
@@ -192,6 +185,29 @@ pub fn list(l: &Load, s: &mut Sheet) {
 pub fn average(l: &Load, s: &mut Sheet, i: usize) {
     let no = calls::average_triplet(&l.study, parts(s), i as i64, [&l.ids, &l.ids]);
     assert!(no == 0, "refused {no}");
+}
+
+/// The open count of triplet i.
+#[inline(never)]
+pub fn open_count(l: &Load, s: &Sheet, i: usize) -> u64 {
+    let (y, mut count) = (&l.study, 0);
+    let counts = [
+        y.count() as i64,
+        y.points.len() as i64,
+        y.bands[0],
+        y.bands[1],
+    ];
+    let no = calls::open_count(y.tp, counts, &s.weights, i as i64, &mut count);
+    assert!(no == 0, "refused {no}");
+    count
+}
+
+/// The entries of triplet i with a weight other than zero, plainly.
+#[inline(never)]
+pub fn plain_open_count(l: &Load, s: &Sheet, i: usize) -> u64 {
+    let (per, cells) = (l.study.per(), s.flags.len());
+    let open = |e: &usize| s.weights[*e..].iter().step_by(cells).any(|w| *w != 0.0);
+    (i * per..(i + 1) * per).filter(open).count() as u64
 }
 
 /// A piece of a triplet that is not on the sheet: all the questions that every call asks, and no work.

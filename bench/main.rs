@@ -21,7 +21,10 @@ mod study;
 mod weight;
 
 use clock::{clock, median};
-use load::{all_triplets, average, carry_on, list, questions, run_piece, rust, rust_average, Load};
+use load::{
+    all_triplets, average, carry_on, list, open_count, plain_open_count, questions, run_piece,
+    rust, rust_average, Load,
+};
 use study::Sheet;
 
 const WEIGHTS: u64 = 0x90a6e85c66921dec;
@@ -90,6 +93,18 @@ fn compare() -> bool {
     good &= side("named runs", &a, &d) && marked(&d, [225; 16], 1);
     good &= side("one list", &a, &e) && marked(&e, [225; 16], 1);
     good &= side("all triplets", &a, &c) && marked(&c, [0; 16], 0);
+    let (ours, plain): (Vec<u64>, Vec<u64>) = (0..100)
+        .map(|t| (open_count(&l, &b, t), plain_open_count(&l, &a, t)))
+        .unzip();
+    let (open, flags) = (
+        ours.iter().sum::<u64>(),
+        a.flags.iter().filter(|f| **f == 0).count(),
+    );
+    println!(
+        "open counts  {open} entries open, {flags} flags 0; of 100 counts {} differ",
+        ours.iter().zip(&plain).filter(|(x, y)| x != y).count()
+    );
+    good &= ours == plain;
     for t in 0..100 {
         rust_average(&l, &mut a, t);
         average(&l, &mut b, t);
@@ -103,7 +118,7 @@ fn compare() -> bool {
     good && w + f == 0 && marked(&b, carried(), 2) && weight::compare()
 }
 
-const CALLS: [&str; 9] = [
+const CALLS: [&str; 10] = [
     "rust",
     "carry-on",
     "all-triplets",
@@ -113,10 +128,11 @@ const CALLS: [&str; 9] = [
     "named",
     "questions",
     "list",
+    "open",
 ];
 
 /// One round: both sides in turn on cleared buffers. Milliseconds in the order of CALLS.
-fn round(l: &Load, a: &mut Sheet, b: &mut Sheet) -> [f64; 9] {
+fn round(l: &Load, a: &mut Sheet, b: &mut Sheet) -> [f64; 10] {
     let n = l.study.count();
     load::clear(a);
     let rust = clock(|| rust(l, a));
@@ -127,6 +143,7 @@ fn round(l: &Load, a: &mut Sheet, b: &mut Sheet) -> [f64; 9] {
     let carry = clock(|| carry_on(l, b));
     assert!(differences(a, b) == (0, 0), "the sides differ");
     let closed = clock(|| carry_on(l, b));
+    let opened = clock(|| assert!((0..n).map(|t| open_count(l, b, t)).sum::<u64>() > 0)) / n as f64;
     load::clear(b);
     let runs = clock(|| list(l, b));
     assert!(differences(a, b) == (0, 0), "the sides differ");
@@ -136,12 +153,14 @@ fn round(l: &Load, a: &mut Sheet, b: &mut Sheet) -> [f64; 9] {
     load::clear(b);
     let named = clock(|| (0..n).for_each(|t| run_piece(l, b, t % 16, [t, 0, 0]))) / n as f64;
     let asked = clock(|| (0..n).for_each(|_| questions(l, b))) / n as f64;
-    [rust, carry, all, closed, rust_mean, mean, named, asked, runs]
+    [
+        rust, carry, all, closed, rust_mean, mean, named, asked, runs, opened,
+    ]
 }
 
 fn time(l: &Load, rounds: usize) {
     let (mut a, mut b) = (l.sheet(), l.sheet());
-    let rounds: Vec<[f64; 9]> = (0..rounds).map(|_| round(l, &mut a, &mut b)).collect();
+    let rounds: Vec<[f64; 10]> = (0..rounds).map(|_| round(l, &mut a, &mut b)).collect();
     for (k, name) in CALLS.iter().enumerate() {
         println!(
             "{name} {:.5}",
@@ -150,11 +169,11 @@ fn time(l: &Load, rounds: usize) {
     }
 }
 
-/// One call after what it needs: a computed sheet for `closed` and the averages, which `computed` makes too and then stops.
+/// One call after what it needs: a computed sheet for `closed`, `open` and the averages, which `computed` makes too and then stops.
 fn work(l: &Load, name: &str) {
     let mut s = l.sheet();
     load::clear(&mut s);
-    if ["computed", "closed", "average", "rust-average"].contains(&name) {
+    if ["computed", "closed", "open", "average", "rust-average"].contains(&name) {
         carry_on(l, &mut s);
     }
     match name {
@@ -165,6 +184,7 @@ fn work(l: &Load, name: &str) {
         "named" => run_piece(l, &mut s, 0, [0, 0, 0]),
         "questions" => questions(l, &mut s),
         "list" => list(l, &mut s),
+        "open" => assert!(open_count(l, &s, 0) > 0),
         "average" => average(l, &mut s, 0),
         "rust-average" => rust_average(l, &mut s, 0),
         _ => panic!("no call {name}"),

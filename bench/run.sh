@@ -67,6 +67,7 @@ questions nothing the questions of every call alone
 closed computed carry-on with no piece open
 average computed average_triplet
 rust-average computed the Rust's averages of a triplet
+open computed open_count
 EOF
 
 echo 'the named runs of all pieces in one list against a carry-on: milliseconds, instructions, their ratios; one named run by itself'

@@ -14,6 +14,14 @@ import tempfile
 
 here = os.path.dirname(os.path.abspath(__file__))
 
+# The questions of the open count.
+TYPE = '    if outputs is None:\n        return ("refused", 8)\n'
+COUNTS = """    if not (1 <= b1 <= 64 and 1 <= b2 <= 64 and 1 <= points <= 1024 and 0 <= triplets <= 65536):
+        return ("refused", 9)
+"""
+WEIGHTS = '    if len(weights) != outputs * triplets * block:\n        return ("refused", 12)\n'
+TRIPLET = '    if not 0 <= t < triplets:\n        return ("refused", 14)\n'
+
 # file, old text, new text, and more old and new texts where a change has more than one place
 STUDIES = [
     ("scope.py", "all(1 <= d <= most for d in mesh)", "all(1 <= d <= most + 1 for d in mesh)"),
@@ -75,6 +83,20 @@ SHEETS = [("sheet/sheet_model.py", *texts) for texts in (
      "sheet.tally[worker] += 1", "sheet.tally[worker & 15] += 1", "sheet.tally[worker] += runs", "sheet.tally[worker & 15] += runs"),
     ("0 <= call[1] < WORKERS", "0 <= call[1] < WORKERS - 1"),
     ('"run": tuple(range(3, 16)) + (21, 20)', '"run": tuple(range(3, 15)) + (21, 15, 20)'),
+    # The open count: a NaN for zero; -0 for a number; subnormals for zero; once for each output; all outputs together; the first, the last
+    # alone; the first triplet for all; outputs that lie inside a triplet; 8 after 9, 12 before 9, 14 before 12.
+    ("any(b & ~SIGN != 0 for", "any(0 < b & ~SIGN <= 0x7FF << 52 for"),
+    ("any(b & ~SIGN != 0 for", "any(b != 0 for"),
+    ("any(b & ~SIGN != 0 for", "any(b & ~SIGN >= 1 << 52 for"),
+    ("any(b & ~SIGN != 0 for", "sum(b & ~SIGN != 0 for"),
+    ("any(b & ~SIGN != 0 for", "all(b & ~SIGN != 0 for"),
+    ("for b in entry)", "for b in entry[:1])"),
+    ("for b in entry)", "for b in entry[-1:])"),
+    ("weights[(o * triplets + t) * block + i]", "weights[o * triplets * block + i]"),
+    ("weights[(o * triplets + t) * block + i]", "weights[(t * outputs + o) * block + i]"),
+    (TYPE + COUNTS, COUNTS + TYPE),
+    (COUNTS + WEIGHTS, WEIGHTS + COUNTS),
+    (WEIGHTS + TRIPLET, TRIPLET + WEIGHTS),
 )]
 
 

@@ -1,5 +1,6 @@
 #!/usr/bin/env python3
-"""Shows that the judge can fail: each change below of the Rust, of the judge's questions or of its test frequencies must be seen.
+"""Shows that the judge can fail: each change below of the Rust, of the judge's questions, of its open count or of its test frequencies must
+be seen.
 
     mutants.py SOURCES OUT [SEED [FILE]]      # FILE: the changes of that file alone
 
@@ -22,8 +23,13 @@ AVERAGE = """.map(|b1| matrix[b1 * num_band + s2..][..c2].iter().sum::<f64>())
 WORKER = "        (21, &|| within(worker, 0, 15)),\n"
 FULL = "        (20, &|| before + (runs as u128) < 1 << 63),\n"
 
+TYPE = "        (8, &|| known_type(tp)),\n"
+COUNTS = "        (9, &|| counts(&[b1, b2], x, t)),\n"
+WEIGHTS = "        (12, &room),\n"
+TRIPLET = "        (14, &|| within(triplet, 0, t - 1)),\n"
+
 # The judge's own files; the others are the Rust's.
-OWN = ("asks", "loads")
+OWN = ("asks", "loads", "sheets")
 # file, old text, new text, and which of its places (the first where none is told)
 CHANGES = [
     ("tetrahedron_method", "THM_EPSILON: f64 = 1e-10", "THM_EPSILON: f64 = 1.1e-10"),
@@ -67,6 +73,20 @@ CHANGES = [
     ("asks", "counts[place(worker)] as u128", "counts.iter().map(|c| *c as u128).sum::<u128>()"),
     ("asks", WORKER + FULL, FULL + WORKER),
     ("asks", "(7, &|| table(t)),\n        (8, &|| known_type(tp)),", "(8, &|| known_type(tp)),\n        (7, &|| table(t)),"),
+    ("asks", TYPE + COUNTS, COUNTS + TYPE),
+    ("asks", COUNTS + WEIGHTS, WEIGHTS + COUNTS),
+    ("asks", WEIGHTS + TRIPLET, TRIPLET + WEIGHTS),
+    # The open count: a NaN for zero; -0 for a number; subnormals for zero; once for each output; all outputs together; the first, the last
+    # alone; the first triplet for all; outputs that lie inside a triplet.
+    ("sheets", "] != 0.0);", "].abs() > 0.0);"),
+    ("sheets", "] != 0.0);", "].to_bits() != 0);"),
+    ("sheets", "] != 0.0);", "].abs().to_bits() >> 52 != 0);"),
+    ("sheets", "some.count().min(1)", "some.count()"),
+    ("sheets", "some.count().min(1)", "(some.count() / outputs)"),
+    ("sheets", "(0..outputs).filter", "(0..outputs.min(1)).filter"),
+    ("sheets", "(0..outputs).filter", "(outputs - 1..outputs).filter"),
+    ("sheets", "(o * all + t) * each", "(o * all + t * 0) * each"),
+    ("sheets", "(o * all + t) * each", "(t * outputs + o + all * 0) * each"),
     ("loads", "wrapping_add(1013904223)", "wrapping_add(1013904222)"),
     ("loads", "let [_, _, low, high]", "let [low, high, _, _]"),
     ("loads", "chain.record(n)", "Chain(start).record(n)"),
@@ -104,7 +124,7 @@ def tried(sources, out, seed, change):
         end = subprocess.run([out / "judge", str(seed), "times", "1"], stdout=subprocess.PIPE, stderr=subprocess.DEVNULL, text=True)
         kinds = seen_by(end.stdout)
         seen = end.returncode != 0 and kinds != []
-        print("%s\t%s: %s\t%s" % ("seen" if seen else "NOT SEEN", module, " ".join(change[1].split()), "; ".join(kinds)), flush=True)
+        print("%s\t%s: %s\t%s" % ("seen" if seen else "NOT SEEN", module, " ".join(change[2].split()), "; ".join(kinds)), flush=True)
         return seen
 
 

@@ -50,11 +50,11 @@ def eigenvalues(a):
     return sorted(a[i][i] for i in range(3))
 
 
-def frequencies(address):
+def frequencies(address, mesh=MESH):
     """The three frequencies in THz at a grid point."""
     if address == (0, 0, 0):
         return [0.0, 0.0, 0.0]
-    q = [x / MESH for x in cartesian(address)]
+    q = [x / mesh for x in cartesian(address)]
     d = [[0.0] * 3 for _ in range(3)]
     for n in NEIGHBOURS:
         phase = math.pi * sum(q[i] * n[i] for i in range(3))
@@ -64,45 +64,55 @@ def frequencies(address):
     return [math.sqrt(max(x, 0.0)) / (2.0 * math.pi * THZ) for x in eigenvalues(d)]
 
 
-def main():
-    # For each grid index the addresses that are nearest to the origin, group after group.
+def grid(mesh=MESH):
+    """For each grid index the addresses that are nearest to the origin, group after group; and where each group starts."""
     addresses, starts = [], [0]
-    for r2, r1, r0 in itertools.product(range(MESH), repeat=3):
-        images = [tuple(r - MESH * k for r, k in zip((r0, r1, r2), shift)) for shift in itertools.product((-1, 0, 1, 2), repeat=3)]
+    for r2, r1, r0 in itertools.product(range(mesh), repeat=3):
+        images = [tuple(r - mesh * k for r, k in zip((r0, r1, r2), shift)) for shift in itertools.product((-1, 0, 1, 2), repeat=3)]
         least = min(norm2(cartesian(a)) for a in images)
         addresses += sorted(a for a in images if norm2(cartesian(a)) == least)
         starts.append(len(addresses))
+    return addresses, starts
 
-    # The shortest main diagonal picks the table.
+
+def shortest_diagonal():
+    """The number of the table."""
     lengths = [norm2(cartesian(d)) for d in DIAGONALS]
-    diag = lengths.index(min(lengths))
+    return lengths.index(min(lengths))
 
-    # All triplets of the grid point at index 1: of the images, those whose sum is shortest, the first of them.
+
+def triplets_of(index, addresses, starts, mesh=MESH):
+    """All triplets of the grid point at a grid index: of the images, those whose sum is shortest, the first of them."""
     def group(address):
-        r0, r1, r2 = (x % MESH for x in address)
-        i = (r2 * MESH + r1) * MESH + r0
+        r0, r1, r2 = (x % mesh for x in address)
+        i = (r2 * mesh + r1) * mesh + r0
         return range(starts[i], starts[i + 1])
 
-    first = starts[1]
+    first = starts[index]
     triplets = []
-    for i in range(MESH**3):
+    for i in range(mesh**3):
         second = addresses[starts[i]]
         third = tuple(-a - b for a, b in zip(addresses[first], second))
         triplets.append(min(
             ((first, g1, g2) for g1 in group(second) for g2 in group(third)),
             key=lambda t: (norm2(cartesian([sum(addresses[g][k] for g in t) for k in range(3)])), t)))
+    return triplets
+
+
+def main():
+    addresses, starts = grid()
 
     def hexadecimal(x):
         return struct.pack(">d", x).hex()
 
     bands = [x for a in addresses for x in frequencies(a)]
-    rows = [("grid", 2, MESH, MESH, MESH), ("diag", diag), ("type", 2), ("bands", 3, 3)]
+    rows = [("grid", 2, MESH, MESH, MESH), ("diag", shortest_diagonal()), ("type", 2), ("bands", 3, 3)]
     rows += [("addr",) + a for a in addresses]
     rows += [("map", s) for s in starts]
     rows += [("f1", hexadecimal(x)) for x in bands]
     rows += [("f2", hexadecimal(x)) for x in bands]
     rows += [("point", hexadecimal(x)) for x in POINTS]
-    rows += [("triplet",) + t for t in triplets]
+    rows += [("triplet",) + t for t in triplets_of(1, addresses, starts)]
     sys.stdout.write("".join("\t".join(map(str, r)) + "\n" for r in rows))
 
 

@@ -1,5 +1,5 @@
-//! The questions of document 01, and of request 2 that of the worker, written from their text: each call's own, in the order in which they
-//! are asked. Nothing here is shared with the proved side or with the Rust.
+//! The questions of document 01, of request 2 that of the worker, and those of request 4's open count, written from their text: each call's
+//! own, in the order in which they are asked. Nothing here is shared with the proved side or with the Rust.
 use crate::calls::GridPoints;
 use crate::study::{Grid, Study};
 
@@ -311,11 +311,13 @@ pub fn tally(counts: &[u64; 16], worker: i64, runs: u64) -> u64 {
     ])
 }
 
-pub fn open_count(counts_of: [i64; 4], flags: usize, triplet: i64) -> u64 {
+pub fn open_count(tp: i64, counts_of: [i64; 4], weights: usize, triplet: i64) -> u64 {
     let [t, x, b1, b2] = counts_of;
+    let room = || long(weights, &[CHANNELS[tp as usize], t, x, b1, b2]);
     first_no(&[
+        (8, &|| known_type(tp)),
         (9, &|| counts(&[b1, b2], x, t)),
-        (12, &|| long(flags, &counts_of)),
+        (12, &room),
         (14, &|| within(triplet, 0, t - 1)),
     ])
 }

@@ -144,7 +144,13 @@ pub fn answer(text: &[u8], out: &mut [u8]) -> usize {
 }
 
 /// Counts: triplets, points, both bands.
-pub fn open_count(counts: [i64; 4], flags: &[i8], triplet: i64, count: &mut u64) -> u64 {
+pub fn open_count(
+    tp: i64,
+    counts: [i64; 4],
+    weights: &[f64],
+    triplet: i64,
+    count: &mut u64,
+) -> u64 {
     let [num_triplets, num_band0, num_band1, num_band2] = counts;
     let counts = c::Counts {
         num_triplets,
@@ -152,7 +158,8 @@ pub fn open_count(counts: [i64; 4], flags: &[i8], triplet: i64, count: &mut u64)
         num_band1,
         num_band2,
     };
-    unsafe { c::pelmetsavory_open_count(counts, flags.as_ptr(), flags.len(), triplet, count) }
+    let w = read(weights);
+    unsafe { c::pelmetsavory_open_count(tp, counts, w.0, w.1, triplet, count) }
 }
 
 pub fn averages(

@@ -1,10 +1,10 @@
-//! Single calls on run sheets, the Rust's weights as the content that is right; the counts of the workers; the open count.
+//! Single calls on run sheets, the Rust's weights as the content that is right; the counts of the workers; the open count of request 4.
 use crate::averages::{flag, ids, spoil_ids, spoiled_weight, weight};
 use crate::calls::Parts;
 use crate::lent::{any, same, Lent, Word};
 use crate::report::{Kind, Seen};
 use crate::rng::{Rng, FAR};
-use crate::studies::{self, other_length, spoiled_count, study};
+use crate::studies::{self, other_length, spoiled_count, spoiled_type, study};
 use crate::study::{Sheet, Study};
 use crate::triplets::lengths;
 use crate::{asks, calls};
@@ -12,13 +12,14 @@ use crate::{asks, calls};
 const RUN: &[u64] = &[3, 4, 5, 6, 7, 8, 9, 10, 11, 12, 13, 14, 15, 20, 21];
 const CARRY: &[u64] = &[3, 4, 5, 6, 7, 8, 9, 10, 11, 12, 13, 20, 21];
 const AVERAGE: &[u64] = &[3, 4, 5, 6, 7, 8, 9, 10, 11, 12, 13, 14, 15, 16, 17, 18, 19];
+const OPEN: &[u64] = &[8, 9, 12, 14];
 
 pub const KINDS: [Kind; 5] = [
     Kind::telling("run a piece", RUN, "change a weight"),
     Kind::telling("carry on", CARRY, "change a weight"),
     Kind::telling("average a triplet", AVERAGE, "change a weight"),
     Kind::new("tally", &[20, 21]),
-    Kind::new("open count", &[9, 12, 14]),
+    Kind::telling("open count", OPEN, "have open entries and closed ones"),
 ];
 
 pub fn cases(r: &mut Rng, seen: &mut [Seen]) {
@@ -332,59 +333,142 @@ fn tally(r: &mut Rng, seen: &mut Seen) {
     });
 }
 
-fn open(r: &mut Rng, seen: &mut Seen) {
-    let most = [65536, 1024, 64, 64];
-    let mut counts = [
-        r.between(0, 4),
-        r.between(1, 4),
-        r.between(1, 3),
-        r.between(1, 3),
-    ];
-    if r.one_in(200) {
-        counts = [r.between(0, 1), r.pick(&[1024, 1]), r.pick(&[64, 1]), 1];
+/// A call for an open count; counts: triplets, points, both bands.
+struct OpenCall {
+    tp: i64,
+    counts: [i64; 4],
+    triplet: i64,
+}
+
+const MOST: [i64; 4] = [65536, 1024, 64, 64];
+/// No right sheet of a case has more weights.
+const ROOM: i64 = 3 << 16;
+
+/// Counts mostly few, now and then more than a byte counts, or the most.
+fn open_call(r: &mut Rng) -> OpenCall {
+    let counts = match r.below(100) {
+        0 => r.pick(&[
+            [65536, 1, 1, 1],
+            [1, 1024, 64, 1],
+            [1, 1024, 1, 64],
+            [16, 1, 64, 64],
+            [0, 1024, 64, 64],
+        ]),
+        1..=3 => [r.between(1, 2), r.between(20, 40), 4, 4],
+        _ => [
+            r.pick(&[0, 1, 1, 2, 2, 3, 3, 4]),
+            r.between(1, 4),
+            r.between(1, 3),
+            r.between(1, 3),
+        ],
+    };
+    OpenCall {
+        tp: r.between(2, 4),
+        counts,
+        triplet: r.between(0, (counts[0] - 1).max(0)),
     }
-    let mut t = named(r, counts[0]);
+}
+
+/// One count that is none; or two, whose product can be 0 or the right one in 64 bits.
+fn spoil_counts(r: &mut Rng, counts: &mut [i64; 4]) {
+    let k = r.below(4);
+    let other = (k + 1 + r.below(3)) % 4;
+    match r.below(5) {
+        0 => [k, other].iter().for_each(|k| counts[*k] = 1 << 32),
+        1 => [k, other]
+            .iter()
+            .for_each(|k| counts[*k] = counts[*k].wrapping_neg()),
+        _ if k == 0 => counts[0] = r.pick(&[-1, 65537, FAR[0], FAR[1]]),
+        _ => counts[k] = spoiled_count(r, MOST[k]),
+    }
+}
+
+/// The length of so many outputs, as numbers of 64 bits have it; a short one where that is no length or too long.
+fn length(outputs: i64, counts: &[i64; 4]) -> usize {
+    let product = counts.iter().fold(outputs, |n, c| n.wrapping_mul(*c));
+    if (0..=ROOM).contains(&product) {
+        product as usize
+    } else {
+        (outputs * counts[3].clamp(0, 64)) as usize
+    }
+}
+
+/// A zero of either sign; one in `odds` is something else, of either sign too.
+fn stored(r: &mut Rng, odds: usize) -> f64 {
+    let magnitude = match r.below(6 * odds) {
+        // NaNs with payloads, quiet and signalling
+        0 => 0x7ff0_0000_0000_0001 | r.next() >> 12,
+        1 => f64::INFINITY.to_bits(),
+        // below the least normal number
+        2 => 1 << r.below(52),
+        3 => r.pick(&[1, f64::MIN_POSITIVE.to_bits(), f64::MAX.to_bits()]),
+        4 => r.next() >> 1,
+        5 => (r.unit() + 1e-3).to_bits(),
+        _ => 0,
+    };
+    f64::from_bits(magnitude | r.next() << 63)
+}
+
+/// The weights of a sheet, one output after another, each with its own part of zeros.
+fn stored_weights(r: &mut Rng, outputs: usize, length: usize) -> Vec<f64> {
+    let odds: Vec<usize> = (0..outputs)
+        .map(|_| r.pick(&[1, 2, 4, 8, 30, 1000]))
+        .collect();
+    let each = length.div_ceil(outputs).max(1);
+    (0..length).map(|k| stored(r, odds[k / each])).collect()
+}
+
+fn open(r: &mut Rng, seen: &mut Seen) {
+    let mut c = open_call(r);
+    let outputs = asks::CHANNELS[c.tp as usize];
     let mut wrong = false;
-    for k in r.faults(3) {
+    for k in r.faults(4) {
         match k {
-            0 => {
-                let k = r.below(4);
-                counts[k] = if k == 0 {
-                    r.pick(&[-1, 65537, FAR[0], FAR[1]])
-                } else {
-                    spoiled_count(r, most[k])
-                };
-            }
-            1 => wrong = true,
-            _ => t = unnamed(r, counts[0]),
+            0 => c.tp = spoiled_type(r),
+            1 => spoil_counts(r, &mut c.counts),
+            2 => wrong = true,
+            _ if r.one_in(4) => c.triplet = c.triplet.wrapping_add(1 << 32),
+            _ => c.triplet = unnamed(r, c.counts[0]),
         }
     }
-    let right = (0..4)
-        .map(|k| counts[k].clamp(0, most[k]) as usize)
-        .product::<usize>()
-        .min(1 << 17);
-    let length = if wrong { other_length(r, right) } else { right };
-    let flags: Vec<i8> = (0..length).map(|_| flag(r)).collect();
-    let no = asks::open_count(counts, length, t);
+    let mut long = length(outputs, &c.counts);
+    if wrong {
+        // that of another type, or any other
+        let other = length(outputs % 3 + 1, &c.counts);
+        long = if r.one_in(3) && other != long {
+            other
+        } else {
+            other_length(r, long)
+        };
+    }
+    let weights = stored_weights(r, outputs as usize, long);
+    let (tp, counts, triplet) = (c.tp, c.counts, c.triplet);
+    let no = asks::open_count(tp, counts, long, triplet);
     let before = u64::any(r);
-    let want = if no == 0 {
-        zeros(&flags, counts, t)
-    } else {
-        before
-    };
-    let mut got = before;
-    let answer = calls::open_count(counts, &flags, t, &mut got);
-    let right = answer == no && got == want;
+    let mut want = before;
+    if no == 0 {
+        want = open_entries(outputs as usize, counts, &weights, triplet);
+        let [_, points, b1, b2] = counts;
+        seen.tell(want > 0 && want < (points * b1 * b2) as u64);
+    }
+    let (mut lent, mut count) = (Lent::new(r, &weights), Lent::new(r, &[before]));
+    let behind = &mut count.lend()[0];
+    let answer = calls::open_count(tp, counts, lent.lend(), triplet, behind);
+    let got = *behind;
+    let right = answer == no && count.holds(&[want]) && lent.holds(&weights);
     seen.note(no, right, || {
-        format!("{answer}, {got} for {want}, {counts:?}, {t}, {flags:?}")
+        format!("{answer}, {got} for {want}, type {tp}, {counts:?}, {triplet}, {weights:?}")
     });
 }
 
-/// The flags 0 of a triplet.
-fn zeros(flags: &[i8], counts: [i64; 4], t: i64) -> u64 {
-    let each = (counts[1] * counts[2] * counts[3]) as usize;
-    flags[t as usize * each..][..each]
-        .iter()
-        .filter(|f| **f == 0)
-        .count() as u64
+/// The entries of a triplet with a weight other than zero, in whichever outputs; weights lie by output, triplet, entry.
+fn open_entries(outputs: usize, counts: [i64; 4], weights: &[f64], t: i64) -> u64 {
+    let [all, points, b1, b2] = counts.map(|n| n as usize);
+    let (each, t) = (points * b1 * b2, t as usize);
+    let mut open = 0;
+    for k in 0..each {
+        let some = (0..outputs).filter(|o| weights[(o * all + t) * each + k] != 0.0);
+        open += some.count().min(1) as u64;
+    }
+    open
 }

@@ -7,7 +7,7 @@ LIBRARY is libpelmetsavory.so. First the stored lists and open counts of sheet_c
 seconds). After each call the answer, the sixteen counts and every byte of weights, flags and marks are compared with the model's program, a
 NaN's payload too. Each list is also played by one call: from marks all 0 it is compared with the model's book, from others with its program.
 Every second random list is played with other workers too: unless an answer is 20 or 21, it must end in the same weights, flags, marks and
-answers.
+answers. Of the sheet in which a random list ends, the open counts of all triplets are asked.
 """
 import ctypes
 import os
@@ -27,7 +27,7 @@ from vectors_sheet import encoded, number_of
 NUMBERS = {"weights": ctypes.c_uint64, "flags": ctypes.c_int8, "marks": ctypes.c_uint8}
 # So many differences of a kind are told.
 TOLD = 20
-# What a place for an answer holds before a list is played.
+# What a place for an answer holds before a list is played, and a count's before it is asked.
 UNTOUCHED = 99
 # Wrong lengths of a list that is played: how many numbers, answers and counts more than there should be.
 WRONG = ((0, 1, 16), (0, 0, 1), (0, 0, -1), (1, 0, 0), (-1, 0, 0), (0, 1, 0), (0, -1, -16), (0, 0, 16))
@@ -119,7 +119,8 @@ class Kind:
 class Comparison:
     def __init__(self, path):
         self.library = Library(path)
-        self.kinds = {n: Kind(n) for n in ("stored call lists", "call lists", "played lists", "lists with other workers", "open counts")}
+        self.kinds = {n: Kind(n) for n in ("stored call lists", "call lists", "played lists", "lists with other workers",
+                                           "stored open counts", "open counts")}
 
     def compare(self, name, s, start, made, steps):
         """A list of calls; steps: the model's answers and sheets."""
@@ -162,16 +163,25 @@ class Comparison:
             steps = [(x["answer"], m.Sheet(x["weights"], x["flags"], x["marks"], x["tally"])) for x in c["steps"]]
             self.compare("stored call lists", m.Study(**c["study"]), m.Sheet(**c["start"]), c["calls"], steps)
 
-    def open_counts(self):
-        kind = self.kinds["open counts"]
+    def open_count(self, name, type, counts, weights, triplet, answer):
+        """The weights go in as patterns; they and, where the call is refused, the count must stay."""
+        kind, want = self.kinds[name], number_of(answer)
+        kind.cases += 1
+        b1, b2, points, triplets = counts
+        given, count = patterns(weights), ctypes.c_uint64(UNTOUCHED)
+        number = self.library.open_count(type, entries.Counts(triplets, points, b1, b2), *lent(given), triplet, ctypes.byref(count))
+        told = number, count.value
+        kind.count("open count", want, told == (want, UNTOUCHED if want else answer[1]) and list(given) == list(weights))
+
+    def stored_open_counts(self):
         for c in sheet_cases.open_count_cases():
-            kind.cases += 1
-            b1, b2, points, triplets = c["counts"]
-            count = ctypes.c_uint64(0)
-            number = self.library.open_count(entries.Counts(triplets, points, b1, b2), *lent(array(ctypes.c_int8, c["flags"])), c["triplet"],
-                                             ctypes.byref(count))
-            want = number_of(c["answer"])
-            kind.count("open count", want, (number, count.value) == (want, 0 if want else c["answer"][1]))
+            self.open_count("stored open counts", c["type"], c["counts"], c["weights"], c["triplet"], c["answer"])
+
+    def open_counts_of(self, s, sheet):
+        """Of each triplet, of what would stand before the first and behind the last."""
+        given = s.type, (*s.bands, s.f, s.t), sheet.weights
+        for t in range(-1, s.t + 1):
+            self.open_count("open counts", *given, t, m.open_count(*given, t))
 
     def drawn(self, limit, seed):
         rng, kind, begun = random.Random(seed), self.kinds["call lists"], time.time()
@@ -183,7 +193,9 @@ class Comparison:
                 s = r.spoil_study(rng, s)
             elif rng.random() < 0.1:
                 r.spoil_lengths(rng, start)
-            self.compare("call lists", s, start, made, m.program(s, start, made))
+            steps = m.program(s, start, made)
+            self.compare("call lists", s, start, made, steps)
+            self.open_counts_of(s, steps[-1][1])
             if kind.cases % 2 == 0:
                 self.swap(s, start, made, r.with_other_workers(rng, made))
 
@@ -196,7 +208,7 @@ class Comparison:
                 seen[key] = seen.get(key, 0) + times
         print(m.answer_table({(call, n or "done"): times for (call, n), times in seen.items()}))
         print("sheets: %d NaNs compared by their bits" % sum(k.nans for k in self.kinds.values()))
-        asked = {**m.ASKED, "open count": (9, 12, 14), "list": (12,), "list with other workers": ()}
+        asked = {**m.ASKED, "open count": (8, 9, 12, 14), "list": (12,), "list with other workers": ()}
         missing = [(call, n) for call, numbers in asked.items() for n in (0, *numbers) if (call, n) not in seen]
         if missing:
             print("never seen:", missing)
@@ -208,7 +220,7 @@ def main():
     seed = int(sys.argv[3]) if len(sys.argv) > 3 else sheet_cases.SEED
     print("sheets: seed", seed)
     comparison.stored()
-    comparison.open_counts()
+    comparison.stored_open_counts()
     comparison.drawn(sys.argv[2] if len(sys.argv) > 2 else "2000", seed)
     return 0 if comparison.show() else 1
 

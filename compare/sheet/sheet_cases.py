@@ -16,8 +16,9 @@ cases(seed) yields dicts:
     steps       for each call: answer ("done",) or ("refused", number), and the
                 whole weights, flags, marks and the tally afterwards
     shows       for each call: the numbers of all questions known to say "no"
-open_count_cases(seed) yields dicts: counts (b1, b2, points, triplets), flags,
-triplet, answer ("done", number) or ("refused", number).
+open_count_cases(seed) yields dicts: type, counts (b1, b2, points, triplets), weights
+(patterns), triplet, answer ("done", number) or ("refused", number), and shows: the
+numbers that were planted.
 """
 import random
 import sys
@@ -826,28 +827,147 @@ def cases(seed=SEED):
             number += 1
 
 
+# ---------------------------------------------------------------- open counts
+
+OUTPUTS = {2: 2, 3: 3, 4: 1}
+# Two that are zero; then all that is not: NaNs quiet and signalling, of both signs, infinities,
+# the least and the greatest subnormals, the least normal, the greatest and other numbers.
+ZEROS = (0, SIGN)
+OTHERS = (0x7FF8000000000000, 0xFFF8000000000000, 0x7FF8000000000BAD, 0xFFFFFFFFFFFFFFFF,
+          0x7FF0000000000001, 0xFFF0000000000001, 0x7FF4DEADBEEF0123, 0xFFF7FFFFFFFFFFFF,
+          0x7FF << 52, 0xFFF << 52, 1, SIGN | 1, (1 << 52) - 1, SIGN | (1 << 52) - 1, 1 << 52,
+          SIGN | 1 << 52, 0x7FEFFFFFFFFFFFFF, bits(1.0), bits(-2.5), bits(1e-17))
+# The most weights of a case.
+MANY = 256
+
+
+def open_count_case(type, counts, weights, triplet, no=(), count=None):
+    """no: the numbers planted by the maker; count: the answer where he knows it."""
+    answer = m.open_count(type, counts, weights, triplet)
+    if no:
+        assert answer == ("refused", no[0]), (type, counts, triplet, no, answer)
+    else:
+        assert answer[0] == "done" and count in (None, answer[1]), (type, counts, triplet, answer)
+    return {"type": type, "counts": tuple(counts), "weights": list(weights), "triplet": triplet,
+            "answer": answer, "shows": list(no)}
+
+
+def by_entries(rng, type, triplets):
+    """The weights of a sheet. triplets: of each its entries, of each entry the weights
+    of its outputs, None for a zero of either sign."""
+    return [rng.choice(ZEROS) if entry[o] is None else entry[o]
+            for o in range(OUTPUTS[type]) for entries in triplets for entry in entries]
+
+
+def right_counts(rng):
+    """Accepted calls."""
+    def other():
+        return rng.choice(OTHERS)
+
+    for type, outputs in OUTPUTS.items():
+        closed, every = [None] * outputs, list(range(outputs))
+
+        def entry(*places):
+            return [other() if o in places else None for o in every]
+
+        # One entry and one pattern, in each output by turns; open triplets on both sides.
+        for k, b in enumerate(ZEROS + OTHERS):
+            if k % 3 == type % 3 or b in ZEROS:
+                one = list(closed)
+                one[k // 3 % outputs] = b
+                sheet = by_entries(rng, type, [[entry(*every)], [one], [entry(*every)]])
+                yield open_count_case(type, (1, 1, 1, 3), sheet, 1, count=int(b not in ZEROS))
+        # An entry for each choice of outputs; triplets that are closed and open beside it.
+        choices = [entry(*(o for o in every if k >> o & 1)) for k in range(1 << outputs)]
+        for bands, points in (((1, 1), 1 << outputs), ((2, 1 << outputs - 1), 1)):
+            rng.shuffle(choices)
+            sheet = by_entries(rng, type, [[closed] * len(choices), choices,
+                                           [entry(*every) for _ in choices]])
+            for t, count in enumerate((0, len(choices) - 1, len(choices))):
+                yield open_count_case(type, (*bands, points, 3), sheet, t, count=count)
+        # Any content, mostly zeros.
+        for bands, points, triplets in (((1, 3), 2, 2), ((2, 1), 3, 3), ((3, 2), 2, 1)):
+            sheet = [other() if rng.random() < 0.25 else rng.choice(ZEROS)
+                     for _ in range(outputs * triplets * points * bands[0] * bands[1])]
+            for t in range(triplets):
+                yield open_count_case(type, (*bands, points, triplets), sheet, t)
+    # The most bands, and so many entries that a byte does not count them.
+    for type, counts in ((3, (64, 1, 1, 1)), (2, (1, 64, 2, 1)), (4, (2, 2, 64, 1)), (4, (1, 1, 1, 256))):
+        n = counts[0] * counts[1] * counts[2]
+        some = [[other() if type == 4 or rng.random() < 0.3 else None for _ in range(OUTPUTS[type])]
+                for _ in range(n * counts[3])]
+        sheet = by_entries(rng, type, [some])
+        yield open_count_case(type, counts, sheet, counts[3] - 1,
+                              count=sum(1 for x in some[-n:] if any(b is not None for b in x)))
+
+
+# A small sheet: bands 2,1, one point, two triplets.
+SMALL = (2, 1, 1, 2)
+BAD_COUNTS = (
+    (0, 1, 1, 2), (2, 0, 1, 2), (-1, 1, 1, 2), (2, -1, 1, 2), (-2, -1, 1, 2), (65, 1, 1, 1),
+    (1, 65, 1, 1), (FAR, 1, 1, 2), (2, DEEP, 1, 2), (WIDE + 2, 1, 1, 2), (2, WIDE + 1, 1, 2),
+    (2, 1, 0, 2), (2, 1, -1, 2), (2, 1, 1025, 2), (2, 1, FAR, 2), (2, 1, DEEP, 2),
+    (2, 1, WIDE + 1, 2), (2, 1, 1, -1), (2, 1, 1, -2), (2, 1, 1, 65537), (2, 1, 1, FAR),
+    (2, 1, 1, DEEP), (2, 1, 1, WIDE + 2), (65, 1, 1, 0), (2, 0, 1, 0), (2, 1, 1025, 0),
+    # Products that do not fit 64 bits: 0, or a length, in the lowest of them.
+    (WIDE, WIDE, 1, 2), (2, 1, WIDE, WIDE), (1 << 16, 1 << 16, 1 << 16, 1 << 16),
+    ((1 << 62) + 1, 4, 1, 1), (2, 1, 1 << 61, 8), (2, -1, -1, 2), (-2, 1, 1, -2),
+    (FAR, FAR, FAR, FAR), (DEEP, DEEP, DEEP, DEEP), (DEEP, FAR, 1, 2), (0, 0, 0, 0))
+
+
+def planted(type, sheet):
+    """Changes of a right call on the small sheet, by the number that each plants."""
+    n = len(sheet)
+    lengths = sorted({0, n - 1, n + 1, 2 * n, *(4 * o for o in OUTPUTS.values())} - {n})
+    return {
+        8: [{"type": x} for x in (0, 1, 5, 6, -2, -3, -4, 256 + type, WIDE + type, FAR, DEEP)],
+        9: [{"counts": x} for x in BAD_COUNTS],
+        12: [{"weights": (sheet * 3)[:x]} for x in lengths]
+            + [{"counts": x} for x in ((2, 1, 1, 1), (2, 1, 1, 3), (2, 1, 2, 2), (1, 1, 1, 2),
+                                       (2, 2, 1, 2), (2, 1, 1, 0), (2, 1, 1, 65536),
+                                       (2, 1, 1024, 2), (64, 64, 1, 2), (64, 64, 1024, 65536))],
+        14: [{"triplet": x} for x in (-1, 2, 3, 4, 256, WIDE, WIDE + 1, FAR, DEEP, DEEP + 1)]
+            + [{"counts": (64, 64, 1024, 0), "weights": []}],
+    }
+
+
+def at_once(rng, lists):
+    """One change of each list, no two of the same field."""
+    while True:
+        chosen = [rng.choice(changes) for changes in lists]
+        together = {k: v for change in chosen for k, v in change.items()}
+        if len(together) == sum(map(len, chosen)):
+            return together
+
+
+def wrong_counts(rng):
+    """Refused calls: each fault alone, then two, three and four at once."""
+    for type, outputs in OUTPUTS.items():
+        sheet = [rng.choice(ZEROS + OTHERS) for _ in range(4 * outputs)]
+        right = {"type": type, "counts": SMALL, "weights": sheet, "triplet": 1}
+        faults = planted(type, sheet)
+        for n, changes in faults.items():
+            for change in changes:
+                yield open_count_case(**{**right, **change}, no=(n,))
+        # Bad counts with the length that a product in 64 bits would want.
+        for counts in BAD_COUNTS:
+            length = outputs
+            for c in counts:
+                length = length * c % (1 << 64)
+            if length <= MANY and length != len(sheet):
+                weights = [rng.choice(ZEROS) for _ in range(length)]
+                yield open_count_case(type, counts, weights, 0, no=(9,))
+        for noes in range(3, 16):
+            no = [n for i, n in enumerate(faults) if noes >> i & 1]
+            for _ in range((0, 0, 3, 1, 1)[len(no)]):
+                call = {**right, **at_once(rng, [faults[n] for n in no])}
+                yield open_count_case(**call, no=no)
+
+
 def open_count_cases(seed=SEED):
     rng = random.Random(seed + 1)
-    for bands, points, triplets in (((1, 1), 1, 1), ((2, 1), 2, 3), ((3, 3), 1, 2), ((1, 2), 3, 0)):
-        flags = [rng.choice((0, 0, 1, -1, 2, 127, -128)) for _ in range(
-            bands[0] * bands[1] * points * triplets)]
-        tries = [(bands, points, triplets, flags, t) for t in
-                 list(range(triplets)) + [-1, triplets, FAR, DEEP, WIDE]]
-        for bad in ((0, 1), (1, 0), (-1, -1), (65, 1), (1, 65), (FAR, 1), (1, DEEP)):
-            tries.append((bad, points, triplets, flags, 0))
-        for p in (0, -1, 1025, FAR, DEEP):
-            tries.append((bands, p, triplets, flags, 0))
-        for t in (-1, 65537, FAR, DEEP):
-            tries.append((bands, points, t, flags, 0))
-        tries += [(bands, points, triplets, flags + [0], 0), (bands, points, triplets + 1, flags, 0),
-                  (bands, points, 65536, flags, 0), (bands, 1024, triplets + 1, flags, -1),
-                  ((64, 64), points, triplets + 1, flags, 0)]
-        if flags:
-            tries += [(bands, points, triplets, flags[:-1], triplets), (bands, points, triplets, [], 0)]
-        for b, p, t, z, named in tries:
-            counts = (b[0], b[1], p, t)
-            yield {"counts": counts, "flags": list(z), "triplet": named,
-                   "answer": m.open_count(counts, z, named)}
+    yield from right_counts(rng)
+    yield from wrong_counts(rng)
 
 
 def main():
@@ -885,15 +1005,18 @@ def main():
     missing = [(kind, i, j) for kind, asked in m.ASKED.items() for x, i in enumerate(asked)
                for j in asked[x + 1:] if (kind, i, j) not in pairs]
     print("not shown: " + (" ".join("%s:%d,%d" % x for x in missing) or "none"))
-    counts = {}
+    counts, both = {}, {}
     for c in open_count_cases(seed):
-        a = c["answer"]
+        a, no = c["answer"], c["shows"]
         key = a[1] if a[0] == "refused" else "done"
         counts[key] = counts.get(key, 0) + 1
+        for other in no[1:]:
+            both[no[0], other] = both.get((no[0], other), 0) + 1
     gaps = [(kind, n) for kind, asked in m.ASKED.items() for n in ("done",) + asked
             if (kind, n) not in seen]
     assert not gaps, gaps
-    print("open count: " + ", ".join("%s %d" % (k, counts[k]) for k in sorted(counts, key=str)))
+    print("open count: " + ", ".join("%s %d" % (k, n) for k, n in counts.items()))
+    print("two at once: " + " ".join("%d,%d:%d" % (*k, n) for k, n in sorted(both.items())))
 
 
 if __name__ == "__main__":

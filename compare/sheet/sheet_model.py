@@ -1,6 +1,6 @@
 #!/usr/bin/env python3
 """Reference model of the run sheet and of the book (document 01, sixteen workers
-as in request 2).
+as in request 2, the open count as in request 4).
 
 Standard library only. Floats cross every interface as 64-bit patterns (ints),
 so a NaN's payload, -0.0 and infinities survive where nothing is written.
@@ -595,18 +595,26 @@ def program(s, start, calls):
     return out
 
 
-def open_count(counts, flags, t):
-    """counts: b1, b2, points, triplets, any whole numbers. Questions 9, 12, 14;
-    ("done", number of the triplet's flags 0)."""
+def open_count(type, counts, weights, t):
+    """counts: b1, b2, points, triplets; these and the type any whole numbers.
+    Questions 8, 9, 12, 14; ("done", number of the triplet's entries with a weight
+    other than 0, of all outputs of the type)."""
     b1, b2, points, triplets = counts
+    block = points * b1 * b2
+    outputs = {2: 2, 3: 3, 4: 1}.get(type)
+    if outputs is None:
+        return ("refused", 8)
     if not (1 <= b1 <= 64 and 1 <= b2 <= 64 and 1 <= points <= 1024 and 0 <= triplets <= 65536):
         return ("refused", 9)
-    block = points * b1 * b2
-    if len(flags) != triplets * block:
+    if len(weights) != outputs * triplets * block:
         return ("refused", 12)
     if not 0 <= t < triplets:
         return ("refused", 14)
-    return ("done", sum(1 for x in flags[t * block:(t + 1) * block] if x == 0))
+    count = 0
+    for i in range(block):
+        entry = [weights[(o * triplets + t) * block + i] for o in range(outputs)]
+        count += any(b & ~SIGN != 0 for b in entry)
+    return ("done", count)
 
 
 # ---------------------------------------------------------------- (b) the book

@@ -10,7 +10,7 @@ import sys
 from sheet_model import (
     SIGN, WORKERS, Sheet, Study, answer_table, average_flags, average_weights, bits, blocks_of,
     book, built_in, check_step, div, do, grid_index, neighbour, open_count, piece, power, program,
-    sort_omegas, swap_law, value, weight, within)
+    sort_omegas, swap_law, value, weight, weight_place, within)
 
 INFINITY = 0x7FF << 52
 
@@ -331,6 +331,45 @@ def workers_to_check(s, sheet):
     assert after(full, 1, ("average", 0, (0,), (0,))) == ([0], full)
 
 
+def open_counts_to_check(s, sheet):
+    """Request 4; the study is the document's example: its first point is the top of
+    a box, with flag 0 and weights 0."""
+    now = Sheet([INFINITY] * 4, sheet.flags, [0], sheet.tally)
+    assert open_count(2, (1, 1, 2, 1), now.weights, 0) == ("done", 2)
+    assert do(s, now, ("run", 0, 0, 0, 0)) == ("done",) and now.flags == [0, 1]
+    assert open_count(2, (1, 1, 2, 1), now.weights, 0) == ("done", 0)
+    # Each pattern alone in each output of the second of three entries.
+    for type, outputs in ((2, 2), (3, 3), (4, 1)):
+        for b in STRANGE:
+            for o in range(outputs):
+                weights = [SIGN, 0, SIGN] * outputs
+                weights[3 * o + 1] = b
+                assert open_count(type, (3, 1, 1, 1), weights, 0) == ("done", int(b not in (0, SIGN)))
+    # Two triplets of two entries, the second closed, the first open in all three outputs
+    # and in the last two; the same weights by other counts.
+    nan, one = SIGN | INFINITY | 1, bits(1.0)
+    weights = [nan, 0, 0, SIGN, one, SIGN, one, 0, one, 0, nan, SIGN]
+    assert open_count(3, (1, 2, 1, 2), weights, 0) == ("done", 1)
+    assert open_count(3, (2, 1, 1, 2), weights, 1) == ("done", 1)
+    assert open_count(2, (1, 1, 3, 2), weights, 0) == ("done", 2)
+    assert open_count(2, (1, 1, 3, 2), weights, 1) == ("done", 1)
+    assert open_count(4, (3, 2, 1, 2), weights, 1) == ("done", 3)
+    # 8, 9, 12, 14.
+    right = (3, (1, 2, 1, 2), weights, 1)
+    wrong = {8: 5, 9: (1, 2, 0, 2), 12: weights[1:], 14: 2}
+    for noes in range(1, 16):
+        asked = [n for i, n in enumerate(wrong) if noes >> i & 1]
+        call = [wrong[n] if n in asked else x for n, x in zip(wrong, right)]
+        assert open_count(*call) == ("refused", asked[0])
+    for type in (1, 5, -2, 1 << 32 | 2):
+        assert open_count(type, (1, 1, 1, 0), [], 0) == ("refused", 8)
+    for counts in ((1, 1, 1, -1), (1, 1, 1, 65537), (65, 1, 1, 0), (1, 65, 1, 0), (1, 1, 1025, 0),
+                   (1 << 32, 1 << 32, 1, 0), (-1, -1, 1, 0)):
+        assert open_count(2, counts, [], 0) == ("refused", 9)
+    assert open_count(2, (64, 64, 1024, 65536), [], 65536) == ("refused", 12)
+    assert open_count(2, (64, 64, 1024, 0), [], 0) == ("refused", 14)
+
+
 def points_to_check():
     """The points of document 01 that concern this model."""
     def same(four, omega):
@@ -388,26 +427,31 @@ def points_to_check():
         big = s.but(points=[one] * count)
         assert do(big, sheet.copy(), carry_on) == ("refused", want)
     workers_to_check(s, sheet)
-    # Open count.
-    assert open_count((1, 2, 2, 2), [0, 1, 0, -1, 2, 0, 0, 0], 0) == ("done", 2)
-    assert open_count((1, 2, 2, 2), [0, 1, 0, -1, 2, 0, 0, 0], 1) == ("done", 3)
-    assert open_count((1, 2, 2, 2), [0] * 8, 2) == ("refused", 14)
-    assert open_count((1, 2, 2, 2), [0] * 7, 2) == ("refused", 12)
-    assert open_count((1, 2, 0, 2), [0] * 7, 2) == ("refused", 9)
-    assert open_count((1, 2, 2, -1), [], 0) == ("refused", 9)
+    open_counts_to_check(s, sheet)
     # Division.
     assert div(1.0, 0.0) == math.inf and div(-1.0, 0.0) == -math.inf
     assert div(1.0, -0.0) == -math.inf and div(0.0, 0.0) != div(0.0, 0.0)
 
 
+def check_open_counts(s, sheet):
+    """The open count of each triplet against its entries, named by their places and
+    compared as floats. How many there are."""
+    for t in range(s.t):
+        entries = {(p, b1, b2) for p in range(s.f) for b1 in range(s.bands[0])
+                   for b2 in range(s.bands[1]) for c in range(s.channels)
+                   if value(sheet.weights[weight_place(s, c, t, p, b1, b2)]) != 0.0}
+        assert open_count(s.type, (*s.bands, s.f, s.t), sheet.weights, t) == ("done", len(entries))
+    return s.t
+
+
 def self_test(count, seed):
     """Program against book (marks all 0 at the start), program against the patch
-    of each call (any marks at the start), and lists with their workers swapped
-    (any marks at the start)."""
+    of each call (any marks at the start), lists with their workers swapped (any
+    marks at the start), and the open counts of the sheets in which these end."""
     points_to_check()
     rng = random.Random(seed)
     seen = {}
-    calls_made = patches = lists = swaps = 0
+    calls_made = patches = lists = swaps = counts = 0
     while lists < count:
         s = random_study(rng)
         how = rng.random()
@@ -428,6 +472,8 @@ def self_test(count, seed):
                 before = sheet
                 key = (call[0],) + ((answer[1],) if answer[0] == "refused" else ("done",))
                 seen[key] = seen.get(key, 0) + 1
+            if how > 0.3:
+                counts += check_open_counts(s, before)
             calls_made += len(calls)
             lists += 1
             swaps += swap_law(study, start, calls, with_other_workers(rng, calls))
@@ -443,13 +489,15 @@ def self_test(count, seed):
             patches += 1
             key = (call[0],) + ((answer[1],) if answer[0] == "refused" else ("done",))
             seen[key] = seen.get(key, 0) + 1
-    return lists, calls_made, patches, swaps, seen
+        counts += check_open_counts(s, before)
+    return lists, calls_made, patches, swaps, counts, seen
 
 
 if __name__ == "__main__":
     want = int(sys.argv[1]) if len(sys.argv) > 1 else 3000
-    lists, made, patches, swaps, seen = self_test(want, int(sys.argv[2]) if len(sys.argv) > 2 else 1)
+    lists, made, patches, swaps, counts, seen = self_test(want, int(sys.argv[2]) if len(sys.argv) > 2 else 1)
     print("%d lists, %d calls: program and book agree; %d calls on any marks agree with their patch"
           % (lists, made, patches))
     print("%d lists agree with other workers in all but the counts" % swaps)
+    print("%d open counts agree with the entries" % counts)
     print(answer_table(seen))

@@ -144,10 +144,10 @@ def whole_list(c, seen, extra=0):
 
 def open_count(c, seen):
     b1, b2, points, triplets = c["counts"]
-    assert set(c["flags"]) <= set(FLAGS) and len(c["flags"]) <= ROOM
+    assert len(c["weights"]) <= ROOM
     number = number_of(c["answer"])
     seen[4, number] = seen.get((4, number), 0) + 1
-    return [record(5, line(words((triplets, points, b1, b2)), numbers(c["flags"]),
+    return [record(5, line(words((c["type"], triplets, points, b1, b2)), reals(c["weights"]),
                            [str(c["triplet"]), str(number), "%x" % (c["answer"][1] if number == 0 else 0)]))]
 
 
@@ -189,7 +189,7 @@ def main():
     seen = {}
     data = records.blocks(groups(seed, seen))
     asked = {KINDS[k]: (0,) + v for k, v in m.ASKED.items()}
-    asked[4] = (0, 9, 12, 14)
+    asked[4] = (0, 8, 9, 12, 14)
     asked[5] = (0, 12)
     assert sorted(seen) == sorted((k, n) for k, v in asked.items() for n in v)
     lines = ["%s\t%s\t%d\n" % (NAMES[kind], "refused %d" % number if number else "done", seen[kind, number]) for kind, number in sorted(seen)]

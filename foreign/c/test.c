@@ -45,6 +45,29 @@ static int listed(const pelmetsavory_sheet *s)
     return same;
 }
 
+/* The open count refuses in its order and keeps what is behind `count`; which weights count, and each entry once. */
+static void open_counts(pelmetsavory_counts counts, const double *weights)
+{
+    uint64_t open = 77;
+    pelmetsavory_counts none = counts, far = {65536, 1024, INT64_MAX, INT64_MAX};
+    none.num_band2 = 0;
+    WANT(8, pelmetsavory_open_count(5, none, weights, ENTRIES, 3, &open));
+    WANT(9, pelmetsavory_open_count(3, none, weights, ENTRIES, 3, &open));
+    WANT(9, pelmetsavory_open_count(3, far, weights, ENTRIES, 0, &open)); /* a product that no 64 bits hold */
+    WANT(12, pelmetsavory_open_count(3, counts, weights, ENTRIES - 1, 3, &open));
+    WANT(12, pelmetsavory_open_count(2, counts, weights, ENTRIES, 0, &open)); /* the weights of another type */
+    WANT(12, pelmetsavory_open_count(3, counts, NULL, 0, 0, &open));
+    WANT(14, pelmetsavory_open_count(3, counts, weights, ENTRIES, 3, &open));
+    WANT(14, pelmetsavory_open_count(3, counts, weights, ENTRIES, -1, &open));
+    YES(open == 77);
+    /* two triplets of five entries, two channels: +0 and -0; -0 twice; a NaN; the least number in the second channel; both channels */
+    const pelmetsavory_counts five = {2, 1, 5, 1};
+    double edge[20] = {[5] = 0.0, -0.0, 0.0, 0.0, 2.0, [15] = -0.0, -0.0, 0.0, 5e-324, -1.0};
+    const uint64_t nan = 0xfff0000000000001; memcpy(edge + 7, &nan, 8);
+    WANT(0, pelmetsavory_open_count(2, five, edge, 20, 1, &open)); YES(open == 3);
+    WANT(0, pelmetsavory_open_count(2, five, edge, 20, 0, &open)); YES(open == 0);
+}
+
 static void calls(void)
 {
     y = small_study();
@@ -89,10 +112,9 @@ static void calls(void)
     const pelmetsavory_counts counts = {TRIPLETS, POINTS, BANDS, BANDS};
     uint64_t open = 77;
     name("open");
-    for (int k = 0; k < TRIPLETS; k++) { WANT(0, pelmetsavory_open_count(counts, s.flags, CELLS, k, &open)); number((long long)open); }
+    for (int k = 0; k < TRIPLETS; k++) { KEPT(0, &s, pelmetsavory_sheet_open_count(&y, &s, k, &open)); number((long long)open); }
     end();
-    WANT(14, pelmetsavory_open_count(counts, s.flags, CELLS, 3, &open));
-    WANT(12, pelmetsavory_open_count(counts, NULL, 0, 0, &open));
+    open_counts(counts, s.weights);
     WANT(0, pelmetsavory_sheet_run_piece(&y, &t, 15, piece_at(7)));
     WANT(0, pelmetsavory_sheet_carry_on(&y, &t, 0));
     YES(listed(&t));

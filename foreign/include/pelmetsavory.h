@@ -94,6 +94,13 @@ static inline uint64_t pelmetsavory_sheet_average_triplet(const pelmetsavory_stu
         ids1, ids1_len, ids2, ids2_len);
 }
 
+/* The open count of a triplet, behind `count`: its entries (point, b1, b2) that carry scattering, whatever marks and flags say. */
+static inline uint64_t pelmetsavory_sheet_open_count(const pelmetsavory_study *y, const pelmetsavory_sheet *s, int64_t triplet, uint64_t *count)
+{
+    const pelmetsavory_counts counts = {(int64_t)(y->triplets_len / 3), (int64_t)y->frequency_points_len, y->shape.num_band1, y->shape.num_band2};
+    return pelmetsavory_open_count(y->shape.tp_type, counts, s->weights, s->weights_len, triplet, count);
+}
+
 /* The kinds of a call in a list, the first of its six numbers. Behind it stand worker, triplet, b1, b2 (run), the worker (carry on), or the
  * triplet and the start and end in `ids` of the first id list and of the second (average, and any other kind). What is left of the six is
  * not read. */

@@ -5,7 +5,7 @@
 #include <stdint.h>
 
 /* The interface version that this header was made for: that of the library must be the same (pelmetsavory_ready). */
-#define PELMETSAVORY_INTERFACE_VERSION 4
+#define PELMETSAVORY_INTERFACE_VERSION 5
 
 /* A piece as a caller names it: any numbers. */
 typedef struct {
@@ -25,7 +25,7 @@ typedef struct {
     int64_t d_diag[3]; /* mesh numbers */
 } pelmetsavory_grid;
 
-/* The counts of a sheet, any numbers. */
+/* The counts of a sheet, any numbers: triplets, frequency points, bands of the second point and of the third. */
 typedef struct {
     int64_t num_triplets; /* number of triplets */
     int64_t num_band0; /* number of frequency points */
@@ -213,11 +213,12 @@ uint64_t pelmetsavory_average_triplet(
     const int64_t *degenerate_ids2,
     size_t degenerate_ids2_len);
 
-/* The open count of a triplet, behind `count`. Questions 9, 12, 14. */
+/* The open count of a triplet, behind `count`: its entries (point, b1, b2) with a weight other than zero in some output of the type. Either zero is zero, a NaN is not. Questions 8, 9, 12, 14. */
 uint64_t pelmetsavory_open_count(
+    int64_t tp_type,
     pelmetsavory_counts counts,
-    const int8_t *flags,
-    size_t flags_len,
+    const double *weights,
+    size_t weights_len,
     int64_t triplet,
     uint64_t *count);
 

@@ -3,6 +3,7 @@ import copy
 import ctypes
 import multiprocessing
 import pickle
+import time
 
 import numpy as np
 
@@ -266,7 +267,8 @@ def test_shapes_are_checked_and_never_changed():
         ("ids1", np.zeros((3, 1), int), "(bands,)", lambda x: pm.Sheet(study).average_triplet(0, x, [0, 1, 2])),
         ("ids2", np.zeros((1, 3), int), "(bands,)", lambda x: pm.Sheet(study).play([("average_triplet", 0, [0, 1, 2], x)])),
         ("rows", np.zeros(12, int), "(n, 6)", lambda x: pm.Sheet(study).play_list(x, [])),
-        ("flags", np.zeros(27, np.int8), "(triplets, points, b1, b2)", lambda x: pm.open_count(x, 0)),
+        ("weights", np.zeros(27), "(channels, triplets, points, b1, b2)", lambda x: pm.open_count(2, x, 0)),
+        ("weights", np.zeros((3, 5, 3, 3)), "(channels, triplets, points, b1, b2)", lambda x: pm.open_counts(3, x)),
         ("flags", z[:, :, :2], "(5, 3, 3)", lambda x: pm.average_weights_over_degenerate_sets(w, x, [0, 0, 2], [0, 1, 1], 3)),
         ("weights", w.transpose(1, 0, 2, 3), "(channels, 5, 3, 3)", lambda x: pm.average_weights_over_degenerate_sets(x, z, [0, 0, 2], [0, 1, 1], 3)),
         ("weights", np.zeros(405), "(3, 3, 5, 3, 3)", lambda x: pm.Sheet(study, weights=x)),
@@ -304,9 +306,64 @@ def test_nothing_wraps_and_nothing_is_rounded():
         (TypeError, "", lambda: sheet.run_piece(0, 0.0, 0, 0)),
         (TypeError, "b2", lambda: sheet.play([("run_piece", 0, 0, 0)])),
         (KeyError, "run", lambda: sheet.play([("run",)])),
+        (TypeError, "weights", lambda: pm.open_counts(3, sheet.weights.astype(np.longdouble))),
+        (TypeError, "weights", lambda: pm.open_count(3, np.zeros((3, 3, 5, 3, 3), complex), 0)),
+        (TypeError, "tp_type", lambda: pm.open_counts(3.0, sheet.weights)),
+        (TypeError, "triplet", lambda: sheet.open_count(0.5)),
+        (OverflowError, "triplet", lambda: sheet.open_count(big)),
         (TypeError, "", lambda: pm.answer("text")),
     ):
         raises(error, words, call, sheet)
+
+
+def test_open_counts():
+    new, sheet = pm.Sheet(study), pm.Sheet(study)
+    sheet.carry_on(0)
+    opened = (sheet.weights != 0).any(0)  # by numpy
+    assert new.open_counts().tolist() == [0, 0, 0] and sheet.open_counts().dtype == np.uint64
+    assert sheet.open_counts().tolist() == opened.sum((1, 2, 3)).tolist() == [sheet.open_count(t) for t in range(3)]
+    assert not sheet.flags[opened].any()  # what carries scattering has flag 0, and not the other way round:
+    edge = other(f1=np.ones((12, 1)), f2=np.ones((12, 1)), points=[2.0, 3.0], triplets=[(0, 0, 0)])
+    top = pm.Sheet(edge)
+    top.carry_on(0)
+    assert top.flags.ravel().tolist() == [0, 1] and top.open_counts().tolist() == [0]
+    # either zero is zero; NaNs of any sign and payload, infinities and the least number are not; an entry counts once
+    bits = [0, 1 << 63, 0x7FF8 << 48, 0xFFF0000000000001, 0x7FF0 << 48, 0xFFF0 << 48, 1, (1 << 63) + 1, 0x3FF0 << 48]
+    values = np.array(bits, np.uint64).view(np.float64)
+    for tp_type, channels in (2, 2), (3, 3), (4, 1):
+        for k in range(channels):
+            w = np.zeros((channels, 2, 1, 9, 1))
+            w[k, 1, 0, :, 0] = values
+            w[0, 1, 0, 8, 0] = 1.0
+            for given in (w, w.tolist(), w[..., ::-1], np.asfortranarray(w), w.byteswap().view(w.dtype.newbyteorder())):
+                assert pm.open_counts(tp_type, given).tolist() == [0, 7]
+    held_w = w.tobytes()
+    w.flags.writeable = False
+    assert pm.open_count(4, w, 1) == 7 and w.tobytes() == held_w  # read-only memory will do
+    # the questions in their order, with no triplets too
+    for number, call in (
+        (8, lambda: pm.open_count(5, np.zeros((1, 1, 0, 1, 1)), 7)),
+        (9, lambda: pm.open_count(4, np.zeros((1, 1, 0, 1, 1)), 7)),
+        (9, lambda: pm.open_count(4, np.zeros((1, 1, 1, 65, 1)), 0)),
+        (12, lambda: pm.open_count(3, np.zeros((2, 1, 1, 1, 1)), 7)),
+        (14, lambda: pm.open_count(2, np.zeros((2, 1, 1, 1, 1)), 1)),
+        (14, lambda: sheet.open_count(-1)),
+        (8, lambda: pm.open_counts(1, np.zeros((2, 1, 1, 1, 1)))),
+        (8, lambda: pm.open_counts(1, np.zeros((2, 0, 1, 1, 1)))),
+        (9, lambda: pm.open_counts(2, np.zeros((2, 0, 1, 1, 0)))),
+        (9, lambda: pm.open_counts(2, [])),
+        (12, lambda: pm.open_counts(2, np.zeros((3, 1, 1, 1, 1)))),
+    ):
+        refused(number, call, sheet)
+    assert pm.open_counts(2, np.zeros((2, 0, 1, 1, 1))).shape == (0,)
+    # the study that a sheet was made for
+    changed = pm.Sheet(other())
+    changed.study.tp_type = 2
+    raises(ValueError, ["weights has", "(2, 3, 5, 3, 3)"], changed.open_counts)
+    # one triplet's count reads that triplet: a sheet of 65,536 triplets takes no longer
+    large, small = np.zeros((2, 65536, 4, 3, 3)), np.zeros((2, 1, 4, 3, 3))
+    least = lambda w: min((lambda start: (pm.open_count(2, w, 0), time.perf_counter() - start)[1])(time.perf_counter()) for _ in range(50))
+    assert least(large) < 20 * least(small) + 1e-4
 
 
 def test_a_sheet_s_arrays_must_be_fit_to_be_written():

@@ -13,12 +13,12 @@ use lib.Ieee.{Float}
 use borrow.Author.Tests.{eqb-true}
 use Rattle.list_laws.proofs.BoolLaws.{and-left, and-right}
 use Rattle.question_values.specs.Averages.{areDegenerateIds}
-use Rattle.question_values.specs.Counts.{areCounts}
+use Rattle.question_values.specs.Counts.{areCounts, cellCount}
 use Rattle.question_values.specs.TpTypes.{channelsOf}
 use Rattle.ask.proofs.AskLaws.{all-yes}
 use Rattle.question_values.proofs.AverageLaws.{ids-length}
 use Rattle.question_values.proofs.CountLaws.{bands1-high, points-high}
-use Rattle.averaging.specs.Answers.{flagCount, averagingQuestions, averagingNo}
+use Rattle.averaging.specs.Answers.{averagingQuestions, averagingNo}
 
 -- ---- sizes
 
@@ -41,13 +41,13 @@ accepted iw iwz ids1 ids2 points bands type e =
     let yes-all = all-yes (averagingQuestions iw iwz ids1 ids2 points bands type) (omega arith, (omega arith, (omega arith, (omega arith, (omega arith, tt))))) e in
     let lengths = yes-all .1 .1 .0 in
     let ids = yes-all .1 .1 .1 .0 in
-    let weights-there = eqb (length iw) (channelsOf type * flagCount points bands) in
-    let flags-there = eqb (length iwz) (flagCount points bands) in
+    let weights-there = eqb (length iw) (channelsOf type * cellCount points bands bands) in
+    let flags-there = eqb (length iwz) (cellCount points bands bands) in
     record {
       counts = counts-le points bands (yes-all .1 .0);
-      weights = eqb-true (length iw) (channelsOf type * flagCount points bands) (and-left weights-there flags-there lengths)
+      weights = eqb-true (length iw) (channelsOf type * cellCount points bands bands) (and-left weights-there flags-there lengths)
           ∙ sym (mul-assoc (channelsOf type) (mag points) (mag bands * mag bands));
-      flags = eqb-true (length iwz) (flagCount points bands) (and-right weights-there flags-there lengths);
+      flags = eqb-true (length iwz) (cellCount points bands bands) (and-right weights-there flags-there lengths);
       rows = ids-length (mag bands) ids1 (and-left (areDegenerateIds (mag bands) ids1) (areDegenerateIds (mag bands) ids2) ids);
       columns = ids-length (mag bands) ids2 (and-right (areDegenerateIds (mag bands) ids1) (areDegenerateIds (mag bands) ids2) ids);
     }

@@ -12,21 +12,17 @@ use Rattle.ask.specs.Ask.{Question, asks, firstNo, afterCall}
 use Rattle.ask.specs.Answers.{answerOf}
 use Rattle.ask.specs.declared.Answer.{Answer}
 use Rattle.question_values.specs.Averages.{areDegenerateIds, areWeights}
-use Rattle.question_values.specs.Counts.{areCounts}
+use Rattle.question_values.specs.Counts.{areCounts, cellCount}
 use Rattle.question_values.specs.TpTypes.{isTpType, channelsOf}
 use Rattle.averaging_blocks.specs.Weights.{averagedPoints}
 use Rattle.averaging_flags.specs.Flags.{averagedFlagPoints}
-
--- how many flags a triplet has: one for each point, b1, b2
-abbrev pub flagCount : ℤ → ℤ → ℕ
-flagCount points bands = mag points * (mag bands * mag bands)
 
 -- questions 8, 9 (of one triplet), 12, 17 and 19
 abbrev pub averagingQuestions : List Float → List ℤ → List ℤ → List ℤ → ℤ → ℤ → ℤ → List Question
 averagingQuestions iw iwz ids1 ids2 points bands type =
     asks 8 (isTpType type)
     ∷ asks 9 (areCounts bands bands points (pos 1))
-    ∷ asks 12 (eqb (length iw) (channelsOf type * flagCount points bands) && eqb (length iwz) (flagCount points bands))
+    ∷ asks 12 (eqb (length iw) (channelsOf type * cellCount points bands bands) && eqb (length iwz) (cellCount points bands bands))
     ∷ asks 17 (areDegenerateIds (mag bands) ids1 && areDegenerateIds (mag bands) ids2)
     ∷ asks 19 (areWeights iw)
     ∷ []

@@ -14,7 +14,7 @@ use Rattle.list_laws.proofs.PatchLaws.{getD-patch}
 use Rattle.list_laws.specs.Lists.{oneIf}
 use Rattle.ask.specs.Ask.{afterCall}
 use Rattle.triplet_study.specs.Study.{Study, sizesOf}
-use Rattle.sheet_marks.proofs.TallyLaws.{length-moved, count-moved}
+use Rattle.sheet_tally.proofs.TallyLaws.{length-moved, count-moved}
 use Rattle.sheet_step.specs.Steps.{Sheet, Call, run, carry, average}
 use Rattle.book_claim.specs.Book.{wordAt, Word, fresh, computed, averagedBy, Book, isOpen, openWords, writes, bookNo, turn, booked}
 use Rattle.book_claim.specs.Counts.{runsOf, runsAccepted, runsPiece, hasRun, averages, averagings, AveragedBy, isAveraged}

@@ -9,8 +9,8 @@ use Rattle.book_claim.proofs.TurnLaws.{turn-long}
 use Rattle.ask.specs.Ask.{afterCall}
 use Rattle.triplet_piece.specs.Layout.{pieceAt}
 use Rattle.triplet_study.specs.Study.{Study, sizesOf}
-use Rattle.sheet_marks.specs.declared.SheetAnswer.{SheetAnswer}
-use Rattle.sheet_marks.specs.Tallies.{sheetAnswer}
+use Rattle.sheet_tally.specs.declared.SheetAnswer.{SheetAnswer}
+use Rattle.sheet_tally.specs.Tallies.{sheetAnswer}
 use Rattle.sheet_step.specs.Steps.{Sheet, Call, run, carry, average, piecesOf, verdict, effect, step, stepAnswer}
 use Rattle.book_claim.specs.Book.{fresh, Book, marksOf, weightBy, flagBy, wordOfWeight, wordOfFlag, render, writes, bookNo, turn, opened, booked, bookAnswers}
 use Rattle.book_claim.specs.Lists.{played, answers}

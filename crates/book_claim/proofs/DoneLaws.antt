@@ -10,7 +10,7 @@ use borrow.Author.Tests.{ne-eqb}
 use Rattle.list_laws.specs.Lists.{oneIf}
 use Rattle.ask.specs.Ask.{afterCall}
 use Rattle.triplet_study.specs.Study.{Study, sizesOf}
-use Rattle.sheet_marks.specs.declared.SheetAnswer.{SheetAnswer}
+use Rattle.sheet_tally.specs.declared.SheetAnswer.{SheetAnswer}
 use Rattle.ask.specs.Answers.{answerOf}
 use Rattle.list_laws.specs.Signed.{isNat}
 use Rattle.marks.specs.Marks.{isOpenMark}

@@ -13,7 +13,7 @@ use Rattle.triplet_study.specs.Study.{Study, sizesOf}
 use Rattle.marks.specs.Bytes.{placesIn, Holds}
 use Rattle.marks.specs.Marks.{openPieces}
 use Rattle.marks.proofs.BytesLaws.{all-in, place-in, holds-same}
-use Rattle.sheet_marks.specs.Tallies.{withRuns}
+use Rattle.sheet_tally.specs.Tallies.{withRuns}
 use Rattle.sheet_step.specs.Steps.{Sheet, sheet, Call, run, carry, piecesOf, pieceOf, effect}
 use Rattle.book_claim.specs.Book.{fresh, Book, isOpen, openWords, carried, weightBy, flagBy, wordOfWeight, wordOfFlag, render, writes}
 use Rattle.book_claim.proofs.EntryLaws.{length-each, patch-each}

@@ -15,7 +15,7 @@ use Rattle.triplet_study.specs.Study.{Study, sizesOf}
 use Rattle.triplet_study.specs.Questions.{studyQuestions}
 use Rattle.marks.specs.Bytes.{patchMarks}
 use Rattle.marks.specs.Marks.{isOpenAt, openPieces, carriedMarks, averagedMarks}
-use Rattle.sheet_marks.specs.Tallies.{countOf, isRoom, isWorker, tallyQuestions}
+use Rattle.sheet_tally.specs.Tallies.{countOf, isRoom, isWorker, tallyQuestions}
 use Rattle.sheet_step.specs.Steps.{Sheet, Call, run, carry, average, piecesOf, pieceOf, sheetQuestions, pieceQuestions, averageQuestions, tripletAveraged, tripletFlagsAveraged, verdict, effect, step}
 use Rattle.book_claim.specs.Lists.{played, answers}
 use Rattle.book_claim.specs.Workers.{SameButWorker, SameButWorkers, renamed, NoneByTally, said, SameContent}

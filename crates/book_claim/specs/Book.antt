@@ -15,8 +15,8 @@ use Rattle.ask.specs.Ask.{afterCall}
 use Rattle.triplet_piece.specs.Layout.{pieceAt}
 use Rattle.triplet_piece.specs.Weights.{weightAt, flagAt}
 use Rattle.triplet_study.specs.Study.{Study, sizesOf}
-use Rattle.sheet_marks.specs.declared.SheetAnswer.{SheetAnswer}
-use Rattle.sheet_marks.specs.Tallies.{sheetAnswer, withRuns}
+use Rattle.sheet_tally.specs.declared.SheetAnswer.{SheetAnswer}
+use Rattle.sheet_tally.specs.Tallies.{sheetAnswer, withRuns}
 use Rattle.sheet_step.specs.Steps.{Sheet, sheet, Call, run, carry, average, piecesOf, verdict, pieceOf, averagedAt, averagedFlagAt}
 
 -- ---- what the book holds

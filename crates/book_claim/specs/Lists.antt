@@ -1,7 +1,7 @@
 -- A list of calls on one sheet, one after the other: by `step` and `stepAnswer`, which the contracts of the calls cite.
 use mathlib.Core.List.{List, [], _∷_}
 use Rattle.triplet_study.specs.Study.{Study}
-use Rattle.sheet_marks.specs.declared.SheetAnswer.{SheetAnswer}
+use Rattle.sheet_tally.specs.declared.SheetAnswer.{SheetAnswer}
 use Rattle.sheet_step.specs.Steps.{Sheet, Call, step, stepAnswer}
 
 -- the sheet and the tally after the calls: "A cut leaves sheet and tally as the call before it left them"

@@ -2,9 +2,9 @@
 ghost use mathlib.Core.Path.{_≡_};
 ghost use Prim.Native.Nat.{_+_, _*_, _≤_, _<_};
 ghost use lib.Dec.{eqb};
-ghost use Rattle.list_laws.specs.Lists.{oneIf};
 ghost use Rattle.marks.specs.Bytes.{markAt, patchMarks, placesIn, bytesFor, IsMark, FewPieces, Few, Holds};
 ghost use Rattle.marks.specs.Marks.{isMark, areMarks, isNotAveraged, areComputed, openPieces, averagedMarks};
+use numbers::kernel::one_if;
 
 // The mark of an open piece.
 pub const OPEN: u8 = 0;
@@ -85,13 +85,6 @@ pub fn all_computed(pairs: usize, marks: &[u8], t: usize) -> bool
         k += 1;
     }
     ok
-}
-
-// 1 where the test holds, otherwise 0.
-pub fn one_if(yes: bool) -> u64
-    ensures { λ r. ⌜ r ≡ oneIf yes ⌝ }
-{
-    if yes { 1 } else { 0 }
 }
 
 // How many pieces are open.

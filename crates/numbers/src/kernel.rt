@@ -3,7 +3,7 @@ ghost use mathlib.Core.Path.{_≡_};
 ghost use Prim.Native.Nat.{_+_, _<_};
 ghost use lib.ListN.{length};
 ghost use lib.Signed.{nonNeg, mag, ltZ};
-ghost use Rattle.list_laws.specs.Lists.{at};
+ghost use Rattle.list_laws.specs.Lists.{at, oneIf};
 ghost use Rattle.list_laws.specs.Signed.{eqZ, isNat, isBelow, isBetween, within, remEuclid};
 ghost use Rattle.ieee_laws.specs.Magnitude.{absolute};
 ghost use Rattle.numbers.specs.Mesh.{meshOf, countOf, MeshWithin};
@@ -75,6 +75,15 @@ pub fn rem_euclid(a: i64, m: usize) -> usize
 {
     let k = magnitude(a);
     if nonneg(a) { k % m } else { (m - 1) - k % m }
+}
+
+// ---- a test
+
+// 1 where the test holds, otherwise 0.
+pub fn one_if(yes: bool) -> u64
+    ensures { λ r. ⌜ r ≡ oneIf yes ⌝ }
+{
+    if yes { 1 } else { 0 }
 }
 
 // ---- an element of a slice

@@ -3,7 +3,7 @@ use mathlib.Core.Path.{_≡_, ap, _∙_}
 use mathlib.Core.List.{List}
 use Prim.Native.Nat.{ℕ}
 use Rattle.triplet_study.specs.Study.{Study}
-use Rattle.sheet_marks.specs.declared.SheetAnswer.{SheetAnswer}
+use Rattle.sheet_tally.specs.declared.SheetAnswer.{SheetAnswer}
 use Rattle.ask.specs.Answers.{answerNumber}
 use Rattle.ask.proofs.AnswerLaws.{number-is}
 use Rattle.sheet_step.specs.Steps.{Sheet, Call, verdict, step, Called, Did}

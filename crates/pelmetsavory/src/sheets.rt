@@ -1,14 +1,11 @@
 // The run sheet: its calls, the open count, the tally.
 ghost use mathlib.Core.Path.{_≡_};
-ghost use Prim.Native.Nat.{_*_};
-ghost use lib.ListN.{length};
-ghost use lib.Signed.{mag};
 ghost use Rattle.ask.specs.Ask.{firstNo, afterCall};
 ghost use Rattle.triplet_study.specs.Lent.{studyIn};
 ghost use Rattle.sheet_step.specs.Lent.{sheetIn, sheetOut};
 ghost use Rattle.sheet_step.specs.Steps.{run, carry, average, Called};
-ghost use Rattle.sheet_marks.specs.Tallies.{tallyQuestions, withRuns};
-ghost use Rattle.sheet_marks.specs.OpenCount.{openQuestions, zerosFrom, cellsPerTriplet};
+ghost use Rattle.sheet_tally.specs.Tallies.{tallyQuestions, withRuns};
+ghost use Rattle.open_count.specs.OpenCount.{openNo, openEntries};
 use crate::Piece;
 use ask::kernel::number_of;
 use sheet::Counts;
@@ -159,19 +156,21 @@ pub extern "C" fn pelmetsavory_average_triplet(
     number_of(answer)
 }
 
-// The open count of a triplet, behind `count`. Questions 9, 12, 14.
+// The open count of a triplet, behind `count`: its entries (point, b1, b2) with a weight other than zero in some output of the type. Either
+// zero is zero, a NaN is not. Questions 8, 9, 12, 14.
 #[no_mangle]
 pub extern "C" fn pelmetsavory_open_count(
+    tp_type: i64,
     counts: Counts,
-    flags: &[i8],
+    weights: &[f64],
     triplet: i64,
     count: &mut u64,
 ) -> u64
-    ensures { λ r. ⌜ r ≡ firstNo (openQuestions counts (length (now (flags .entry))) triplet) ⌝ }
-    ensures { λ r. ⌜ now (count .exit) ≡ afterCall (firstNo (openQuestions counts (length (now (flags .entry))) triplet))
-        (zerosFrom (now (flags .entry)) (mag triplet * cellsPerTriplet counts) (cellsPerTriplet counts)) (now (count .entry)) ⌝ }
+    ensures { λ r. ⌜ r ≡ openNo «tp_type» counts (now (weights .entry)) triplet ⌝ }
+    ensures { λ r. ⌜ now (count .exit) ≡ afterCall (openNo «tp_type» counts (now (weights .entry)) triplet)
+        (openEntries «tp_type» counts (now (weights .entry)) triplet) (now (count .entry)) ⌝ }
 {
-    statuses::sheets::open_count(counts, flags, triplet, count)
+    statuses::sheets::open_count(tp_type, counts, weights, triplet, count)
 }
 
 // Adds a worker's runs behind `tally`. Questions 21, 20.

@@ -1,14 +1,15 @@
 -- What question 9's yes says of each count. Assumes nothing.
 use mathlib.Core.Path.{_≡_, refl, ap}
 use mathlib.Core.Bool.{Bool, true, false, _&&_}
-use Prim.Native.Nat.{ℕ, _≤_}
+use Prim.Native.Nat.{ℕ, _*_, _≤_}
+use native.Mathlib.Nat.{mul-le-mul}
 use borrow.Author.Tests.{leb-true}
 use lib.Dec.{leb}
 use lib.IntN.{ℤ, pos, negsuc}
 use lib.Signed.{nonNeg, mag}
 use Rattle.list_laws.proofs.BoolLaws.{and-left, and-right}
 use Rattle.list_laws.proofs.SignedLaws.{between-low, between-high}
-use Rattle.question_values.specs.Counts.{isBandCount, isPointCount, isTripletCount, areCounts}
+use Rattle.question_values.specs.Counts.{isBandCount, isPointCount, isTripletCount, areCounts, cellCount}
 
 -- ---- one count
 
@@ -67,6 +68,17 @@ module _ (bands1 bands2 points many : ℤ) (e : areCounts bands1 bands2 points m
   unfolding areCounts
   many-high =
       leb-true (mag many) 65536 (and-right (nonNeg many) (isTripletCount (mag many)) (and-right (bands && pointed) (nonNeg many && isTripletCount (mag many)) e))
+
+  -- ---- their products
+
+  pub pairs-high : mag bands1 * mag bands2 ≤ 4096
+  pairs-high = mul-le-mul bands1-high bands2-high
+
+  pub cells-high : cellCount points bands1 bands2 ≤ 4194304
+  cells-high = mul-le-mul points-high pairs-high
+
+  pub all-cells-high : mag many * cellCount points bands1 bands2 ≤ 274877906944
+  all-cells-high = mul-le-mul many-high cells-high
 
 -- ---- signs first
 

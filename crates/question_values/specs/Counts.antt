@@ -23,6 +23,10 @@ unfoldable pub areCounts : ℤ → ℤ → ℤ → ℤ → Bool
 areCounts bands1 bands2 points many =
     ((isBandCount bands1 && isBandCount bands2) && (nonNeg points && isPointCount (mag points))) && (nonNeg many && isTripletCount (mag many))
 
+-- how many entries a triplet has: one for each point, b1, b2
+abbrev pub cellCount : ℤ → ℤ → ℤ → ℕ
+cellCount points bands1 bands2 = mag points * (mag bands1 * mag bands2)
+
 -- Question 12: "Is each lent buffer exactly as long as its record?", the record being so many parts of one size
 unfoldable pub isProduct : ℕ → ℕ → ℕ → Bool
 isProduct count size total = eqb total (count * size)

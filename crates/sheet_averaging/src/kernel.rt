@@ -6,8 +6,8 @@ ghost use Rattle.sheet_step.specs.Lent.{sheetIn, sheetOut};
 ghost use Rattle.sheet_step.specs.Steps.{average, Called};
 ghost use Rattle.sheet_turn.specs.Turns.{sheetNow, commonNo};
 use marks::kernel as mark;
-use sheet_marks::Tally;
 use sheet_step::kernel::asks;
+use sheet_tally::Tally;
 use triplet_study::Sizes;
 
 // Averages a triplet over the degenerate sets of two id lists: each channel, then the flags; its marks become 2. The number of the first

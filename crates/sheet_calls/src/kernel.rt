@@ -9,7 +9,7 @@ ghost use Rattle.sheet_fill.specs.Kept.{Kept};
 ghost use Rattle.sheet_turn.specs.Turns.{sheetNow, commonNo, Prepared};
 ghost use Rattle.sheet_calls.specs.Calls.{callAt};
 use crate::calls;
-use sheet_marks::Tally;
+use sheet_tally::Tally;
 use sheet_turn::Turn;
 use sheet_turn::kernel;
 use triplet_study::Sizes;

@@ -8,7 +8,7 @@ use Rattle.ask.specs.Ask.{firstNo}
 use Rattle.triplet_study.specs.declared.Sizes.{Sizes}
 use Rattle.triplet_study.specs.Study.{Study, sizesOf}
 use Rattle.triplet_piece.specs.Weights.{computedWeights, computedFlags, AreComputed}
-use Rattle.sheet_marks.specs.Tallies.{tallyQuestions, withRuns}
+use Rattle.sheet_tally.specs.Tallies.{tallyQuestions, withRuns}
 use Rattle.marks.specs.Marks.{isOpenAt, openPieces, carriedMarks}
 use Rattle.sheet_step.specs.Steps.{Sheet, sheet, carry, piecesOf, verdict, effect, Called}
 use Rattle.sheet_step.proofs.StepLaws.{verdict-own}

@@ -7,7 +7,7 @@ ghost use Rattle.sheet_fill.specs.Kept.{Kept};
 ghost use Rattle.sheet_turn.specs.Turns.{sheetNow, commonNo, Prepared};
 use ask::kernel::number_of;
 use marks::kernel as mark;
-use sheet_marks::Tally;
+use sheet_tally::Tally;
 use sheet_turn::Turn;
 use triplet_study::Sizes;
 

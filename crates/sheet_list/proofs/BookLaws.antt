@@ -4,7 +4,7 @@ use mathlib.Core.List.{List, [], _∷_, _++_, map}
 use Prim.Native.Nat.{ℕ}
 use lib.ListN.{length, replicate}
 use Rattle.triplet_study.specs.Study.{Study, sizesOf}
-use Rattle.sheet_marks.specs.Tallies.{sixteenOf}
+use Rattle.sheet_tally.specs.Tallies.{sixteenOf}
 use Rattle.sheet_step.specs.Steps.{Sheet, Call, piecesOf, step}
 use Rattle.book_claim.specs.Book.{Book, opened, render, turn}
 use Rattle.book_claim.proofs.Demand3.{demand-3, same-step, opened-long, opened-is}

@@ -13,9 +13,9 @@ use Rattle.list_laws.proofs.BoolLaws.{and-left, and-right}
 use Rattle.ask.specs.Ask.{asks}
 use Rattle.ask.proofs.AskLaws.{all-yes, after-done, after-refused}
 use Rattle.triplet_study.specs.Study.{Study}
-use Rattle.sheet_marks.specs.declared.SheetAnswer.{SheetAnswer}
-use Rattle.sheet_marks.specs.Tallies.{refusedWith, sheetAnswer, sixteenOf}
-use Rattle.sheet_marks.proofs.TallyLaws.{refused-is}
+use Rattle.sheet_tally.specs.declared.SheetAnswer.{SheetAnswer}
+use Rattle.sheet_tally.specs.Tallies.{refusedWith, sheetAnswer, sixteenOf}
+use Rattle.sheet_tally.proofs.TallyLaws.{refused-is}
 use Rattle.sheet_step.specs.Steps.{Sheet, sheet, Call, verdict, step, stepAnswer}
 use Rattle.sheet_step.proofs.StepLaws.{verdict-common, refused-sheet}
 use Rattle.book_claim.specs.Lists.{played}

@@ -2,7 +2,7 @@
 use mathlib.Core.List.{List, [], _∷_, _++_, map}
 use Prim.Native.Nat.{ℕ}
 use Rattle.triplet_study.specs.Study.{Study}
-use Rattle.sheet_marks.specs.Tallies.{sixteenOf}
+use Rattle.sheet_tally.specs.Tallies.{sixteenOf}
 use Rattle.sheet_step.specs.Steps.{Sheet, Call}
 use Rattle.book_claim.specs.Book.{Book, opened, render, turn, booked, bookAnswers}
 use Rattle.sheet_play.specs.Outcomes.{numberIn, Outcome, outcome}

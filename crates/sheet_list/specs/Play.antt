@@ -6,8 +6,8 @@ use Prim.Native.Nat.{ℕ, _*_}
 use lib.Dec.{eqb}
 use Rattle.ask.specs.Ask.{asks, firstNo, afterCall}
 use Rattle.triplet_study.specs.Study.{Study}
-use Rattle.sheet_marks.specs.declared.SheetAnswer.{SheetAnswer}
-use Rattle.sheet_marks.specs.Tallies.{sheetAnswer}
+use Rattle.sheet_tally.specs.declared.SheetAnswer.{SheetAnswer}
+use Rattle.sheet_tally.specs.Tallies.{sheetAnswer}
 use Rattle.sheet_step.specs.Steps.{Sheet, Call}
 use Rattle.sheet_play.specs.Outcomes.{Outcome, outcome, outcomeOf}
 

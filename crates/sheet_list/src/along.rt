@@ -8,7 +8,7 @@ ghost use Rattle.sheet_turn.specs.Turns.{sheetNow, commonNo};
 ghost use Rattle.sheet_calls.specs.Calls.{callsOf};
 ghost use Rattle.sheet_play.specs.Outcomes.{outcome, outcomeOf};
 use crate::asks;
-use sheet_marks::Tally;
+use sheet_tally::Tally;
 use triplet_study::Shape;
 
 // Prepares what all calls take: the counts, and the second copy of the steps.

@@ -3,10 +3,10 @@ ghost use mathlib.Core.Path.{_≡_};
 ghost use Prim.Native.Nat.{_*_};
 ghost use lib.ListN.{length, replicate};
 ghost use Rattle.list_laws.specs.Lists.{rows};
-ghost use Rattle.sheet_marks.specs.Tallies.{sixteenOf};
+ghost use Rattle.sheet_tally.specs.Tallies.{sixteenOf};
 ghost use Rattle.sheet_list.specs.Play.{listNo};
-use sheet_marks::Tally;
 use sheet_play::kernel::store_counts;
+use sheet_tally::Tally;
 
 // Question 12, of the list and of the buffers for answers and tallies: its number where it is answered no, or 0.
 pub fn list_first_no(list: &[i64], answers: &[u64], tallies: &[u64]) -> u64

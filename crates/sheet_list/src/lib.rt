@@ -6,8 +6,8 @@ ghost use Rattle.sheet_calls.specs.Calls.{callsOf};
 ghost use Rattle.sheet_play.specs.Outcomes.{outcome};
 ghost use Rattle.sheet_list.specs.Play.{listNo, DidPlay};
 pub use ask::Answer;
-pub use sheet_marks::SheetAnswer;
-pub use sheet_marks::Tally;
+pub use sheet_tally::SheetAnswer;
+pub use sheet_tally::Tally;
 pub use triplet_study::Shape;
 
 mod along;
@@ -40,7 +40,7 @@ pub fn play(
 {
     let own = asks::list_first_no(list, answers, tallies);
     if own != 0 {
-        return sheet_marks::kernel::refused(own, tally);
+        return sheet_tally::kernel::refused(own, tally);
     }
     let left = along::play_all(
         weights,

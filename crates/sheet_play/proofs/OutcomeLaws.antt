@@ -10,7 +10,7 @@ use Rattle.list_laws.specs.Lists.{tabulate, rows, fronted}
 use Rattle.list_laws.proofs.FillLaws.{front-all, length-tabulate}
 use Rattle.ask.proofs.AnswerLaws.{number-is as number-of}
 use Rattle.triplet_study.specs.Study.{Study}
-use Rattle.sheet_marks.specs.Tallies.{sixteenOf}
+use Rattle.sheet_tally.specs.Tallies.{sixteenOf}
 use Rattle.sheet_step.specs.Steps.{Sheet, Call, Called, verdict, step, stepAnswer}
 use Rattle.book_claim.specs.Lists.{played, answers}
 use Rattle.book_claim.proofs.CutLaws.{played-cut, answers-cut}

@@ -2,9 +2,9 @@
 use mathlib.Core.List.{List, [], _∷_, _++_, map}
 use Prim.Native.Nat.{ℕ}
 use Rattle.triplet_study.specs.Study.{Study}
-use Rattle.sheet_marks.specs.declared.SheetAnswer.{SheetAnswer}
+use Rattle.sheet_tally.specs.declared.SheetAnswer.{SheetAnswer}
 use Rattle.ask.specs.Answers.{answerNumber}
-use Rattle.sheet_marks.specs.Tallies.{sixteenOf}
+use Rattle.sheet_tally.specs.Tallies.{sixteenOf}
 use Rattle.sheet_step.specs.Steps.{Sheet, Call, step}
 use Rattle.book_claim.specs.Lists.{played, answers}
 

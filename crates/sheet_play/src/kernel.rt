@@ -3,13 +3,13 @@ ghost use mathlib.Core.Path.{_≡_};
 ghost use Prim.Native.Nat.{_*_};
 ghost use lib.ListN.{length};
 ghost use Rattle.triplet_study.specs.Lent.{studyNow, studyIn};
-ghost use Rattle.sheet_marks.specs.Tallies.{sixteenOf};
+ghost use Rattle.sheet_tally.specs.Tallies.{sixteenOf};
 ghost use Rattle.sheet_step.specs.Lent.{sheetIn, sheetOut};
 ghost use Rattle.sheet_turn.specs.Turns.{sheetNow, commonNo, Prepared};
 ghost use Rattle.sheet_calls.specs.Calls.{callsOf};
 ghost use Rattle.sheet_play.specs.Outcomes.{outcome, outcomeOf};
 use sheet_calls::kernel::one_turn;
-use sheet_marks::Tally;
+use sheet_tally::Tally;
 use triplet_study::Sizes;
 
 // Stores the sixteen counts of a tally.

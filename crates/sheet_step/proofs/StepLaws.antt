@@ -23,11 +23,11 @@ use Rattle.triplet_study.specs.Questions.{studyQuestions, areLengths}
 use Rattle.triplet_study.specs.Tested.{Counted, Ready}
 use Rattle.triplet_study.proofs.StudyLaws.{study-numbered, lengths-say, tested, counted, ready}
 use Rattle.marks.specs.Bytes.{bytesFor, Holds}
-use Rattle.sheet_marks.specs.declared.SheetAnswer.{SheetAnswer}
+use Rattle.sheet_tally.specs.declared.SheetAnswer.{SheetAnswer}
 use Rattle.ask.specs.Answers.{answerNumber}
-use Rattle.sheet_marks.specs.Tallies.{sheetAnswer, refusedWith, withRuns, tallyQuestions, addedTo}
+use Rattle.sheet_tally.specs.Tallies.{sheetAnswer, refusedWith, withRuns, tallyQuestions, addedTo}
 use Rattle.ask.proofs.AnswerLaws.{number-is}
-use Rattle.sheet_marks.proofs.TallyLaws.{refused-is}
+use Rattle.sheet_tally.proofs.TallyLaws.{refused-is}
 use Rattle.sheet_step.specs.Steps.{Sheet, sheet, Call, Did, piecesOf, commonQuestions, areSheetLengths, isPiece, areIdLists, sheetQuestions, pieceQuestions, averageQuestions, ownQuestions, verdict, effect, step}
 use Rattle.sheet_step.proofs.CountLaws.{marks-held}
 

@@ -20,8 +20,8 @@ use Rattle.triplet_piece.specs.Layout.{tripletAt}
 use Rattle.triplet_piece.specs.Weights.{computedWeights, computedFlags}
 use Rattle.averaging_blocks.specs.Weights.{averaged}
 use Rattle.averaging_flags.specs.Flags.{averagedFlags}
-use Rattle.sheet_marks.specs.declared.SheetAnswer.{SheetAnswer}
-use Rattle.sheet_marks.specs.Tallies.{tallyQuestions, withRuns, sheetAnswer}
+use Rattle.sheet_tally.specs.declared.SheetAnswer.{SheetAnswer}
+use Rattle.sheet_tally.specs.Tallies.{tallyQuestions, withRuns, sheetAnswer}
 use Rattle.marks.specs.Bytes.{bytesFor, patchMarks}
 use Rattle.marks.specs.Marks.{isOpenAt, areMarks, isNotAveraged, areComputed, openPieces, carriedMarks, averagedMarks}
 

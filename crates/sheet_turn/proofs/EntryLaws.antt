@@ -8,8 +8,8 @@ use Rattle.triplet_study.specs.declared.Sizes.{Sizes}
 use Rattle.triplet_study.specs.Study.{Study, study, sizesOf}
 use Rattle.triplet_study.proofs.StudyLaws.{study-shaped}
 use Rattle.triplet_corners.specs.Corners.{secondSteps}
-use Rattle.sheet_marks.specs.declared.SheetAnswer.{SheetAnswer}
-use Rattle.sheet_marks.specs.Tallies.{sheetAnswer}
+use Rattle.sheet_tally.specs.declared.SheetAnswer.{SheetAnswer}
+use Rattle.sheet_tally.specs.Tallies.{sheetAnswer}
 use Rattle.sheet_step.specs.Steps.{Sheet, sheet, Call, Did, Called}
 use Rattle.sheet_turn.specs.Turns.{commonNo, Prepared}
 

@@ -15,7 +15,7 @@ use Rattle.triplet_study.specs.declared.Sizes.{Sizes}
 use Rattle.triplet_study.specs.Study.{Study, sizesOf}
 use Rattle.triplet_study.specs.Tested.{Counted, Ready}
 use Rattle.triplet_piece.specs.Weights.{computedWeights, computedFlags, AreComputed}
-use Rattle.sheet_marks.specs.Tallies.{tallyQuestions, withRuns}
+use Rattle.sheet_tally.specs.Tallies.{tallyQuestions, withRuns}
 use Rattle.marks.specs.Bytes.{patchMarks, placesIn, Holds}
 use Rattle.marks.proofs.BytesLaws.{place-in}
 use Rattle.sheet_step.specs.Steps.{Sheet, sheet, Call, run, pieceQuestions, pieceOf, piecesOf, verdict, effect, Called}

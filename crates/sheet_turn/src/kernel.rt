@@ -3,15 +3,15 @@ ghost use mathlib.Core.List.{_++_};
 ghost use mathlib.Core.Path.{_≡_};
 ghost use Rattle.ask.specs.Ask.{firstNo};
 ghost use Rattle.triplet_study.specs.Lent.{studyNow, studyIn};
-ghost use Rattle.sheet_marks.specs.Tallies.{tallyQuestions};
+ghost use Rattle.sheet_tally.specs.Tallies.{tallyQuestions};
 ghost use Rattle.sheet_step.specs.Lent.{sheetIn, sheetOut};
 ghost use Rattle.sheet_step.specs.Steps.{run, pieceQuestions, Called};
 ghost use Rattle.sheet_fill.specs.Kept.{Kept};
 ghost use Rattle.sheet_turn.specs.Turns.{sheetNow, commonNo, Prepared};
 use crate::Turn;
 use marks::kernel as mark;
-use sheet_marks::Tally;
 use sheet_step::kernel::asks;
+use sheet_tally::Tally;
 use triplet_study::Sizes;
 
 // Runs the piece of a triplet and two bands, to which 14, 15, 21 and 20 say yes.
@@ -71,7 +71,7 @@ pub fn run_accepted(
     let pairs = z.pairs;
     let bands2 = z.bands2;
     mark::set_mark(marks, t * pairs + (n1 * bands2 + n2), mark::COMPUTED);
-    let next = sheet_marks::kernel::with_runs(tally, worker, 1);
+    let next = sheet_tally::kernel::with_runs(tally, worker, 1);
     Turn {
         no: 0,
         tally: next,

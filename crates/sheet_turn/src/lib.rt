@@ -1,5 +1,5 @@
 // One call on a sheet whose questions 3 to 13 say yes: it asks its own, then works. What all calls of a list share is made once, and lent.
-use sheet_marks::Tally;
+use sheet_tally::Tally;
 
 pub mod kernel;
 

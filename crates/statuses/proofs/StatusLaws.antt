@@ -9,8 +9,8 @@ use Rattle.triplet_addresses.specs.Normal.{isNAnswer}
 use Rattle.triplet_addresses.specs.declared.IsNAnswer.the-variants as is-n
 use Rattle.tetrahedron_method.specs.Answer.{answered}
 use Rattle.tetrahedron_method.specs.declared.WeightAnswer.the-variants as weight
-use Rattle.sheet_marks.specs.OpenCount.{openAnswer}
-use Rattle.sheet_marks.specs.declared.OpenAnswer.the-variants as count
+use Rattle.open_count.specs.OpenCount.{openAnswer}
+use Rattle.open_count.specs.declared.OpenAnswer.the-variants as count
 
 pub count-done : (v n x old : ℕ) → count.Open x ≡ openAnswer v n → (0 ≡ v) × (x ≡ afterCall v n old)
 count-done zero n x old h = (refl, cc)

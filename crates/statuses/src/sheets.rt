@@ -1,25 +1,28 @@
 // The run sheet: the open count, the tally.
 ghost use mathlib.Core.Path.{_≡_};
-ghost use Prim.Native.Nat.{_*_};
-ghost use lib.ListN.{length};
-ghost use lib.Signed.{mag};
 ghost use Rattle.ask.specs.Ask.{firstNo, afterCall};
-ghost use Rattle.sheet_marks.specs.Tallies.{tallyQuestions, withRuns};
-ghost use Rattle.sheet_marks.specs.OpenCount.{openQuestions, zerosFrom, cellsPerTriplet};
+ghost use Rattle.sheet_tally.specs.Tallies.{tallyQuestions, withRuns};
+ghost use Rattle.open_count.specs.OpenCount.{openNo, openEntries};
 use ask::kernel::number_of;
-use sheet_marks::Counts;
-use sheet_marks::OpenAnswer;
-use sheet_marks::Tally;
+use open_count::OpenAnswer;
+use sheet_counts::Counts;
+use sheet_tally::Tally;
 
-// The open count of a triplet, behind `count`. Questions 9, 12, 14.
-pub fn open_count(counts: Counts, flags: &[i8], triplet: i64, count: &mut u64) -> u64
-    ensures { λ r. ⌜ r ≡ firstNo (openQuestions counts (length (now (flags .entry))) triplet) ⌝ }
-    ensures { λ r. ⌜ now (count .exit) ≡ afterCall (firstNo (openQuestions counts (length (now (flags .entry))) triplet))
-        (zerosFrom (now (flags .entry)) (mag triplet * cellsPerTriplet counts) (cellsPerTriplet counts)) (now (count .entry)) ⌝ }
+// The open count of a triplet, behind `count`. Questions 8, 9, 12, 14.
+pub fn open_count(
+    tp_type: i64,
+    counts: Counts,
+    weights: &[f64],
+    triplet: i64,
+    count: &mut u64,
+) -> u64
+    ensures { λ r. ⌜ r ≡ openNo «tp_type» counts (now (weights .entry)) triplet ⌝ }
+    ensures { λ r. ⌜ now (count .exit) ≡ afterCall (openNo «tp_type» counts (now (weights .entry)) triplet)
+        (openEntries «tp_type» counts (now (weights .entry)) triplet) (now (count .entry)) ⌝ }
 {
-    match sheet_marks::open_count(counts, flags, triplet) {
-        OpenAnswer::Open(zeros) => {
-            *count = zeros;
+    match open_count::open_count(tp_type, counts, weights, triplet) {
+        OpenAnswer::Open(entries) => {
+            *count = entries;
             0
         }
         OpenAnswer::Refused(number) => number,

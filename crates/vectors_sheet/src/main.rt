@@ -5,7 +5,7 @@
 //   2  table, for the lists after it: list of its numbers
 //   3  study, for the lists after it: type, both band counts, lists of both frequencies, list of points, list of triplets
 //   4  list of calls: lengths of weights, flags and marks, their content at the start, the sixteen counts, how many calls, and the calls
-//   5  open count: triplets, points, both band counts, length of the flags, the flags, named triplet, then refusal and count
+//   5  open count: type, triplets, points, both band counts, list of the weights, named triplet, then refusal and count
 //
 // A call is its kind (1 run of a piece: worker, triplet, b1, b2; 2 carry on: worker; 3 averaging: triplet, both lists of ids; 5 a whole
 // list through `play`: list of its numbers, list of ids, how many answers, the answers, and the sixteen counts after each), then what it is

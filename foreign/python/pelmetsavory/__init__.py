@@ -14,6 +14,8 @@ nothing. `test_study()` is a study that anyone can make again from one number.
 >>> sheet.carry_on(3)  # worker 3
 >>> sheet.weights.shape, sheet.flags[0, :, 0, 0].tolist(), sheet.tally.tolist()
 ((2, 1, 3, 2, 2), [1, 0, 1], [0, 1, 0, 3, 0, 0, 0, 0, 0, 0, 0, 0, 0, 0, 0, 0])
+>>> sheet.open_counts().tolist()  # of each triplet the entries that carry scattering: on a grid of one point none does
+[0]
 >>> sheet.run_piece(1, 0, 0, 2)
 Traceback (most recent call last):
 pelmetsavory.Refused: question 14 is answered no: Is the named triplet or piece on the sheet?
@@ -37,7 +39,7 @@ from ._functions import (
 )
 from ._library import Refused, float_mode_ok
 from ._loads import fill_frequencies, test_study
-from ._sheet import Sheet, open_count
+from ._sheet import Sheet, open_count, open_counts
 from ._study import Grid, Shapes, Study
 from .entries import INTERFACE_VERSION, QUESTIONS
 
@@ -64,6 +66,7 @@ __all__ = [
     "neighboring_grid_points_many",
     "num_channels",
     "open_count",
+    "open_counts",
     "relative_grid_address",
     "set_relative_grid_address",
     "test_study",

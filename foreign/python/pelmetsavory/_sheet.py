@@ -145,8 +145,15 @@ class Sheet:
         return answers, tallies
 
     def open_count(self, triplet: int) -> int:
-        """The number of flags 0 of a triplet."""
-        return open_count(self.flags, triplet)
+        """How many entries (point, b1, b2) of a triplet carry scattering: those with a weight other than zero in some output. Either zero is zero,
+        a NaN is not. Marks and flags are not asked: a piece that is still open counts by what it holds, zeros in a new sheet."""
+        self._check_shapes()
+        return open_count(self.study.tp_type, self.weights, triplet)
+
+    def open_counts(self) -> np.ndarray:
+        """The open count of each triplet (triplets,): the phase space of the sheet, triplet by triplet."""
+        self._check_shapes()
+        return open_counts(self.study.tp_type, self.weights)
 
     def take(self, other: Sheet) -> None:
         """Takes over the pieces that a worker's sheet has computed and this one has open; each of the sixteen counts grows by what that count has
@@ -248,8 +255,44 @@ def _check_marks(marks: np.ndarray) -> None:
         raise Refused(13)
 
 
-def open_count(flags: ArrayLike, triplet: int) -> int:
-    """The number of flags 0 of a triplet, of flags (triplet, point, b1, b2)."""
-    f, count = numbers("flags", np.int8, flags, "triplets", "points", "b1", "b2"), ctypes.c_uint64()
-    checked(LIBRARY.pelmetsavory_open_count(Counts(*f.shape), f.tobytes(), f.size, whole("triplet", triplet), ctypes.byref(count)))
-    return count.value
+def _read_in_place(weights: ArrayLike) -> np.ndarray:
+    """The weights as a call reads them where they lie: nothing is copied that is one block of aligned floats already."""
+    w = numbers("weights", np.float64, weights, "channels", "triplets", "points", "b1", "b2")
+    return np.require(w, requirements=["C_CONTIGUOUS", "ALIGNED"])
+
+
+def _open_count(tp_type: int, w: np.ndarray, triplet: int) -> tuple[int, int]:
+    """The status and the open count of a triplet."""
+    count = ctypes.c_uint64()
+    status = LIBRARY.pelmetsavory_open_count(tp_type, Counts(*w.shape[1:]), w.ctypes.data if w.size else None, w.size, triplet, ctypes.byref(count))
+    return status, count.value
+
+
+def open_count(tp_type: int, weights: ArrayLike, triplet: int) -> int:
+    """How many entries (point, b1, b2) of a triplet have a weight other than zero in some channel, of weights (channel, triplet, point, b1, b2) of
+    a type, 2, 3 or 4. Either zero is zero, a NaN is not. The weights of the triplet are read where they lie, once.
+
+    >>> open_count(2, [[[[[0.0, -0.0]], [[0.25, 0.5]]]], [[[[0.0, 0.0]], [[-1.0, 0.0]]]]], 0)  # both channels at point 0, then at point 1
+    2
+    """
+    tp, w, t = signed("tp_type", tp_type), _read_in_place(weights), signed("triplet", triplet)
+    status, count = _open_count(tp, w, t)
+    checked(status)
+    return count
+
+
+def open_counts(tp_type: int, weights: ArrayLike) -> np.ndarray:
+    """The open count of each triplet (triplets,), of the same weights: what a phase-space plot wants.
+
+    >>> open_counts(4, [[[[[0.0, 1.0]], [[0.5, 0.25]]], [[[0.0, -0.0]], [[0.0, 0.125]]]]]).tolist()
+    [3, 1]
+    """
+    tp, w = signed("tp_type", tp_type), _read_in_place(weights)
+    found = np.zeros(w.shape[1], np.uint64)
+    for t in range(len(found)):
+        status, found[t] = _open_count(tp, w, t)
+        checked(status)
+    if not len(found):  # the type and the counts are asked all the same; of 14 there is nothing to ask
+        status, _ = _open_count(tp, w, 0)
+        checked(0 if status == 14 else status)
+    return found

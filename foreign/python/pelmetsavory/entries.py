@@ -2,7 +2,7 @@
 import ctypes
 
 # the interface version that this module was made for
-INTERFACE_VERSION = 4
+INTERFACE_VERSION = 5
 
 
 class Piece(ctypes.Structure):
@@ -233,9 +233,10 @@ ENTRIES = {
         ("degenerate_ids2_len", "value", ctypes.c_size_t, None),
     ]),
     "pelmetsavory_open_count": (ctypes.c_uint64, [
+        ("tp_type", "value", ctypes.c_int64, None),
         ("counts", "value", Counts, None),
-        ("flags", "const", ctypes.c_int8, None),
-        ("flags_len", "value", ctypes.c_size_t, None),
+        ("weights", "const", ctypes.c_double, None),
+        ("weights_len", "value", ctypes.c_size_t, None),
         ("triplet", "value", ctypes.c_int64, None),
         ("count", "mut", ctypes.c_uint64, None),
     ]),

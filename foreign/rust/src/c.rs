@@ -1,7 +1,7 @@
 // made by foreign/bindings.py from the Rattle source and foreign/questions.txt: do not edit
 
 /// The interface version that this crate was made for: that of the library must be the same.
-pub const INTERFACE_VERSION: u64 = 4;
+pub const INTERFACE_VERSION: u64 = 5;
 
 /// A piece as a caller names it: any numbers.
 #[repr(C)]
@@ -33,7 +33,7 @@ pub struct Grid {
     pub d_diag: [i64; 3],
 }
 
-/// The counts of a sheet, any numbers.
+/// The counts of a sheet, any numbers: triplets, frequency points, bands of the second point and of the third.
 #[repr(C)]
 #[derive(Clone, Copy, Debug, PartialEq, Eq)]
 pub struct Counts {
@@ -284,9 +284,10 @@ entries! {
         degenerate_ids2_len: usize,
     ) -> u64;
     pub fn pelmetsavory_open_count(
+        tp_type: i64,
         counts: Counts,
-        flags: *const i8,
-        flags_len: usize,
+        weights: *const f64,
+        weights_len: usize,
         triplet: i64,
         count: *mut u64,
     ) -> u64;

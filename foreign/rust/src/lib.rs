@@ -247,6 +247,13 @@ impl Sheet {
         on_sheet!(pelmetsavory_average_triplet, self, y, triplet, ids1.as_ptr(), ids1.len(), ids2.as_ptr(), ids2.len())
     }
 
+    /// How many entries (point, b1, b2) of a triplet carry scattering: [`open_count`] of this sheet's weights, whatever marks and flags say.
+    pub fn open_count(&self, y: &Study, triplet: i64) -> Result<u64, Refused> {
+        let (num_triplets, num_band0) = (y.triplets.len() as i64 / 3, y.frequency_points.len() as i64);
+        let counts = Counts { num_triplets, num_band0, num_band1: y.shape.num_band1, num_band2: y.shape.num_band2 };
+        open_count(y.shape.tp_type, counts, &self.weights, triplet)
+    }
+
     /// Plays a list of calls: of each its answer, and the counts after it. What a call asks is in its own answer, and the next call is made;
     /// what all of them ask is asked once. (An `Err` of the list itself would be 12, which cannot be here.)
     pub fn play(&mut self, y: &Study, calls: &[Call]) -> Result<Vec<Played>, Refused> {
@@ -268,10 +275,11 @@ impl Sheet {
     }
 }
 
-/// The number of flags 0 of a triplet.
-pub fn open_count(counts: Counts, flags: &[i8], triplet: i64) -> Result<u64, Refused> {
+/// How many entries (point, b1, b2) of a triplet have a weight other than zero in some channel, of the weights of a whole sheet. Either zero is
+/// zero, a NaN is not. Of a sheet: [`Sheet::open_count`].
+pub fn open_count(tp_type: i64, counts: Counts, weights: &[f64], triplet: i64) -> Result<u64, Refused> {
     let mut count = 0;
-    told(unsafe { c::pelmetsavory_open_count(counts, flags.as_ptr(), flags.len(), triplet, &mut count) })?;
+    told(unsafe { c::pelmetsavory_open_count(tp_type, counts, weights.as_ptr(), weights.len(), triplet, &mut count) })?;
     Ok(count)
 }
 

@@ -98,10 +98,21 @@ fn every_entry_and_every_refusal() {
     let thrice: Vec<(usize, u64)> = (0..9).map(|k| (k, 3)).collect();
     assert_eq!(s.tally, plus(plus(BEGUN, &thrice), &[(15, 1)]));
     let counts = Counts { num_triplets: 3, num_band0: 5, num_band1: 3, num_band2: 3 };
-    let open: Vec<u64> = (0..3).map(|t| open_count(counts, &s.flags, t).unwrap()).collect();
+    let open: Vec<u64> = (0..3).map(|t| s.open_count(&y, t).unwrap()).collect();
     say(&mut out, "open", vec![text(&open)]);
-    assert_eq!(open_count(counts, &s.flags, 3), Err(Refused(14)));
-    assert_eq!(open_count(counts, &[], 0), Err(Refused(12)));
+    assert_eq!(open, [0, 1, 2].map(|t| open_count(3, counts, &s.weights, t).unwrap()));
+    let none = Counts { num_band2: 0, ..counts };
+    let far = Counts { num_triplets: 65536, num_band0: 1024, num_band1: i64::MAX, num_band2: i64::MAX };
+    assert_eq!(open_count(5, none, &s.weights, 3), Err(Refused(8)));
+    assert_eq!(open_count(3, none, &s.weights, 3), Err(Refused(9)));
+    assert_eq!(open_count(3, far, &s.weights, 0), Err(Refused(9)));
+    assert_eq!(open_count(3, counts, &s.weights[1..], 3), Err(Refused(12)));
+    assert_eq!(open_count(2, counts, &s.weights, 0), Err(Refused(12)));
+    assert_eq!(open_count(3, counts, &[], 0), Err(Refused(12)));
+    assert_eq!((s.open_count(&y, 3), s.open_count(&y, -1)), (Err(Refused(14)), Err(Refused(14))));
+    // both zeros, -0 twice, a NaN, the least number in the second channel, both channels
+    let edge = [0.0, -0.0, -f64::NAN, 0.0, 2.0, -0.0, -0.0, 0.0, 5e-324, -1.0];
+    assert_eq!(open_count(2, Counts { num_triplets: 1, num_band0: 5, num_band1: 1, num_band2: 1 }, &edge, 0), Ok(3));
     let mut carried = Sheet::new(&y);
     assert_eq!(carried.run_piece(&y, 15, piece(0, 2, 1)), Ok(()));
     assert_eq!(carried.carry_on(&y, 0), Ok(()));

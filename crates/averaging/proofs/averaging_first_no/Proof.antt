@@ -12,9 +12,8 @@ use mir.ValLaws.{toZ-ofZ}
 use Rattle.list_laws.proofs.BoolLaws.{yes-of, no-of}
 use Rattle.ask.specs.Ask.{firstNo}
 use Rattle.question_values.specs.Averages.{areDegenerateIds}
-use Rattle.question_values.specs.Counts.{areCounts}
+use Rattle.question_values.specs.Counts.{areCounts, cellCount}
 use Rattle.question_values.specs.TpTypes.{isTpType, channelsOf}
-use Rattle.averaging.specs.Answers.{flagCount}
 use Rattle.degenerate_sets.proofs.SizeLaws.{square-le, flags-le, weights-le}
 use Rattle.question_values.proofs.TypeLaws.{channels-le}
 use Rattle.averaging.proofs.AnswerLaws.{counts-le}
@@ -66,13 +65,13 @@ few-channels c = omega (arith, channels-are c, channels-le (c .before .before .b
 told-12 : (c : tie.After-channels-of) → let args = c .before .before .before .before .before .before .before .before .args in
     let size = c .before .magnitude2 .result * (c .before .before .magnitude .result * c .before .before .magnitude .result) in
     (eqb (length (args .iw .now)) (c .channels-of .result * size) && eqb (length (args .iw-zero .now)) size)
-    ≡ (eqb (length (args .iw .now)) (channelsOf (args .tp-type) * flagCount (args .num-band0) (args .num-band))
-    && eqb (length (args .iw-zero .now)) (flagCount (args .num-band0) (args .num-band)))
+    ≡ (eqb (length (args .iw .now)) (channelsOf (args .tp-type) * cellCount (args .num-band0) (args .num-band) (args .num-band))
+    && eqb (length (args .iw-zero .now)) (cellCount (args .num-band0) (args .num-band) (args .num-band)))
 told-12 c = rw (channels-are c, points-are (c .before), bands-are (c .before .before))
 
 yes-12 : (c : tie.Else3) → let args = c .before .before .before .before .before .before .before .before .before .args in
-    (eqb (length (args .iw .now)) (channelsOf (args .tp-type) * flagCount (args .num-band0) (args .num-band))
-    && eqb (length (args .iw-zero .now)) (flagCount (args .num-band0) (args .num-band))) ≡ true
+    (eqb (length (args .iw .now)) (channelsOf (args .tp-type) * cellCount (args .num-band0) (args .num-band) (args .num-band))
+    && eqb (length (args .iw-zero .now)) (cellCount (args .num-band0) (args .num-band) (args .num-band))) ≡ true
 yes-12 c = yes-of (told-12 (c .before)) (c .if3 .left)
 
 told-17 : (c : tie.After-degenerate-ids-ok2) → let args = c .before .before .before .before .before .before .before .before .before .before .before .args in

@@ -6,7 +6,7 @@ ghost use Rattle.replay_sheet.specs.Content.{bitsFrom, sameCounts};
 use crate::kernel::Agreed;
 use replay_input::kernel as input;
 use replay_input::kernel::Cursor;
-use sheet_marks::Tally;
+use sheet_tally::Tally;
 
 // A tally as read, and where the next field starts.
 pub struct TallyRead {

@@ -8,8 +8,8 @@ use mir.ValLaws.{toZ-ofZ}
 use native.Mathlib.Omega.{arith}
 use Rattle.ask.specs.Ask.{firstNo}
 use Rattle.sheet_fill.proofs.PieceLaws.{kept-none}
-use Rattle.sheet_marks.proofs.TallyLaws.{refused-is}
-use Rattle.sheet_marks.specs.Tallies.{tallyQuestions}
+use Rattle.sheet_tally.proofs.TallyLaws.{refused-is}
+use Rattle.sheet_tally.specs.Tallies.{tallyQuestions}
 use Rattle.sheet_step.proofs.StepLaws.{common-refused, study-yes}
 use Rattle.sheet_step.specs.Steps.{Sheet, sheet, run, pieceQuestions}
 use Rattle.sheet_turn.proofs.EntryLaws.{called-shaped, did, prepared, shaped-yes}

@@ -5,12 +5,12 @@ ghost use Prim.Native.Nat.{_+_, _*_, _<_};
 ghost use lib.ListN.{length};
 ghost use Rattle.ask.specs.Ask.{firstNo};
 ghost use Rattle.marks.specs.Bytes.{Holds};
-ghost use Rattle.sheet_marks.specs.Tallies.{tallyQuestions};
+ghost use Rattle.sheet_tally.specs.Tallies.{tallyQuestions};
 ghost use Rattle.triplet_study.specs.Tested.{Counted};
 ghost use Rattle.triplet_study.specs.Lent.{studyIn};
 ghost use Rattle.sheet_step.specs.Steps.{commonQuestions, sheetQuestions, pieceQuestions, averageQuestions, areTripletWeights, piecesOf};
 use marks::kernel as mark;
-use sheet_marks::Tally;
+use sheet_tally::Tally;
 use triplet_study::Shape;
 use triplet_study::Sizes;
 
@@ -105,7 +105,7 @@ pub fn run_first_no(
     if own != 0 {
         return own;
     }
-    sheet_marks::kernel::tally_first_no(tally, worker, 1)
+    sheet_tally::kernel::tally_first_no(tally, worker, 1)
 }
 
 // Question 19, of triplet `t`.

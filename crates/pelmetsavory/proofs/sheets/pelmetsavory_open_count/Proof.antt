@@ -10,8 +10,8 @@ open-count-requires c κs = search needs
 
 returns : tie.Need-returns
 returns c =
-    let s = c .before .before in
-    rw (toZ-ofZ w64 (s .args .triplet) (s .fits .triplet)) at (c .open-count .ensures)
+    let s = c .before .before .before in
+    rw (toZ-ofZ w64 (s .args .tp-type) (s .fits .tp-type), toZ-ofZ w64 (s .args .triplet) (s .fits .triplet)) at (c .open-count .ensures)
 
 pub pelmetsavory-open-count-spec : {M : Type 1} → statement M
 pelmetsavory-open-count-spec = tie.close (tie.spec open-count-requires returns)

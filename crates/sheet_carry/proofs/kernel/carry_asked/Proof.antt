@@ -5,7 +5,7 @@ use mir.Syntax.{w64}
 use mir.ValLaws.{toZ-ofZ}
 use native.Mathlib.Omega.{arith}
 use Rattle.marks.proofs.BytesLaws.{held-few}
-use Rattle.sheet_marks.specs.Tallies.{addedTo}
+use Rattle.sheet_tally.specs.Tallies.{addedTo}
 use Rattle.sheet_step.proofs.StepLaws.{added-no, added-runs}
 use Rattle.sheet_step.specs.Steps.{Sheet, sheet, piecesOf}
 use Rattle.sheet_turn.proofs.TurnLaws.{long-yes, ready-made}

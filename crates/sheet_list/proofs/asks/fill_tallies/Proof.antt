@@ -5,7 +5,7 @@ use native.Mathlib.Omega.{arith}
 use Prim.Native.Nat.{_+_, _-_, _*_, _≤_}
 use Rattle.list_laws.proofs.FillLaws.{part-length, rows-end, rows-none, rows-row}
 use Rattle.list_laws.specs.Lists.{rows}
-use Rattle.sheet_marks.specs.Tallies.{sixteenOf}
+use Rattle.sheet_tally.specs.Tallies.{sixteenOf}
 use Rattle.sheet_list.proofs.asks.fill_tallies.Statement.{statement}
 use Rattle.sheet_list.proofs.asks.fill_tallies.Tie as tie
 

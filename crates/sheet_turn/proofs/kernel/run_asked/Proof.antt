@@ -5,7 +5,7 @@ use mathlib.Core.Path.{_∙_, _≡_, sym}
 use mir.Syntax.{w64}
 use mir.ValLaws.{toZ-ofZ}
 use Rattle.ask.specs.Ask.{firstNo}
-use Rattle.sheet_marks.specs.Tallies.{tallyQuestions}
+use Rattle.sheet_tally.specs.Tallies.{tallyQuestions}
 use Rattle.sheet_step.specs.Steps.{Sheet, sheet, pieceQuestions}
 use Rattle.sheet_turn.proofs.TurnLaws.{counted-yes, long-yes, run-no}
 use Rattle.triplet_study.specs.Study.{Study, study}

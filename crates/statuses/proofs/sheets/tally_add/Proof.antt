@@ -5,8 +5,8 @@ use mir.Syntax.{w64}
 use mir.ValLaws.{toZ-ofZ}
 use Rattle.ask.proofs.AnswerLaws.{number-is}
 use Rattle.ask.specs.Answers.{answerNumber}
-use Rattle.sheet_marks.specs.Tallies.{addedTo}
-use Rattle.sheet_marks.specs.declared.SheetAnswer.{SheetAnswer}
+use Rattle.sheet_tally.specs.Tallies.{addedTo}
+use Rattle.sheet_tally.specs.declared.SheetAnswer.{SheetAnswer}
 use Rattle.statuses.proofs.sheets.tally_add.Statement.{statement}
 use Rattle.statuses.proofs.sheets.tally_add.Tie as tie
 

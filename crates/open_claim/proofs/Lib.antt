@@ -1,0 +1,3 @@
+-- The laws, and the computed example.
+pub mod ClosedLaws
+pub mod TopEdge

@@ -1,3 +1,0 @@
--- The definitions that the contracts cite.
-pub mod Tallies
-pub mod OpenCount
