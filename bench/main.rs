@@ -3,6 +3,7 @@
 //!     compare               checksums and differences on request 13's load, and on the weights below; the status is 1 where one is wrong
 //!     time ROUNDS LOAD      milliseconds of each call, all in turn, medians of the rounds
 //!     work CALL LOAD        one call (`work` below has their names), or none, after what is made before it
+//!     listing ROUNDS LOAD   bytes of the sheet's listing, and milliseconds to read it back, the median of the rounds
 //!     weights COUNT ROUNDS  nanoseconds of one weight over 24 rows, the variants in turn, medians of the rounds
 //!     weight VARIANT COUNT  so many weights of one variant
 //!
@@ -12,6 +13,7 @@
 #[allow(dead_code)]
 mod calls;
 mod clock;
+mod listing;
 #[path = "../compare/judge/kernels.rs"]
 mod kernels;
 mod load;
@@ -105,6 +107,15 @@ fn compare() -> bool {
         ours.iter().zip(&plain).filter(|(x, y)| x != y).count()
     );
     good &= ours == plain;
+    let text = listing::print(&l, &a);
+    listing::read(&l, &text, &mut c);
+    let (w, f) = differences(&a, &c);
+    let cut = listing::status(&l, &text[..text.len() - 1], &mut c);
+    println!(
+        "listing      {} bytes read back, {w} weights and {f} flags differ; without its last byte refused {cut}",
+        text.len()
+    );
+    good &= w + f == 0 && cut == 22 && differences(&a, &c) == (0, 0);
     for t in 0..100 {
         rust_average(&l, &mut a, t);
         average(&l, &mut b, t);
@@ -169,15 +180,39 @@ fn time(l: &Load, rounds: usize) {
     }
 }
 
-/// One call after what it needs: a computed sheet for `closed`, `open` and the averages, which `computed` makes too and then stops.
+/// Bytes of a listing, and milliseconds to read it back.
+fn time_listing(l: &Load, rounds: usize) {
+    let (mut a, mut b) = (l.sheet(), l.sheet());
+    carry_on(l, &mut a);
+    let text = listing::print(l, &a);
+    let mut times = vec![];
+    for _ in 0..rounds {
+        load::clear(&mut b);
+        times.push(clock(|| listing::read(l, &text, &mut b)));
+        assert!(differences(&a, &b) == (0, 0), "the record differs");
+    }
+    println!("{} {:.5}", text.len(), median(times));
+}
+
+/// One call after what it needs: a computed sheet for `closed`, `open` and the averages, which `computed` makes too and then stops; for `read`
+/// its listing too, which `printed` makes.
 fn work(l: &Load, name: &str) {
     let mut s = l.sheet();
     load::clear(&mut s);
-    if ["computed", "closed", "open", "average", "rust-average"].contains(&name) {
+    let after = [
+        "computed", "closed", "open", "average", "rust-average", "printed", "read",
+    ];
+    if after.contains(&name) {
         carry_on(l, &mut s);
     }
+    let mut text = vec![];
+    if ["printed", "read"].contains(&name) {
+        text = listing::print(l, &s);
+        load::clear(&mut s);
+    }
     match name {
-        "nothing" | "computed" => (),
+        "nothing" | "computed" | "printed" => (),
+        "read" => listing::read(l, &text, &mut s),
         "rust" => rust(l, &mut s),
         "carry-on" | "closed" => carry_on(l, &mut s),
         "all-triplets" => all_triplets(l, &mut s),
@@ -201,6 +236,7 @@ fn main() {
         "compare" => std::process::exit(!compare() as i32),
         "time" => time(&load(), whole(1)),
         "work" => work(&load(), &words[1]),
+        "listing" => time_listing(&load(), whole(1)),
         "weights" => weight::time(whole(1), whole(2)),
         "weight" => {
             let v = weight::VARIANTS
@@ -209,6 +245,6 @@ fn main() {
                 .expect("a variant");
             println!("{:e}", weight::Inputs::new().run(v, whole(2)));
         }
-        _ => panic!("compare, time, work, weights or weight"),
+        _ => panic!("compare, time, work, listing, weights or weight"),
     }
 }

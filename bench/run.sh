@@ -82,6 +82,16 @@ done | awk '{
     $1, $2, $4, $3, $5, $3 / $2, ($4 > 0 ? $5 / $4 : 0), $6, $7, time, instr
 }'
 
+echo 'a listing read back (read_listing): bytes, milliseconds (median of 11), megabytes a second'
+for load in '100 6 10 10' '1600 6 10 10'; do
+  "$program" listing 11 $load > "$tmp/listing"
+  echo "$load $(cat "$tmp/listing")"
+done | awk '{
+  aim = $5 >= 200e3 * $6 ? "met" : "NOT MET"
+  printf "triplets %4d: %d %.2f, %.0f; the aim, at least 200: %s\n", $1, $5, $6, $5 / $6 / 1e3, aim
+}'
+echo "instructions of the first: $(net work read printed 100 6 10 10)"
+
 # What grows, how many of it, and the load.
 while read -r what units load; do
   numbers=$first

@@ -1,7 +1,8 @@
 #!/usr/bin/env python3
-"""Shows that the comparisons of studies and of sheet lists can fail: each change below of the checker or of the model must be seen.
+"""Shows that the comparisons of studies, of their listings and of sheet lists can fail: each change below of the checker, of the reader or
+of the model must be seen.
 
-    model_mutants.py OUT
+    model_mutants.py OUT [FILE]      # FILE: the changes of that file alone
 
 OUT is a folder as build.sh leaves it. The scripts run without their own assertions, so that only the comparison with the proved
 program or library can see a change; its status must be 1, with differences counted. The status is 1 where a change was not seen.
@@ -21,6 +22,11 @@ COUNTS = """    if not (1 <= b1 <= 64 and 1 <= b2 <= 64 and 1 <= points <= 1024 
 """
 WEIGHTS = '    if len(weights) != outputs * triplets * block:\n        return ("refused", 12)\n'
 TRIPLET = '    if not 0 <= t < triplets:\n        return ("refused", 14)\n'
+# And of the reader of listings.
+LISTED_TYPE = "    if tp_type not in CHANNELS:\n        return 8, None\n"
+LISTED_COUNTS = "    if not all(least <= n <= most for n, (least, most) in zip(counts, LIMITS)):\n        return 9, None\n"
+LENGTHS = "    if lengths != (CHANNELS[tp_type] * size(counts), size(counts)):\n        return 12, None\n"
+TEXT = "    record = read(text, tp_type, counts)\n    if record is None:\n        return 22, None\n"
 
 # file, old text, new text, and more old and new texts where a change has more than one place
 STUDIES = [
@@ -43,6 +49,22 @@ STUDIES = [
     ("studies/checker.py", "    if not type_ok:\n        return 8\n    if not counts_ok:\n        return 9\n",
      "    if not counts_ok:\n        return 9\n    if not type_ok:\n        return 8\n"),
 ]
+# The reader of listings: capitals; any header; a last line that is not ended, carriage returns, spaces for tabs; places in any order; lines too
+# few; weights by the entry; 8 after 9, 12 before 9, 22 before 12; a limit.
+LISTINGS = [("listing.py", *texts) for texts in (
+    ("[0-9a-f]{16}", "[0-9a-fA-F]{16}"),
+    ("header != HEADER or not newline", "not newline"),
+    ("text.partition(b\"\\n\")", "(text.rstrip(b\"\\n\") + b\"\\n\").partition(b\"\\n\")"),
+    ("text.partition(b\"\\n\")", "text.replace(b\"\\r\", b\"\").partition(b\"\\n\")"),
+    ("text.partition(b\"\\n\")", "text.replace(b\" \", b\"\\t\").partition(b\"\\n\")"),
+    (" or any(a != b for a, b in zip(numbers, places(counts)))", ""),
+    ("len(lines) != size(counts) or ", ""),
+    ("for c in range(channels) for fields in lines", "for fields in lines for c in range(channels)"),
+    (LISTED_TYPE + LISTED_COUNTS, LISTED_COUNTS + LISTED_TYPE),
+    (LISTED_COUNTS + LENGTHS, LENGTHS + LISTED_COUNTS),
+    (LENGTHS + TEXT, TEXT + LENGTHS),
+    ("(1, 1024)", "(1, 1025)"),
+)]
 SHEETS = [("sheet/sheet_model.py", *texts) for texts in (
     ("sheet.tally[call[1]] + runs < 1 << 63", "sheet.tally[call[1]] + runs <= 1 << 63"),
     ('"run": tuple(range(3, 16)) + (21, 20)', '"run": tuple(range(3, 15)) + (21, 20)'),
@@ -126,13 +148,13 @@ def seen(folder, change, command):
 
 
 def main():
-    if len(sys.argv) != 2:
+    if not 2 <= len(sys.argv) <= 3:
         sys.exit(__doc__)
     out = os.path.abspath(sys.argv[1])
     commands = [["studies/studies.py", "fuzz", out, "1", "1"], ["sheet/sheet_calls.py", os.path.join(out, "libpelmetsavory.so"), "1000", "1"]]
     missed = changes = 0
-    for command, given in zip(commands, (STUDIES, SHEETS)):
-        for change in given:
+    for command, given in zip(commands, (STUDIES + LISTINGS, SHEETS)):
+        for change in [c for c in given if len(sys.argv) < 3 or c[0] == sys.argv[2]]:
             with tempfile.TemporaryDirectory() as folder:
                 missed += not seen(folder, change, command)
             changes += 1

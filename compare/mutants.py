@@ -1,6 +1,6 @@
 #!/usr/bin/env python3
-"""Shows that the judge can fail: each change below of the Rust, of the judge's questions, of its open count or of its test frequencies must
-be seen.
+"""Shows that the judge can fail: each change below of the Rust, of the judge's questions, of its open count, of its test frequencies or of its
+reader of listings must be seen.
 
     mutants.py SOURCES OUT [SEED [FILE]]      # FILE: the changes of that file alone
 
@@ -27,9 +27,10 @@ TYPE = "        (8, &|| known_type(tp)),\n"
 COUNTS = "        (9, &|| counts(&[b1, b2], x, t)),\n"
 WEIGHTS = "        (12, &room),\n"
 TRIPLET = "        (14, &|| within(triplet, 0, t - 1)),\n"
+LISTING = "        (22, printed),\n"
 
 # The judge's own files; the others are the Rust's.
-OWN = ("asks", "loads", "sheets")
+OWN = ("asks", "listings", "loads", "sheets")
 # file, old text, new text, and which of its places (the first where none is told)
 CHANGES = [
     ("tetrahedron_method", "THM_EPSILON: f64 = 1e-10", "THM_EPSILON: f64 = 1.1e-10"),
@@ -76,6 +77,11 @@ CHANGES = [
     ("asks", TYPE + COUNTS, COUNTS + TYPE),
     ("asks", COUNTS + WEIGHTS, WEIGHTS + COUNTS),
     ("asks", WEIGHTS + TRIPLET, TRIPLET + WEIGHTS),
+    # The reader of listings, whose first questions are those of the open count: 8 after 9, 12 before 9, 22 before 12; flags of any length.
+    ("asks", TYPE + COUNTS, COUNTS + TYPE, 1),
+    ("asks", COUNTS + WEIGHTS, WEIGHTS + COUNTS, 1),
+    ("asks", WEIGHTS + LISTING, LISTING + WEIGHTS),
+    ("asks", " && long(rooms[1], &[t, x, b1, b2])", ""),
     # The open count: a NaN for zero; -0 for a number; subnormals for zero; once for each output; all outputs together; the first, the last
     # alone; the first triplet for all; outputs that lie inside a triplet.
     ("sheets", "] != 0.0);", "].abs() > 0.0);"),
@@ -90,6 +96,33 @@ CHANGES = [
     ("loads", "wrapping_add(1013904223)", "wrapping_add(1013904222)"),
     ("loads", "let [_, _, low, high]", "let [low, high, _, _]"),
     ("loads", "chain.record(n)", "Chain(start).record(n)"),
+    # The reader: capitals; flags 2, -1 and 00; each NaN, none; -0 for 0, subnormals for 0; 0 before a number, a plus sign; another number; 15
+    # digits and 17; spaces for tabs; a carriage return; a last line that is not ended; any header; a line too few, too many; a weight too many; the
+    # first band first, the point before the triplet; weights that lie by the entry; flags of the other sign.
+    ("listings", "b'a'..=b'f' => Some(u64::from(b - b'a') + 10)", "b'a'..=b'f' | b'A'..=b'F' => Some(u64::from(b | 32) - 87)"),
+    ("listings", 'b"1" => Some(1)', 'b"1" | b"2" => Some(1)'),
+    ("listings", 'b"1" => Some(1)', 'b"1" | b"-1" => Some(1)'),
+    ("listings", 'b"0" => Some(0)', 'b"0" | b"00" => Some(0)'),
+    ("listings", "(!weight.is_nan() || bits == NAN)", "(bits <= u64::MAX)"),
+    ("listings", "(!weight.is_nan() || bits == NAN)", "(!weight.is_nan())"),
+    ("listings", "(!weight.is_nan() || bits == NAN).then_some(weight)", "(!weight.is_nan() || bits == NAN).then_some(weight + 0.0)"),
+    ("listings", "let weight = f64::from_bits(bits);", "let weight = f64::from_bits(if bits >> 52 == 0 { 0 } else { bits });"),
+    ("listings", "field.len() > 1 && field[0] == b'0'", "field.len() > 99 && field[0] == b'0'"),
+    ("listings", "field.iter().all(u8::is_ascii_digit)", "field.iter().all(|b| b.is_ascii_digit() || *b == b'+')"),
+    ("listings", "numbers != place || ", "numbers[1..] != place[1..] || "),
+    ("listings", "digits.len() != 16", "digits.len() > 16"),
+    ("listings", "digits.len() != 16", "digits.len() < 16"),
+    ("listings", "line.split(|b| *b == b'\\t').collect();\n        let (front", "line.split(|b| *b == b'\\t' || *b == b' ').collect();\n        let (front"),
+    ("listings", "for line in entries {\n", "for line in entries {\n        let line = line.strip_suffix(b\"\\r\").unwrap_or(line);\n"),
+    ("listings", "    let rest = lines.pop()?;\n", "    let rest = lines.pop_if(|l| l.is_empty()).unwrap_or_default();\n"),
+    ("listings", " || *header != HEADER", " || header.is_empty()"),
+    ("listings", "(place == [counts[0], 0, 0, 0])", "(place[0] <= counts[0])"),
+    ("listings", "(place == [counts[0], 0, 0, 0])", "(place[0] >= counts[0])"),
+    ("listings", "own.len() != channels.len()", "own.len() < channels.len()"),
+    ("listings", "for k in [3, 2, 1] {", "for k in [2, 3, 1] {"),
+    ("listings", "for k in [3, 2, 1] {", "for k in [3, 2, 0] {"),
+    ("listings", "channels.concat()", "(0..channels.concat().len()).map(|k| channels[k % channels.len()][k / channels.len()]).collect()"),
+    ("listings", 'b"1" => Some(1)', 'b"1" => Some(-1)'),
 ]
 
 

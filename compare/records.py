@@ -102,7 +102,7 @@ def blocks(groups):
     """Groups of records, each kept whole, packed into blocks."""
     out, now = [], b""
     for g in groups:
-        g = "".join(g).encode()
+        g = b"".join(r if isinstance(r, bytes) else r.encode() for r in g)
         assert len(g) <= BLOCK, len(g)
         if len(now) + len(g) > BLOCK:
             out.append(now)
@@ -182,7 +182,7 @@ class Cases:
 
 def summary(name, counts):
     """The line that a program prints for a kind of case; counts: refusal number (0 accepted) of each case."""
-    refused = ["%d:%d" % (n, counts.count(n)) for n in range(1, 21) if n in counts]
+    refused = ["%d:%d" % (n, counts.count(n)) for n in range(1, 30) if n in counts]
     return "\t".join([name, "cases", str(len(counts)), "agree", str(len(counts)), "differ", "0", "refused"] + refused) + "\n"
 
 

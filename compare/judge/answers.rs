@@ -54,12 +54,18 @@ fn printed(s: &Study, diag: usize) -> String {
     t
 }
 
-/// The listing of an accepted study.
-fn listing(s: &Study, weights: &[f64], flags: &[i8]) -> String {
+/// Points and both bands of a sound study.
+fn counts(s: &Study) -> [usize; 3] {
+    [s.points.len(), s.bands[0] as usize, s.bands[1] as usize]
+}
+
+/// The listing of weights and flags; of the counts those of points and of both bands.
+pub fn listing(counts: [usize; 3], weights: &[f64], flags: &[i8]) -> String {
     let mut t = String::from("triplet\tpoint\tb1\tb2\tflag\tw\n");
-    let (points, b1, b2) = (s.points.len(), s.bands[0] as usize, s.bands[1] as usize);
+    let [points, b1, b2] = counts;
     for (k, flag) in flags.iter().enumerate() {
-        let places = [k / s.per(), k / (b1 * b2) % points, k / b2 % b1, k % b2];
+        let triplet = k / (points * b1 * b2);
+        let places = [triplet, k / (b1 * b2) % points, k / b2 % b1, k % b2];
         let [a, b, c, d] = places;
         write!(t, "{a}\t{b}\t{c}\t{d}").expect("a string");
         let own = weights.iter().skip(k).step_by(flags.len()).map(digits);
@@ -136,5 +142,5 @@ fn told(r: &mut Rng, s: &Study, seen: &mut Seen) -> String {
         s.rust(&mut weights, &mut flags);
     }
     seen.tell(weights.iter().any(|w| *w != 0.0));
-    listing(s, &weights, &flags)
+    listing(counts(s), &weights, &flags)
 }

@@ -1,5 +1,5 @@
-//! The questions of document 01, of request 2 that of the worker, and those of request 4's open count, written from their text: each call's
-//! own, in the order in which they are asked. Nothing here is shared with the proved side or with the Rust.
+//! The questions of document 01, of request 2 that of the worker, those of request 4's open count and of request 5's reader, written from
+//! their text: each call's own, in the order in which they are asked. Nothing here is shared with the proved side or with the Rust.
 use crate::calls::GridPoints;
 use crate::study::{Grid, Study};
 
@@ -319,6 +319,25 @@ pub fn open_count(tp: i64, counts_of: [i64; 4], weights: usize, triplet: i64) ->
         (9, &|| counts(&[b1, b2], x, t)),
         (12, &room),
         (14, &|| within(triplet, 0, t - 1)),
+    ])
+}
+
+/// `printed`: whether the listing is one that the writer prints for these counts.
+pub fn read_listing(
+    tp: i64,
+    counts_of: [i64; 4],
+    rooms: [usize; 2],
+    printed: &dyn Fn() -> bool,
+) -> u64 {
+    let [t, x, b1, b2] = counts_of;
+    let room = || {
+        long(rooms[0], &[CHANNELS[tp as usize], t, x, b1, b2]) && long(rooms[1], &[t, x, b1, b2])
+    };
+    first_no(&[
+        (8, &|| known_type(tp)),
+        (9, &|| counts(&[b1, b2], x, t)),
+        (12, &room),
+        (22, printed),
     ])
 }
 

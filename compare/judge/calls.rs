@@ -144,6 +144,16 @@ pub fn answer(text: &[u8], out: &mut [u8]) -> usize {
 }
 
 /// Counts: triplets, points, both bands.
+fn counts_of(counts: [i64; 4]) -> c::Counts {
+    let [num_triplets, num_band0, num_band1, num_band2] = counts;
+    c::Counts {
+        num_triplets,
+        num_band0,
+        num_band1,
+        num_band2,
+    }
+}
+
 pub fn open_count(
     tp: i64,
     counts: [i64; 4],
@@ -151,15 +161,19 @@ pub fn open_count(
     triplet: i64,
     count: &mut u64,
 ) -> u64 {
-    let [num_triplets, num_band0, num_band1, num_band2] = counts;
-    let counts = c::Counts {
-        num_triplets,
-        num_band0,
-        num_band1,
-        num_band2,
-    };
     let w = read(weights);
-    unsafe { c::pelmetsavory_open_count(tp, counts, w.0, w.1, triplet, count) }
+    unsafe { c::pelmetsavory_open_count(tp, counts_of(counts), w.0, w.1, triplet, count) }
+}
+
+pub fn read_listing(
+    listing: &[u8],
+    tp: i64,
+    counts: [i64; 4],
+    weights: &mut [f64],
+    flags: &mut [i8],
+) -> u64 {
+    let (l, w, f) = (read(listing), write(weights), write(flags));
+    unsafe { c::pelmetsavory_read_listing(l.0, l.1, tp, counts_of(counts), w.0, w.1, f.0, f.1) }
 }
 
 pub fn averages(

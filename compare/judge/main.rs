@@ -2,6 +2,7 @@
 //!
 //!     judge SEED times K        K times the rounds of each group below
 //!     judge SEED seconds S      about S seconds, shared out among the groups, each at least once its rounds
+//!     judge SEED times K KIND   the group alone that has the kind
 //!
 //! It prints a line for each kind (report.rs). The status is 1 where an answer or a byte of a buffer differs, or where a number that a
 //! kind can answer, or acceptance, never came.
@@ -15,6 +16,8 @@ mod grids;
 mod kernels;
 mod lattices;
 mod lent;
+mod listing_faults;
+mod listings;
 mod loads;
 mod nan;
 mod neighbours;
@@ -41,7 +44,7 @@ struct Group {
     share: u64,
 }
 
-static GROUPS: [Group; 10] = [
+static GROUPS: [Group; 11] = [
     Group {
         kinds: &lattices::KINDS,
         cases: lattices::cases,
@@ -52,13 +55,13 @@ static GROUPS: [Group; 10] = [
         kinds: &neighbours::KINDS,
         cases: neighbours::cases,
         rounds: 5000,
-        share: 15,
+        share: 13,
     },
     Group {
         kinds: &weights::KINDS,
         cases: weights::cases,
         rounds: 25000,
-        share: 20,
+        share: 18,
     },
     Group {
         kinds: &gridpoints::KINDS,
@@ -102,6 +105,12 @@ static GROUPS: [Group; 10] = [
         rounds: 4000,
         share: 1,
     },
+    Group {
+        kinds: &listings::KINDS,
+        cases: listings::cases,
+        rounds: 1000,
+        share: 4,
+    },
 ];
 
 #[derive(Clone, Copy)]
@@ -134,9 +143,11 @@ impl Group {
     }
 }
 
-fn run(seed: u64, length: Length) -> bool {
+/// All groups, or the one with a kind of that name.
+fn run(seed: u64, length: Length, kind: Option<&String>) -> bool {
     let mut well = nan::outside();
-    for (k, group) in GROUPS.iter().enumerate() {
+    let named = |group: &Group| kind.is_none_or(|n| group.kinds.iter().any(|k| k.name == n));
+    for (k, group) in GROUPS.iter().enumerate().filter(|(_, g)| named(g)) {
         // each group its own numbers, whatever the others draw
         let own = Rng::new(seed ^ (k as u64 + 1) << 56).next();
         well &= group.run(own, length);
@@ -159,6 +170,6 @@ fn main() {
         .num_threads(1)
         .build()
         .expect("a thread");
-    let well = pool.install(|| run(seed, length));
+    let well = pool.install(|| run(seed, length, words.get(3)));
     std::process::exit(!well as i32);
 }

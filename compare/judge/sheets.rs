@@ -340,7 +340,7 @@ struct OpenCall {
     triplet: i64,
 }
 
-const MOST: [i64; 4] = [65536, 1024, 64, 64];
+pub const MOST: [i64; 4] = [65536, 1024, 64, 64];
 /// No right sheet of a case has more weights.
 const ROOM: i64 = 3 << 16;
 
@@ -370,7 +370,7 @@ fn open_call(r: &mut Rng) -> OpenCall {
 }
 
 /// One count that is none; or two, whose product can be 0 or the right one in 64 bits.
-fn spoil_counts(r: &mut Rng, counts: &mut [i64; 4]) {
+pub fn spoil_counts(r: &mut Rng, counts: &mut [i64; 4]) {
     let k = r.below(4);
     let other = (k + 1 + r.below(3)) % 4;
     match r.below(5) {
@@ -384,7 +384,7 @@ fn spoil_counts(r: &mut Rng, counts: &mut [i64; 4]) {
 }
 
 /// The length of so many outputs, as numbers of 64 bits have it; a short one where that is no length or too long.
-fn length(outputs: i64, counts: &[i64; 4]) -> usize {
+pub fn length(outputs: i64, counts: &[i64; 4]) -> usize {
     let product = counts.iter().fold(outputs, |n, c| n.wrapping_mul(*c));
     if (0..=ROOM).contains(&product) {
         product as usize

@@ -1,12 +1,13 @@
 #!/usr/bin/env python3
 """Studies through the program `weights`, against the original Rust and the checker.
 
-    studies.py fuzz OUT SEED STUDIES      at least STUDIES studies from SEED on (or for so many seconds: 60s), and a damaged text of each
+    studies.py fuzz OUT SEED STUDIES      at least STUDIES studies from SEED on (or for so many seconds: 60s), and a damaged text of each;
+                                          the listings of the accepted ones read back, and damaged listings
     studies.py corpus DRIVER CRATE [SEED] writes CRATE/stdin and CRATE/stdout, the stored texts of the program `corpus`
     studies.py valgrind OUT SEED COUNT    COUNT texts of a seed through the program under valgrind
 
-OUT holds the programs `weights` and `driver`. An accepted text's answer is the Rust's listing; whether a text is accepted, and the
-number of its refusal, is the checker's.
+OUT holds the programs `weights` and `driver` and the library. An accepted text's answer is the Rust's listing; whether a text is accepted,
+and the number of its refusal, is the checker's. What the library reads in a listing is held to ../listing.py.
 """
 import collections
 import os
@@ -16,6 +17,8 @@ import time
 
 import checker
 import damage
+import listing
+import readback
 import records
 import texts
 
@@ -24,6 +27,8 @@ here = os.path.dirname(os.path.abspath(__file__))
 NUMBERS = (0, 1, 3, 4, 5, 6, 8, 9, 10, 11)
 # So many texts with each of them among them, and so many texts kept whose answers differ.
 LONG, KEPT = 5000, 20
+# So many damaged texts of a listing.
+DAMAGED = 4
 
 
 def judged(driver, given):
@@ -66,17 +71,28 @@ def keep(path, text, why):
 class Kind:
     """The counts of one kind of text."""
 
-    def __init__(self, name):
-        self.name, self.counts, self.differ = name, collections.Counter(), 0
+    def __init__(self, name, numbers=NUMBERS):
+        self.name, self.numbers, self.counts, self.differ = name, numbers, collections.Counter(), 0
+
+    def count(self, number, agrees, label, text, why):
+        self.counts[number] += 1
+        if not agrees:
+            self.differ += 1
+            if self.differ <= KEPT:
+                keep("differs-" + label, text, why)
 
     def compare(self, program, given, answers, label):
         for k, (text, (number, want)) in enumerate(zip(given, answers)):
-            self.counts[number] += 1
             got, status = program(text)
-            if got != want or status:
-                self.differ += 1
-                if self.differ <= KEPT:
-                    keep("differs-%s-%d" % (label, k), text, "status %d, want %r, got %r" % (status, want[:60], got[:60]))
+            why = "status %d, want %r, got %r" % (status, want[:60], got[:60])
+            self.count(number, got == want and status == 0, "%s-%d" % (label, k), text, why)
+
+    def read(self, reader, calls, label):
+        """Calls that read a listing, by the library."""
+        for k, call in enumerate(calls):
+            number, record = listing.answer(*call)
+            why = "want %d of type %d, counts %r, lengths %r" % (number, *call[1:])
+            self.count(number, reader.agrees(call, number, record), "%s-%d" % (label, k), call[0], why)
 
     def show(self):
         refused = " ".join("%d:%d" % (n, c) for n, c in sorted(self.counts.items()) if n)
@@ -84,7 +100,7 @@ class Kind:
 
     def right(self):
         """Nothing differs, and in a long run every number was met."""
-        missing = [n for n in NUMBERS if not self.counts[n]] if self.counts.total() >= LONG else []
+        missing = [n for n in self.numbers if not self.counts[n]] if self.counts.total() >= LONG else []
         if missing:
             print("%s: never seen: %s" % (self.name, missing))
         return not self.differ and not missing
@@ -96,18 +112,31 @@ def both(seed):
     return studies, [damage.damaged(r, t)[1] for t in studies]
 
 
+def listings_of(r, given, answers):
+    """The calls that read the listings of the accepted studies, and those of damaged listings."""
+    calls = [readback.call_of(text, want) for text, (number, want) in zip(given, answers) if number == 0]
+    return calls, [readback.damaged(r, call) for call in calls for _ in range(DAMAGED)]
+
+
 def fuzz(out, seed, limit):
     driver, program = os.path.join(out, "driver"), Program(os.path.join(out, "weights"))
+    reader = readback.Reader(os.path.join(out, "libpelmetsavory.so"))
     kinds, first, begun = (Kind("studies"), Kind("damaged texts")), seed, time.time()
+    readers = Kind("listings of the program", (0,)), Kind("damaged, of the program", readback.NUMBERS)
     enough = (lambda: time.time() - begun >= float(limit[:-1])) if limit.endswith("s") else (lambda: kinds[0].counts.total() >= int(limit))
     while seed == first or not enough():
-        for kind, given in zip(kinds, both(seed)):
-            kind.compare(program, given, judged(driver, given), "%d-%s" % (seed, kind.name.split()[0]))
+        texts_of = both(seed)
+        answers = [judged(driver, given) for given in texts_of]
+        for kind, given, told in zip(kinds, texts_of, answers):
+            kind.compare(program, given, told, "%d-%s" % (seed, kind.name.split()[0]))
+        calls = listings_of(records.Rng(seed ^ 0x5851F42D), texts_of[0], answers[0])
+        for kind, given, label in zip(readers, calls, ("listings", "damaged-listings")):
+            kind.read(reader, given, "%d-%s" % (seed, label))
         seed += 1
     print("studies: seeds %d to %d" % (first, seed - 1))
-    for kind in kinds:
+    for kind in kinds + readers:
         kind.show()
-    return all([kind.right() for kind in kinds])
+    return all([kind.right() for kind in kinds + readers])
 
 
 def longest():

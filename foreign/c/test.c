@@ -389,10 +389,12 @@ static void answered(const uint8_t *from, size_t n, const char *want, size_t len
     number((long long)length);
 }
 
+static uint8_t listing[16384]; /* the stored one */
+static size_t listing_length;
+
 static void texts(void)
 {
-    static uint8_t listing[16384];
-    size_t n = stored("study.txt", text, sizeof text), length = stored("listing.txt", listing, sizeof listing);
+    size_t n = stored("study.txt", text, sizeof text), length = listing_length = stored("listing.txt", listing, sizeof listing);
     name("answer");
     answered(text, n, (const char *)listing, length);
     answered(text, n - 1, "refused\t1\n", 10);
@@ -401,7 +403,136 @@ static void texts(void)
     text[5] = '7'; answered(text, n, "refused\t3\n", 10); text[5] = '2';
     text[n - 4] = '2'; answered(text, n, "refused\t10\n", 11); text[n - 4] = '1';
     end();
-    YES(pelmetsavory_question(1) && pelmetsavory_question(21) && !pelmetsavory_question(22));
+    YES(pelmetsavory_question(1) && pelmetsavory_question(22) && !pelmetsavory_question(23));
+}
+
+static const pelmetsavory_counts small_counts = {TRIPLETS, POINTS, BANDS, BANDS};
+static double back[ENTRIES + 2]; /* what was read, with a place before and one behind it */
+static int8_t back_flags[CELLS + 2];
+
+/* The status of a listing that lies in memory of its own length, read into buffers filled before: what is refused leaves them, and nothing is
+ * written before or behind them. */
+static uint64_t read_as(const uint8_t *from, size_t n, int64_t tp_type, pelmetsavory_counts counts, size_t weights, size_t flags)
+{
+    static double old[ENTRIES + 2];
+    static int8_t old_flags[CELLS + 2];
+    uint8_t *own = n ? malloc(n) : NULL;
+    if (n) { YES(own); memcpy(own, from, n); }
+    memset(old, 0x5a, sizeof old); memset(old_flags, 0x5a, sizeof old_flags);
+    memcpy(back, old, sizeof old); memcpy(back_flags, old_flags, sizeof old_flags);
+    uint64_t status = pelmetsavory_read_listing(own, n, tp_type, counts, weights ? back + 1 : NULL, weights, flags ? back_flags + 1 : NULL, flags);
+    if (status) weights = flags = 0;
+    YES(!memcmp(back, old, 8) && !memcmp(back + 1 + weights, old + 1 + weights, sizeof old - (1 + weights) * 8));
+    YES(*back_flags == *old_flags && !memcmp(back_flags + 1 + flags, old_flags + 1 + flags, sizeof old_flags - 1 - flags));
+    if (n) YES(!memcmp(own, from, n));
+    free(own);
+    return status;
+}
+
+/* of the small study's type, counts and lengths */
+static uint64_t read_small(const uint8_t *from, size_t n) { return read_as(from, n, 3, small_counts, ENTRIES, CELLS); }
+
+/* of the stored listing, with so many bytes at a place replaced by a text */
+static uint64_t edited(size_t at, size_t bytes, const char *by)
+{
+    static uint8_t changed[sizeof listing + 64];
+    size_t n = strlen(by);
+    memcpy(changed, listing, at);
+    memcpy(changed + at, by, n);
+    memcpy(changed + at + n, listing + at + bytes, listing_length - at - bytes);
+    return read_small(changed, listing_length - bytes + n);
+}
+
+enum { HEADER = 27, FLAG = HEADER + 8, WEIGHT = FLAG + 2 }; /* of the listing: where the first line, its flag and its weights begin */
+
+/* 8, 9 and 12 are asked first, in their order, whatever the text is */
+static void listing_asks(void)
+{
+    const int64_t types[5] = {1, 5, 0, INT64_MIN, INT64_MAX};
+    const pelmetsavory_counts off[] = {
+        {-1, 5, 3, 3}, {65537, 5, 3, 3}, {INT64_MIN, 5, 3, 3}, {INT64_MAX, INT64_MAX, INT64_MAX, INT64_MAX}, {3, 0, 3, 3}, {3, -5, 3, 3}, {3, 1025, 3, 3},
+        {3, 5, 0, 3}, {3, 5, 65, 3}, {3, 5, -3, -3}, {3, 5, 3, 0}, {3, 5, 3, 65}, {-3, -5, 3, 3}, {INT64_C(1) << 32, INT64_C(1) << 32, 1, 1},
+    };
+    const pelmetsavory_counts most = {65536, 1024, 64, 64}, turned = {TRIPLETS * POINTS, 1, BANDS, BANDS};
+    for (size_t n = 0; n <= listing_length; n += listing_length) { /* of no text, and of the listing */
+        for (int k = 0; k < 5; k++) { WANT(8, read_as(listing, n, types[k], small_counts, ENTRIES, CELLS)); WANT(8, read_as(listing, n, types[k], off[k], 1, 1)); }
+        for (size_t k = 0; k < sizeof off / sizeof *off; k++) { WANT(9, read_as(listing, n, 3, off[k], ENTRIES, CELLS)); WANT(9, read_as(listing, n, 3, off[k], 0, 0)); }
+        WANT(12, read_as(listing, n, 3, small_counts, ENTRIES - 1, CELLS));
+        WANT(12, read_as(listing, n, 3, small_counts, ENTRIES, CELLS - 1));
+        WANT(12, read_as(listing, n, 3, small_counts, CELLS, CELLS));
+        WANT(12, read_as(listing, n, 3, small_counts, 0, 0));
+        WANT(12, read_as(listing, n, 2, small_counts, ENTRIES, CELLS)); /* the weights of another type */
+        WANT(12, read_as(listing, n, 3, most, ENTRIES, CELLS));
+        WANT(22, read_as(listing, n, 2, small_counts, 2 * CELLS, CELLS));
+        WANT(22, read_as(listing, n, 4, small_counts, CELLS, CELLS));
+        WANT(22, read_as(listing, n, 3, turned, ENTRIES, CELLS)); /* the same lengths, other counts */
+    }
+}
+
+/* what no writer printed: edits of the listing, each byte of it replaced (one in `step`), lines less, more and exchanged */
+static void not_printed(size_t step)
+{
+    const size_t n = listing_length, last = n - 17; /* where the last weight begins */
+    const struct { size_t at, bytes; const char *by; } edits[] = {
+        {0, n, ""}, {0, n, "\n"}, {0, n, "refused\t10\n"}, {HEADER, n - HEADER, ""}, {0, HEADER, ""}, {0, 7, "Triplet"}, {HEADER - 2, 1, "weight"}, {0, 0, "\xef\xbb\xbf"},
+        {FLAG, 1, "2"}, {FLAG, 1, "-1"}, {FLAG, 1, "00"}, {FLAG, 1, "+0"}, {FLAG, 1, ""}, {FLAG + 1, 1, " "}, {FLAG + 1, 1, "\t\t"}, {HEADER + 1, 1, " "}, {7, 1, " "},
+        {HEADER, 1, "00"}, {HEADER, 1, "1"}, {WEIGHT, 1, ""}, {WEIGHT, 0, "0"}, {last, 1, "A"}, {last, 1, "g"}, {n - 2, 1, "F"}, {n - 1, 1, ""}, {n - 1, 1, "\r\n"},
+        {n - 1, 1, "\r"}, {n - 1, 1, "\t\n"}, {n - 1, 1, "0"}, {n, 0, "\n"}, {n, 0, "0"}, {HEADER - 1, 1, "\r\n"}, {last - 1, 17, ""},
+        {n, 0, "3\t0\t0\t0\t0\t0000000000000000\t0000000000000000\t0000000000000000\n"}, {last, 16, "7ff8000000000001"}, {last, 16, "fff8000000000000"},
+        {last, 16, "7ff0000000000001"}, {last, 16, "fff0000000000001"}, {last, 16, "7fffffffffffffff"}, {last, 16, "ffffffffffffffff"},
+    };
+    for (size_t k = 0; k < sizeof edits / sizeof *edits; k++)
+        if (edited(edits[k].at, edits[k].bytes, edits[k].by) != 22) { printf("edit %zu of a listing is not refused\n", k); exit(1); }
+    for (size_t at = 0; at < n; at += step) WANT(22, edited(at, 1, "x"));
+    size_t first = HEADER, end = n - 1; /* the length of the first line, which the second has too; where the last one begins */
+    while (listing[first] != '\n') first++;
+    while (listing[end - 1] != '\n') end--;
+    first += 1 - HEADER;
+    WANT(22, edited(HEADER, first, ""));
+    WANT(22, edited(end, n - end, ""));
+    uint8_t lines[sizeof listing];
+    memcpy(lines, listing, n);
+    memcpy(lines + HEADER, listing + HEADER + first, first); memcpy(lines + HEADER + first, listing + HEADER, first);
+    YES(lines[HEADER + 2 * first - 1] == '\n');
+    WANT(22, read_small(lines, n));
+}
+
+/* a listing read back has every bit of what it was printed from */
+static void listings(size_t step)
+{
+    static double w[ENTRIES];
+    static int8_t f[CELLS];
+    const size_t n = listing_length, places[2] = {WEIGHT, n - 17};
+    WANT(0, pelmetsavory_integration_weight(PELMETSAVORY_STUDY(&y), triplets, 9, w, ENTRIES, f, CELLS));
+    YES(pelmetsavory_answer(text, stored("study.txt", text, sizeof text), answer) == n);
+    WANT(0, read_small(answer, n));
+    YES(!memcmp(back + 1, w, sizeof w) && !memcmp(back_flags + 1, f, sizeof f));
+    name("listing"); floats(back + 1, ENTRIES);
+    for (int k = 1; k <= CELLS; k++) number(back_flags[k]);
+    end();
+    listing_asks();
+    not_printed(step);
+
+    /* weights that no study has, and the one NaN that is printed: in the first place and in the last */
+    const char *const taken[] = {"8000000000000000", "7ff0000000000000", "fff0000000000000", "0000000000000001", "ffefffffffffffff", "7ff8000000000000"};
+    for (int k = 0; k < 12; k++) {
+        uint64_t bits;
+        WANT(0, edited(places[k % 2], 16, taken[k / 2]));
+        memcpy(&bits, back + (k % 2 ? ENTRIES : 1), 8);
+        YES(bits == strtoull(taken[k / 2], NULL, 16));
+    }
+    WANT(0, edited(FLAG, 1, f[0] ? "0" : "1"));
+    YES(back_flags[1] == !f[0]);
+
+    /* without triplets: the header alone; no buffer has a pointer */
+    const pelmetsavory_counts none_of_them = {0, 1024, 64, 64};
+    for (int k = 2; k < 5; k++) {
+        WANT(0, read_as(listing, HEADER, k, none_of_them, 0, 0));
+        WANT(22, read_as(listing, HEADER - 1, k, none_of_them, 0, 0));
+        WANT(22, read_as(listing, HEADER + 1, k, none_of_them, 0, 0));
+        WANT(22, read_as(NULL, 0, k, none_of_them, 0, 0));
+        WANT(12, read_as(listing, HEADER, k, none_of_them, 0, 1));
+    }
 }
 
 /* test frequencies from a start: one chain over three buffers, each filled to its own length and no further; one of no length has no pointer */
@@ -454,6 +585,7 @@ static void *deep(void *sheet)
     WANT(0, pelmetsavory_relative_grid_address(unit, which, &index));
     pelmetsavory_all_relative_grid_address(all);
     pelmetsavory_fill_frequencies(0, at, 9, weights, ENTRIES, w1, 135);
+    WANT(0, pelmetsavory_read_listing(listing, listing_length, 3, small_counts, weights, ENTRIES, flags, CELLS));
     return NULL;
 }
 
@@ -510,6 +642,7 @@ int main(int argc, char **argv)
     lists();
     workers();
     texts();
+    listings(argc < 2 ? 1 : 97);
     loads();
     if (out) YES(!fclose(out));
     if (argc < 2) stack_need();

@@ -8,6 +8,9 @@
  * answered no (pelmetsavory_question gives its words). After a refusal every buffer and all counts of the tally are as they were.
  * pelmetsavory_answer has no status but the length of its answer, and writes a refusal as a line of text;
  * pelmetsavory_all_relative_grid_address and pelmetsavory_fill_frequencies refuse nothing, and have no status.
+ * pelmetsavory_read_listing takes a whole listing, as pelmetsavory_answer and the program `weights` print it, without a limit of size; its
+ * buffers are those of a sheet of the type and counts: triplets * points * b1 * b2 flags, and as many weights for each output of the type
+ * (pelmetsavory_num_channels). A listing of another length, or with a byte that the writer would not print, is refused by question 22.
  * A tally has sixteen counts, one for each worker. A run and a carry-on name their worker, 0 to 15, and move that count alone; any other
  * number is refused by question 21, and a worker's count that would reach 2^63 by question 20. Averaging names no worker.
  * A function letter 'I' names the weight of the density; any other byte names J, that of the number of states.

@@ -5,7 +5,7 @@
 #include <stdint.h>
 
 /* The interface version that this header was made for: that of the library must be the same (pelmetsavory_ready). */
-#define PELMETSAVORY_INTERFACE_VERSION 5
+#define PELMETSAVORY_INTERFACE_VERSION 6
 
 /* A piece as a caller names it: any numbers. */
 typedef struct {
@@ -86,6 +86,17 @@ uint64_t pelmetsavory_matvec_di(
     const double a[9],
     pelmetsavory_triple b,
     double product[3]);
+
+/* Restores the weights and flags that the writer printed, of a type and counts. Accepted is exactly what it prints for the restored record. Questions 8, 9, 12, 22. */
+uint64_t pelmetsavory_read_listing(
+    const uint8_t *listing,
+    size_t listing_len,
+    int64_t tp_type,
+    pelmetsavory_counts counts,
+    double *weights,
+    size_t weights_len,
+    int8_t *flags,
+    size_t flags_len);
 
 /* Test frequencies from a 32-bit start: the first frequency record, then the second, then the points, one chain over all three. Any lengths; nothing is asked and nothing refused. */
 void pelmetsavory_fill_frequencies(
@@ -375,6 +386,7 @@ static inline const char *pelmetsavory_question(uint64_t status)
     case 19: return "Are its weights finite, magnitude at most 2^60, none a negative zero?";
     case 20: return "Does the worker's count stay below 2^63 after all runs of this call?";
     case 21: return "Is the worker 0 to 15?";
+    case 22: return "Are the listing's header, lines, field forms and order those of the writer?";
     default: return NULL;
     }
 }

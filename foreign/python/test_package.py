@@ -82,13 +82,13 @@ def test_every_public_name_has_words_and_hints():
 
 
 def test_examples():
-    for module, examples in (pm, 9), (pm._functions, 5), (pm._loads, 5):
+    for module, examples in (pm, 9), (pm._functions, 5), (pm._loads, 5), (pm._listing, 4):
         result = doctest.testmod(module)
         assert result.failed == 0 and result.attempted >= examples, (module, result)
 
 
 def test_a_refusal_says_its_question():
-    assert sorted(pm.QUESTIONS) == list(range(1, 22))
+    assert sorted(pm.QUESTIONS) == list(range(1, 23))
     for number, words in pm.QUESTIONS.items():
         assert str(pm.Refused(number)) == f"question {number} is answered no: {words}" and pm.Refused(number).number == number
 

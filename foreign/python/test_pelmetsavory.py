@@ -214,6 +214,9 @@ texts = [stored, stored[:-1], b"", stored * 10, stored[:5] + b"7" + stored[6:], 
 wanted = [open(DATA + "listing.txt", "rb").read()] + [b"refused\t%d\n" % n for n in (1, 1, 1, 3, 10)]
 assert [pm.answer(x) for x in texts] == wanted and pm.answer(bytearray(stored)) == wanted[0]
 say("answer", *map(len, wanted))
+back = pm.read_listing(pm.answer(stored), 3, study.shapes().flags)  # and read back it has every bit
+assert [a.tobytes() for a in back] == [carried.weights.tobytes(), carried.flags.tobytes()]
+say("listing", *hexed(back[0]), *back[1].ravel())
 
 # test frequencies from a start: one chain over the three, each of its own length
 for start in 0, 1, 2**31, 2**32 - 1, 123456789:

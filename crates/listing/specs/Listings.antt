@@ -26,9 +26,13 @@ frontOf t p b1 b2 flag = number t 9 ++ number p 9 ++ number b1 9 ++ number b2 9 
 unfoldable pub weightEnd : ℕ → ℕ → ℕ
 weightEnd channels c = cond (eqb (c + 1) channels) 10 9
 
+-- a weight as it is written: "16 hexadecimal digits of their bits", and a byte after it
+abbrev pub weightText : Float → ℕ → List ℕ
+weightText weight end = hexadecimal (toBits binary64 weight) ++ (end ∷ [])
+
 -- the weight of an entry's channel, and the byte after it; weights lie by channel, then as the flags
 unfoldable pub weightOf : List Float → ℕ → ℕ → ℕ → ℕ → List ℕ
-weightOf weights total e channels c = hexadecimal (toBits binary64 (getD weights (c * total + e) nan)) ++ (weightEnd channels c ∷ [])
+weightOf weights total e channels c = weightText (getD weights (c * total + e) nan) (weightEnd channels c)
 
 -- "then channels in order"
 unfoldable pub weightsOf : List Float → ℕ → ℕ → ℕ → List ℕ

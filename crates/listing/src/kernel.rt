@@ -26,7 +26,7 @@ fn put_front(out: &mut [u8], at: usize, t: u64, p: u64, b1: u64, b2: u64, flag: 
 }
 
 // The byte after the weight of channel c.
-fn weight_end(channels: usize, c: usize) -> u8
+pub fn weight_end(channels: usize, c: usize) -> u8
     requires { ⌜ c < channels ⌝ }
     ensures { λ r. ⌜ r ≡ weightEnd channels c ⌝ }
 {

@@ -2,6 +2,7 @@
 // that is answered no; a refused call leaves every buffer as it was. `pelmetsavory_answer` alone has no status: its refusal is text.
 pub mod answering;
 pub mod grids;
+pub mod listings;
 pub mod loads;
 pub mod playing;
 pub mod sheets;

@@ -43,3 +43,5 @@ pub const BAD_WEIGHT: u64 = 19;
 pub const TALLY_FULL: u64 = 20;
 
 pub const BAD_WORKER: u64 = 21;
+
+pub const BAD_LISTING: u64 = 22;

@@ -11,4 +11,4 @@ oneMore n = cond (ltb n 18446744073709551615) (n + 1) n
 
 -- the refusals by number with one more; an accepted case, number 0, changes nothing
 unfoldable pub refusedMore : List ℕ → ℕ → List ℕ
-refusedMore all number = cond (ltb 0 number && ltb number 21) (set all number (oneMore (getD all number 0))) all
+refusedMore all number = cond (ltb 0 number && ltb number 30) (set all number (oneMore (getD all number 0))) all

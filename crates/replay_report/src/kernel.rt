@@ -9,18 +9,18 @@ pub struct Count {
     pub cases: u64,
     pub agree: u64,
     pub differ: u64,
-    pub refused: [u64; 21],
+    pub refused: [u64; 30],
 }
 
 // No case yet.
 pub fn no_cases() -> Count
-    ensures { λ r. ⌜ (r .cases ≡ 0) × (r .agree ≡ 0) × (r .differ ≡ 0) × (r .refused ≡ replicate 21 0) ⌝ }
+    ensures { λ r. ⌜ (r .cases ≡ 0) × (r .agree ≡ 0) × (r .differ ≡ 0) × (r .refused ≡ replicate 30 0) ⌝ }
 {
     Count {
         cases: 0,
         agree: 0,
         differ: 0,
-        refused: [0; 21],
+        refused: [0; 30],
     }
 }
 
@@ -32,12 +32,12 @@ fn one_more(n: u64) -> u64
 }
 
 // The refusals with one of that number more.
-fn refused_more(refused: [u64; 21], number: u64) -> [u64; 21]
+fn refused_more(refused: [u64; 30], number: u64) -> [u64; 30]
     ensures { λ r. ⌜ r ≡ refusedMore refused number ⌝ }
 {
     let mut all = refused;
     if 0 < number {
-        if number < 21 {
+        if number < 30 {
             let k = number as usize;
             all[k] = one_more(all[k]);
         }
@@ -74,9 +74,9 @@ pub fn counted(name: &[u8], count: Count, refusal: u64, agrees: bool) -> Count
 }
 
 // The refusals that occur, as number:count.
-fn print_refused(refused: [u64; 21]) {
+fn print_refused(refused: [u64; 30]) {
     let mut k = 1;
-    while k < 21 {
+    while k < 30 {
         if 0 < refused[k] {
             io::write_all(1, b"\t");
             io::print_decimal(1, k as u64);

@@ -11,7 +11,7 @@ use lib.Seq.{take-append-seam, drop-append-add, length-take-le, getD-append-seam
 use borrow.Author.Tests.{eq-eqb, le-leb}
 use Rattle.text.specs.Pieces.{after, index, onto, cutOr, split, ended, splitFrom, same}
 use Rattle.sections.specs.Lines.{Got, got, is, front, next, values, tagOf, afterTag, read, joined, rows, once}
-use Rattle.sections.proofs.LineLaws.{same-yes}
+use Rattle.text.proofs.PieceLaws.{same-yes}
 use Rattle.study_print.specs.Printed.{fields, line, section, textOf}
 
 -- a byte does not stand in a list

@@ -23,7 +23,7 @@ use Rattle.text.specs.Spelled.{signed, hexadecimal}
 use Rattle.text.proofs.RoundTrip.{Text, plain, minus, whole-only, bits-only}
 use Rattle.text.proofs.SpelledLaws.{decimal-is}
 use Rattle.sections.specs.Lines.{Got, got, none, Row, is, bad, front, next, values, tagOf, afterTag, Part, read, wrong, joined, rows, once, wholeGot, wholeField, patternGot, patternField}
-use Rattle.sections.proofs.LineLaws.{same-is}
+use Rattle.text.proofs.PieceLaws.{same-is}
 use Rattle.study_print.specs.Printed.{fields, line, section, textOf, Signed64, Pattern64}
 
 -- ---- one field

@@ -8,20 +8,15 @@ ghost use Rattle.text.specs.Pieces.{index};
 use crate::Magnitude;
 use crate::Whole;
 
-// What a byte counts as a digit; 16 where it is none.
+// What a byte counts as a digit; 16 where it is none. The tests are joined before the one branch: which digit it is cannot be foretold.
 pub fn digit_of(b: u8) -> u64
     ensures { λ r. ⌜ r ≡ digitOf b ⌝ }
     ensures { λ r. ⌜ r ≤ 16 ⌝ }
 {
-    if 48 <= b {
-        if b <= 57 {
-            return (b - 48) as u64;
-        }
-        if 97 <= b {
-            if b <= 102 {
-                return (b - 87) as u64;
-            }
-        }
+    let decimal = (48 <= b) & (b <= 57);
+    let letter = (97 <= b) & (b <= 102);
+    if decimal | letter {
+        return (b % 16 + 9 * (b / 64)) as u64;
     }
     16
 }

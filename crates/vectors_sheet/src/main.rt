@@ -106,9 +106,9 @@ fn grid_call(
     )
 }
 
-// Answers that are not the stored ones count as refusal 22.
+// Answers that are not the stored ones count as refusal 30, which is none.
 fn checked(number: u64, agrees: bool) -> u64 {
-    if agrees { number } else { 22 }
+    if agrees { number } else { 30 }
 }
 
 // What a call gave, and where the record of what it is to give starts.
@@ -327,7 +327,7 @@ fn replay(text: &[u8], counts: &mut [u64]) {
 }
 
 fn main() {
-    let mut counts = [0u64; 132];
+    let mut counts = [0u64; 180];
     let mut text = io::large_buffer();
     let mut blocks: u64 = 1000;
     while 0 < blocks {

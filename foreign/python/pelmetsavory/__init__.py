@@ -3,7 +3,7 @@
 A Grid and a Study say what weights are made of, a Sheet holds the weights, flags, marks and tally of a study, and each other entry of the library
 has a function. A tally has a count for each of sixteen workers: whoever runs pieces names itself, 0 to 15. Arrays are converted where nothing is lost
 and otherwise refused, their shapes are checked and never changed. A call that is refused raises Refused, which says the question in words, and changes
-nothing. `test_study()` is a study that anyone can make again from one number.
+nothing. `test_study()` is a study that anyone can make again from one number. `read_listing()` has the weights and flags of a stored listing.
 
 >>> import numpy as np, pelmetsavory as pm
 >>> table, diagonal = pm.relative_grid_address(np.eye(3))
@@ -38,6 +38,7 @@ from ._functions import (
     tetrahedra_integration_weight,
 )
 from ._library import Refused, float_mode_ok
+from ._listing import read_listing
 from ._loads import fill_frequencies, test_study
 from ._sheet import Sheet, open_count, open_counts
 from ._study import Grid, Shapes, Study
@@ -67,6 +68,7 @@ __all__ = [
     "num_channels",
     "open_count",
     "open_counts",
+    "read_listing",
     "relative_grid_address",
     "set_relative_grid_address",
     "test_study",

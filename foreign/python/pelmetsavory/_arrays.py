@@ -40,13 +40,17 @@ def unsigned(name: str, given: Any, bits: int) -> int:
     return number
 
 
+def members(name: str, given: ArrayLike, n: int, words: str) -> list[Any]:
+    """The n members of a list or an array (n,), each as it was given; the words say what they are."""
+    a = _array(name, given)
+    if a.shape != (n,):
+        raise ValueError(f"{name} has the shape {a.shape}; ({n},) is wanted, {words}")
+    return list(given if isinstance(given, (list, tuple)) else a)  # an array of a list may have rounded its numbers
+
+
 def counts(name: str, given: ArrayLike) -> np.ndarray:
     """A count for each of sixteen workers, whole numbers from 0 that 64 bits hold, as a new array."""
-    a = _array(name, given)
-    if a.shape != (16,):
-        raise ValueError(f"{name} has the shape {a.shape}; (16,) is wanted, a count for each worker")
-    each = given if isinstance(given, (list, tuple)) else a  # an array of a list may have rounded its numbers
-    return np.array([unsigned(name, n, 64) for n in each], np.uint64)
+    return np.array([unsigned(name, n, 64) for n in members(name, given, 16, "a count for each worker")], np.uint64)
 
 
 def real(name: str, given: Any) -> float:

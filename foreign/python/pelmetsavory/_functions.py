@@ -161,7 +161,7 @@ def num_channels(tp_type: int) -> int:
 
 
 def answer(text: bytes) -> bytes:
-    """What the program `weights` prints for the text of a study: its listing, or `refused`, a tab, the question's number and a newline. Needs
-    less than 1.25 MiB of stack."""
+    """What the program `weights` prints for the text of a study: its listing, which `read_listing` reads, or `refused`, a tab, the question's
+    number and a newline. Needs less than 1.25 MiB of stack."""
     text, out = bytes(memoryview(text)), (ctypes.c_char * _ANSWER)()
     return out[: LIBRARY.pelmetsavory_answer(text, len(text), ctypes.byref(out))]

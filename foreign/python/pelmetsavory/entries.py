@@ -2,7 +2,7 @@
 import ctypes
 
 # the interface version that this module was made for
-INTERFACE_VERSION = 5
+INTERFACE_VERSION = 6
 
 
 class Piece(ctypes.Structure):
@@ -67,6 +67,7 @@ QUESTIONS = {
     19: "Are its weights finite, magnitude at most 2^60, none a negative zero?",
     20: "Does the worker's count stay below 2^63 after all runs of this call?",
     21: "Is the worker 0 to 15?",
+    22: "Are the listing's header, lines, field forms and order those of the writer?",
 }
 
 # of each entry: its result, and its arguments as (name, how it crosses, type, count of an array)
@@ -110,6 +111,16 @@ ENTRIES = {
         ("a", "const", ctypes.c_double, 9),
         ("b", "value", Triple, None),
         ("product", "mut", ctypes.c_double, 3),
+    ]),
+    "pelmetsavory_read_listing": (ctypes.c_uint64, [
+        ("listing", "const", ctypes.c_uint8, None),
+        ("listing_len", "value", ctypes.c_size_t, None),
+        ("tp_type", "value", ctypes.c_int64, None),
+        ("counts", "value", Counts, None),
+        ("weights", "mut", ctypes.c_double, None),
+        ("weights_len", "value", ctypes.c_size_t, None),
+        ("flags", "mut", ctypes.c_int8, None),
+        ("flags_len", "value", ctypes.c_size_t, None),
     ]),
     "pelmetsavory_fill_frequencies": (None, [
         ("start", "value", ctypes.c_uint32, None),

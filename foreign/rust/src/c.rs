@@ -1,7 +1,7 @@
 // made by foreign/bindings.py from the Rattle source and foreign/questions.txt: do not edit
 
 /// The interface version that this crate was made for: that of the library must be the same.
-pub const INTERFACE_VERSION: u64 = 5;
+pub const INTERFACE_VERSION: u64 = 6;
 
 /// A piece as a caller names it: any numbers.
 #[repr(C)]
@@ -86,6 +86,7 @@ pub const QUESTIONS: &[(u64, &str)] = &[
     (19, "Are its weights finite, magnitude at most 2^60, none a negative zero?"),
     (20, "Does the worker's count stay below 2^63 after all runs of this call?"),
     (21, "Is the worker 0 to 15?"),
+    (22, "Are the listing's header, lines, field forms and order those of the writer?"),
 ];
 
 /// The interface version of the linked library.
@@ -161,6 +162,16 @@ entries! {
         a: *const [f64; 9],
         b: Triple,
         product: *mut [f64; 3],
+    ) -> u64;
+    pub fn pelmetsavory_read_listing(
+        listing: *const u8,
+        listing_len: usize,
+        tp_type: i64,
+        counts: Counts,
+        weights: *mut f64,
+        weights_len: usize,
+        flags: *mut i8,
+        flags_len: usize,
     ) -> u64;
     pub fn pelmetsavory_fill_frequencies(
         start: u32,

@@ -439,11 +439,34 @@ pub fn fill_frequencies(start: u32, frequencies1: &mut [f64], frequencies2: &mut
     }
 }
 
-/// What the program `weights` prints for the text of a study: its listing, or `refused`, a tab, the question's number and a newline.
-/// Needs less than 1.25 MiB of stack.
+/// What the program `weights` prints for the text of a study: its listing, which [`read_listing`] reads, or `refused`, a tab, the question's
+/// number and a newline. Needs less than 1.25 MiB of stack.
 pub fn answer(text: &[u8]) -> Vec<u8> {
     let mut out = Box::new([0; 118617]);
     // SAFETY: a live slice, and an array of the entry's length that nothing else holds.
     let length = unsafe { c::pelmetsavory_answer(text.as_ptr(), text.len(), &mut *out) };
     out[..length].to_vec()
+}
+
+/// Restores the weights (by channel, triplet, point, b1, b2) and flags of a listing, as [`answer`] gives it, of a type and counts. Every bit comes
+/// back; a NaN comes back as a NaN, its sign and payload are not in the listing. Any other text is refused by question 22, and nothing is written. The lengths
+/// are those of a sheet: triplets times points times bands flags, and [`num_channels`] times as many weights.
+///
+/// ```
+/// use pelmetsavory::{read_listing, Counts, Refused};
+/// let listing = b"triplet\tpoint\tb1\tb2\tflag\tw\n0\t0\t0\t0\t0\t3fd8000000000000\n0\t1\t0\t0\t1\t0000000000000000\n";
+/// let counts = Counts { num_triplets: 1, num_band0: 2, num_band1: 1, num_band2: 1 };
+/// let (mut weights, mut flags) = ([7.0; 2], [7; 2]);
+/// assert_eq!(read_listing(&listing[1..], 4, counts, &mut weights, &mut flags), Err(Refused(22)));
+/// assert_eq!((weights, flags), ([7.0; 2], [7; 2]));
+/// read_listing(listing, 4, counts, &mut weights, &mut flags).unwrap();
+/// assert_eq!((weights, flags), ([0.375, 0.0], [0, 1]));
+/// ```
+pub fn read_listing(listing: &[u8], tp_type: i64, counts: Counts, weights: &mut [f64], flags: &mut [i8]) -> Result<(), Refused> {
+    told(unsafe {
+        c::pelmetsavory_read_listing(
+            listing.as_ptr(), listing.len(), tp_type, counts,
+            weights.as_mut_ptr(), weights.len(), flags.as_mut_ptr(), flags.len(),
+        )
+    })
 }

@@ -201,6 +201,7 @@ fn every_entry_and_every_refusal() {
     no_workers_and_full_counts(&y);
     others_are_full(&y);
     answers(&stored, &mut out);
+    listings(&carried, &mut out);
     loads(&mut out);
     if let Ok(path) = std::env::var("PELMETSAVORY_OUT") {
         std::fs::write(path, out).unwrap();
@@ -358,6 +359,98 @@ fn answers(listing: &str, out: &mut String) {
     let want = [listing, "refused\t1\n", "refused\t1\n", "refused\t1\n", "refused\t3\n", "refused\t10\n"];
     assert!(all.iter().zip(want).all(|(got, want)| got == want.as_bytes()));
     say(out, "answer", vec![text(&all.iter().map(Vec::len).collect::<Vec<_>>())]);
+}
+
+/// The header of a listing.
+const HEADER: &[u8] = b"triplet\tpoint\tb1\tb2\tflag\tw\n";
+/// The counts of the small study.
+const SMALL: Counts = Counts { num_triplets: 3, num_band0: 5, num_band1: 3, num_band2: 3 };
+
+/// Reads a listing into buffers of these lengths: what it restored, or the number that refuses it, which leaves them.
+fn read(listing: &[u8], tp_type: i64, counts: Counts, lengths: [usize; 2]) -> Result<(Vec<f64>, Vec<i8>), u64> {
+    let (mut weights, mut flags) = (vec![-7.25; lengths[0]], vec![5; lengths[1]]);
+    match read_listing(listing, tp_type, counts, &mut weights, &mut flags) {
+        Ok(()) => Ok((weights, flags)),
+        Err(no) => {
+            assert!(weights.iter().all(|w| *w == -7.25) && flags.iter().all(|f| *f == 5) && no.to_string().ends_with('?'));
+            Err(no.0)
+        }
+    }
+}
+
+/// A listing read back has every bit of what it was printed from; anything else is 22, after 8, 9 and 12.
+fn listings(carried: &Sheet, out: &mut String) {
+    let listing = answer(&std::fs::read(concat!(env!("CARGO_MANIFEST_DIR"), "/../data/study.txt")).unwrap());
+    let (weights, flags) = read(&listing, 3, SMALL, [405, 135]).unwrap();
+    assert!(hex(&weights) == hex(&carried.weights) && flags == carried.flags);
+    say(out, "listing", vec![hex(&weights), text(&flags)]);
+
+    // the questions before it, in their order, whatever the text is
+    let none = Counts { num_band2: 0, ..SMALL };
+    for bytes in [&listing[..], HEADER, &[]] {
+        for tp_type in [1, 5, 0, i64::MIN, i64::MAX] {
+            assert_eq!(read(bytes, tp_type, none, [404, 135]), Err(8));
+        }
+        for bad in [-1, 65537, i64::MIN, i64::MAX] {
+            assert_eq!(read(bytes, 3, Counts { num_triplets: bad, ..SMALL }, [0, 0]), Err(9));
+            assert_eq!(read(bytes, 3, Counts { num_triplets: bad, num_band0: bad, num_band1: bad, num_band2: bad }, [405, 135]), Err(9));
+        }
+        for bad in [0, -1, 65, i64::MIN, i64::MAX] {
+            assert_eq!(read(bytes, 3, Counts { num_band1: bad, ..SMALL }, [405, 135]), Err(9));
+            assert_eq!(read(bytes, 3, Counts { num_band2: bad, ..SMALL }, [405, 135]), Err(9));
+            assert_eq!(read(bytes, 3, Counts { num_band0: if bad == 65 { 1025 } else { bad }, ..SMALL }, [405, 135]), Err(9));
+        }
+        for lengths in [[404, 135], [406, 135], [405, 134], [405, 136], [135, 405], [0, 0]] {
+            assert_eq!(read(bytes, 3, SMALL, lengths), Err(12));
+        }
+        assert_eq!(read(bytes, 3, Counts { num_triplets: 65536, num_band0: 1024, num_band1: 64, num_band2: 64 }, [405, 135]), Err(12));
+    }
+    assert_eq!(read(&listing, 2, SMALL, [270, 135]), Err(22));
+    assert_eq!(read(&listing, 4, SMALL, [135, 135]), Err(22));
+    assert_eq!(read(&listing, 3, Counts { num_triplets: 5, num_band0: 3, ..SMALL }, [405, 135]), Err(22));
+
+    // what no writer printed
+    let (n, first, flag, weight) = (listing.len(), HEADER.len(), HEADER.len() + 8, HEADER.len() + 10);
+    let with = |at: usize, bytes: usize, by: &[u8]| read(&[&listing[..at], by, &listing[at + bytes..]].concat(), 3, SMALL, [405, 135]);
+    let edits: [(usize, usize, &[u8]); 33] = [
+        (0, n, b""), (0, n, b"refused\t10\n"), (0, first, b""), (first, n - first, b""), (0, 7, b"Triplet"), (first - 2, 1, b"weight"), (0, 0, b"\xef\xbb\xbf"),
+        (flag, 1, b"2"), (flag, 1, b"-1"), (flag, 1, b"00"), (flag, 1, b"+0"), (flag, 1, b""), (flag + 1, 1, b" "), (first + 1, 1, b" "), (flag + 1, 0, b"\t"),
+        (first, 1, b"00"), (first, 1, b"1"), (weight, 1, b""), (weight, 0, b"0"), (n - 17, 1, b"A"), (n - 17, 1, b"g"), (n - 2, 1, b"F"), (n - 1, 1, b""),
+        (n - 1, 1, b"\r\n"), (n - 1, 1, b"\r"), (n - 1, 1, b"\t\n"), (n, 0, b"\n"), (n, 0, b"0"), (first - 1, 1, b"\r\n"), (n - 17, 16, b"7ff8000000000001"),
+        (n - 17, 16, b"fff8000000000000"), (n - 17, 16, b"7ff0000000000001"), (n - 17, 16, b"ffffffffffffffff"),
+    ];
+    for (at, bytes, by) in edits {
+        assert_eq!(with(at, bytes, by), Err(22), "{at} {bytes} {by:?}");
+    }
+    (0..n).for_each(|at| assert_eq!(with(at, 1, b"x"), Err(22)));
+    let lines: Vec<&[u8]> = listing.split_inclusive(|byte| *byte == b'\n').collect();
+    let of = |lines: &[&[u8]]| read(&lines.concat(), 3, SMALL, [405, 135]);
+    assert!(lines.len() == 136 && of(&lines).is_ok());
+    for at in [1, 70, 134] {
+        let (mut less, mut more, mut exchanged) = (lines.clone(), lines.clone(), lines.clone());
+        less.remove(at);
+        more.insert(at, lines[at]);
+        exchanged.swap(at, at + 1);
+        assert_eq!([of(&less), of(&more), of(&exchanged)], [Err(22), Err(22), Err(22)]);
+    }
+
+    // weights that no study has come back too; of the NaNs one is printed
+    for bits in [1 << 63, 0x7ff0 << 48, 0xfff0 << 48, 1, u64::MAX >> 12, 0x7ff8 << 48] {
+        for (at, place) in [(weight, 0), (n - 17, 404)] {
+            let (restored, _) = with(at, 16, format!("{bits:016x}").as_bytes()).unwrap();
+            assert_eq!(restored[place].to_bits(), bits);
+        }
+    }
+    let other: i8 = if flags[0] == 0 { 1 } else { 0 };
+    assert_eq!(with(flag, 1, other.to_string().as_bytes()).unwrap().1[0], other);
+
+    // without triplets: the header alone
+    let empty = Counts { num_triplets: 0, num_band0: 1024, num_band1: 64, num_band2: 64 };
+    for tp_type in 2..5 {
+        assert_eq!(read(HEADER, tp_type, empty, [0, 0]), Ok((vec![], vec![])));
+        assert_eq!([&HEADER[1..], &listing[..], &[]].map(|bytes| read(bytes, tp_type, empty, [0, 0])), [Err(22), Err(22), Err(22)]);
+        assert_eq!(read(HEADER, tp_type, empty, [1, 0]), Err(12));
+    }
 }
 
 /// Test frequencies from a start: one chain over the three, each filled to its own length and no further.

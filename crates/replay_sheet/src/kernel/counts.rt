@@ -1,4 +1,4 @@
-// What is counted and printed: the answers by kind of call, 22 a kind, and the differences at place 0.
+// What is counted and printed: the answers by kind of call, 30 a kind, and the differences at place 0.
 
 fn one_more(n: u64) -> u64 {
     if n < 18446744073709551615 { n + 1 } else { n }
@@ -11,16 +11,16 @@ fn count_at(counts: &mut [u64], k: usize) {
     }
 }
 
-// A refusal with no number counts as 22.
+// A refusal with no number counts as 30, which is none.
 pub fn refusal_of(number: u64) -> u64 {
-    if number == 0 { 22 } else { number }
+    if number == 0 { 30 } else { number }
 }
 
 // Where the answers of a kind of call are counted: 0 done, else the number of the refusal.
 fn place_of(kind: u64, number: u64) -> usize {
     if kind < 6 {
-        if number < 22 {
-            return (kind * 22 + number) as usize;
+        if number < 30 {
+            return (kind * 30 + number) as usize;
         }
     }
     0
@@ -70,10 +70,10 @@ fn print_answer(kind: u64, number: u64, n: u64) {
 }
 
 // A line for each kind of call and answer, and the differences.
-pub fn print_counts(counts: [u64; 132]) {
-    let mut k = 22;
-    while k < 132 {
-        print_answer((k / 22) as u64, (k % 22) as u64, counts[k]);
+pub fn print_counts(counts: [u64; 180]) {
+    let mut k = 30;
+    while k < 180 {
+        print_answer((k / 30) as u64, (k % 30) as u64, counts[k]);
         k += 1;
     }
     io::write_all(1, b"differences\t");

@@ -6,7 +6,7 @@ use Rattle.vectors_sheet.proofs.main.Statement.{statement}
 use Rattle.vectors_sheet.proofs.main.Tie as tie
 
 abbrev Inv-loop : tie.InvT-loop
-Inv-loop counts₀ text₀ blocks₀ counts text blocks = (65536 ≡ length text) × (132 ≡ length counts)
+Inv-loop counts₀ text₀ blocks₀ counts text blocks = (65536 ≡ length text) × (180 ≡ length counts)
 
 abbrev μ-loop : tie.MeasureT-loop
 μ-loop counts₀ text₀ blocks₀ counts text blocks = blocks

@@ -8,7 +8,7 @@ abbrev Inv-loop : tie.InvT-loop
 Inv-loop refused k₀ t4 t5 k = Unit
 
 abbrev μ-loop : tie.MeasureT-loop
-μ-loop refused k₀ t4 t5 k = 21 - k
+μ-loop refused k₀ t4 t5 k = 30 - k
 
 loop-holds : tie.Need-loop-holds Inv-loop μ-loop
 loop-holds c = search needs

@@ -25,11 +25,11 @@ returns : tie.Need-returns
 unfolding refusedMore
 returns c =
     let args = c .before .before .before .args in
-    rw (c .one-more .ensures) (simp (lt-ltb 0 (args .number) (omega arith), lt-ltb (args .number) 21 (omega arith)))
+    rw (c .one-more .ensures) (simp (lt-ltb 0 (args .number) (omega arith), lt-ltb (args .number) 30 (omega arith)))
 
 returns-2 : tie.Need-returns-2
 unfolding refusedMore
-returns-2 c = simp (lt-ltb 0 (c .before .before .args .number) (omega arith), le-ltb (c .before .before .args .number) 21 (omega arith))
+returns-2 c = simp (lt-ltb 0 (c .before .before .args .number) (omega arith), le-ltb (c .before .before .args .number) 30 (omega arith))
 
 returns-3 : tie.Need-returns-3
 unfolding refusedMore

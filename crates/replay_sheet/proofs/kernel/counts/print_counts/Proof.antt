@@ -8,7 +8,7 @@ abbrev Inv-loop : tie.InvT-loop
 Inv-loop counts k₀ t4 t5 k = Unit
 
 abbrev μ-loop : tie.MeasureT-loop
-μ-loop counts k₀ t4 t5 k = 132 - k
+μ-loop counts k₀ t4 t5 k = 180 - k
 
 loop-holds : tie.Need-loop-holds Inv-loop μ-loop
 loop-holds c = search needs

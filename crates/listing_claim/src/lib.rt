@@ -1,0 +1,1 @@
+// The listing and its reader, both directions: proofs/ReadBack.antt. No code.

@@ -1,0 +1,3 @@
+pub mod PassedLaws
+pub mod DigitLaws
+pub mod RowLaws

@@ -1,0 +1,2 @@
+// Bytes expected in a text.
+pub mod kernel;
