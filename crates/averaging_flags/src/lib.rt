@@ -1,2 +1,5 @@
 // Flags averaged over degenerate sets, block by block.
+
+#![tactic(auto)]
+
 pub mod kernel;

@@ -1,4 +1,7 @@
 // A lattice, question 2, and its product with a whole vector.
+
+#![tactic(auto)]
+
 ghost use Rattle.std.specs.Prelude.{◌≡◌};
 ghost use Rattle.common.specs.Matrix.{matvec_answer};
 

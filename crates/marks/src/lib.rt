@@ -1,2 +1,5 @@
 // The marks of a sheet.
+
+#![tactic(auto)]
+
 pub mod kernel;

@@ -1,4 +1,7 @@
 // The leaves that turn a signed number into a bool or an unsigned number once, and the mesh numbers.
+
+#![tactic(auto)]
+
 pub mod kernel;
 
 // Question 2 of document 01: a lattice entry that is not finite, or over 2^30 in magnitude.

@@ -1,4 +1,7 @@
 // The questions of document 01 about a grid, its steps and its table, and how questions are asked in order.
+
+#![tactic(auto)]
+
 pub mod kernel;
 
 pub const BAD_GRID_TYPE: u64 = 3;

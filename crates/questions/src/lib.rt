@@ -1,4 +1,7 @@
 // The questions of document 01 about a study, each a test whose contract is its definition in specs/, and the number of each.
+
+#![tactic(auto)]
+
 pub mod kernel;
 
 // A refusal carries the number of the first question that is answered no. These are the numbers.

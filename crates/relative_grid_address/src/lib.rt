@@ -1,4 +1,7 @@
 // The choice of the neighbour table: the one whose main diagonal is shortest in the reciprocal lattice.
+
+#![tactic(auto)]
+
 ghost use Rattle.std.specs.Prelude.{◌≡◌};
 ghost use Rattle.relative_grid_address.specs.Answer.{table_answer, all_tables};
 

@@ -1,2 +1,5 @@
 // What a replay counts and prints.
+
+#![tactic(auto)]
+
 pub mod kernel;

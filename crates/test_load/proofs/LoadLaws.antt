@@ -8,7 +8,7 @@ use native.Mathlib.Omega.{arith}
 use lib.Dec.{leb→le}
 use lib.Pow.{pow_pos}
 use lib.ListN.{get_or, length}
-use lib.Ieee.{Float, nan, fin, binary64, of_bits, of_int, div, eq, le}
+use lib.Ieee.{Float, nan, fin, binary64, of_bits, of_int, div, eq, le, inf}
 use lib.Ieee.Exact.{HasValue, round_exact}
 use lib.Ieee.Bits.{is_true}
 use lib.Ieee.Order.{le_of_values}
@@ -103,6 +103,8 @@ module _ (low high : Float) (n m : ℕ) (low-is : HasValue low false 1 n) (high_
       and_both {a = le low (fin false a e)} {b = le (fin false a e) high}
       (is_true _ (le_of_values low (fin false a e) 1 n k 4096 (omega (arith, least)) (omega arith) low-is w (low-under k p)))
       (is_true _ (le_of_values (fin false a e) high k 4096 m 1 (omega arith) (omega arith) w high_is (omega (arith, most, q))))
+  between nan k v p q = elim v [ ]
+  between (inf _) k v p q = elim v [ ]
 
   second-yes : (a b : Bool) → b ≡ true → (a || b) ≡ true
   second-yes true b e = refl

@@ -1,4 +1,7 @@
 // Test frequencies that anyone can make again from one number: request 1.
+
+#![tactic(auto)]
+
 ghost use Rattle.std.specs.Prelude.{◌≡◌, ◌+◌, length};
 ghost use Rattle.test_load.specs.Load.{frequencies_from};
 

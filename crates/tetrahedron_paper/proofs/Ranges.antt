@@ -25,10 +25,10 @@ module _ (L : LinearOrdered) where
   yes-below a b e = L.less-below a b (subst T (sym e) tt)
 
   no-below : (a b : C) → L.less a b ≡ false → AtMost O b a
-  no-below a b e p = subst T e (L.Below-less a b p)
+  no-below a b e p = subst T e (L.below_less a b p)
 
   test-yes : (a b : C) → Below O a b → L.less a b ≡ true
-  test-yes a b p = go (L.less a b) (L.Below-less a b p)
+  test-yes a b p = go (L.less a b) (L.below_less a b p)
     where
       go : (t : Bool) → T t → t ≡ true
       go true h = refl

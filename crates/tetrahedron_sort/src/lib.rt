@@ -1,4 +1,7 @@
 // The sort of tetrahedron_method.rs: a row's four values in ascending order, and where its first value lands.
+
+#![tactic(auto)]
+
 pub mod kernel;
 
 // The four values in ascending order, and the place of the first.

@@ -1,4 +1,7 @@
 // Readers of bytes: fields that spell whole numbers or the bits of floats, and the places where a byte stands.
+
+#![tactic(auto)]
+
 pub mod kernel;
 
 // A number without a sign, or a field that spells none.

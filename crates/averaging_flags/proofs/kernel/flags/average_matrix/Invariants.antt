@@ -1,0 +1,18 @@
+-- `averaging_flags::kernel::flags::average_matrix` meets its contract: at each turn the blocks of the sets of rows before
+use mathlib.Core.Path.{◌≡◌}
+use mathlib.Core.Bool.{true}
+use Prim.Native.Nat.{◌≤◌, ◌<◌, ◌-◌}
+use Rattle.degenerate_sets.specs.Sets.{starts_at}
+use Rattle.degenerate_sets.specs.Blocks.{is_first, sets_below, sets_of, products}
+use Rattle.degenerate_sets.specs.Turns.{in_turn}
+use Rattle.averaging_flags.specs.Flags.{flag_in}
+use Rattle.averaging_flags.proofs.kernel.flags.average_matrix.Given as goal
+
+abbrev pub invariant-loop-top : goal.invariant-loop-top
+invariant-loop-top l =
+    (l.top ≤ l.n)
+    × (l.top < l.n → is_first (starts_at l.ids1) l.top ≡ true)
+    × (l.m ≡ in_turn l.n (flag_in l.n) (products (sets_below (starts_at l.ids1) l.n l.top) (sets_of l.n l.ids2)) l.initial.m)
+
+abbrev pub decreases-loop-top : goal.decreases-loop-top
+decreases-loop-top l = l.n - l.top

@@ -1,0 +1,31 @@
+-- `marks::kernel::open_pieces` meets its contract.
+use Prim.Native.Nat.{◌-◌}
+use mathlib.Core.Path.{◌∙◌, ◌≡◌, refl}
+use native.Mathlib.Numerals.{add-one}
+use native.Mathlib.Omega.{arith}
+use Rattle.list_laws.proofs.MapLaws.{count_next}
+use Rattle.list_laws.specs.Lists.{count_below}
+use Rattle.marks.specs.Marks.{is_open_mark, open_pieces}
+use Rattle.marks.proofs.kernel.open_pieces.Goals as goal
+
+pub loop-q-init : goal.loop-q-init
+unfolding count_below
+loop-q-init c =
+    (omega arith, refl)
+
+pub overflow_add-count : goal.overflow_add-count
+unfolding is_open_mark
+overflow_add-count c =
+    let loop = c.loop-q in
+    omega (arith, (count_next loop.q loop.count (is_open_mark c.args.marks.now) loop.invariant.1 c.one_if-count.result (c.one_if-count.ensures ∙ rw c.mark_at.ensures)).0)
+
+pub loop-q-preserved : goal.loop-q-preserved
+unfolding is_open_mark
+loop-q-preserved c =
+    let loop = c.loop-q in
+    (omega arith, rw add-one (count_next loop.q loop.count (is_open_mark c.args.marks.now) loop.invariant.1 c.one_if-count.result (c.one_if-count.ensures ∙ rw c.mark_at.ensures)).1)
+
+pub returns : goal.returns
+unfolding open_pieces
+returns c =
+    let e : c.loop-q.q ≡ c.args.pieces = omega arith in c.loop-q.invariant.1 ∙ rw e

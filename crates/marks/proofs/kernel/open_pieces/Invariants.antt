@@ -1,0 +1,14 @@
+-- `marks::kernel::open_pieces` meets its contract.
+use Prim.Native.Nat.{◌-◌, ◌≤◌}
+use mathlib.Core.Path.{◌≡◌}
+use Rattle.list_laws.specs.Lists.{count_below}
+use Rattle.marks.specs.Marks.{is_open_mark}
+use Rattle.marks.proofs.kernel.open_pieces.Given as goal
+
+abbrev pub invariant-loop-q : goal.invariant-loop-q
+invariant-loop-q l =
+    (l.q ≤ l.pieces) × (l.count ≡ count_below l.q (is_open_mark l.marks))
+
+abbrev pub decreases-loop-q : goal.decreases-loop-q
+decreases-loop-q l =
+    l.pieces - l.q

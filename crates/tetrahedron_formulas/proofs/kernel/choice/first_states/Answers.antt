@@ -1,0 +1,24 @@
+-- `tetrahedron_formulas::kernel::choice::first_states` meets its contract.
+use Rattle.tetrahedron_formulas.specs.Choice.{j_of, n_of}
+use Rattle.tetrahedron_formulas.proofs.ChoiceLaws.{last-times}
+use Rattle.tetrahedron_formulas.proofs.kernel.choice.first_states.Goals as goal
+
+pub returns-in-0 : goal.returns-in-0
+unfolding j_of n_of
+returns-in-0 c =
+    simp (c.in-0.is, c._j_10.ensures, c._f-in-0-2.ensures, c._f-in-0.ensures, c._f.ensures, c._n_1-n.ensures, c._f-f30.ensures, c._f-f20.ensures, c._f-f10.ensures)
+
+pub returns-in-1 : goal.returns-in-1
+unfolding j_of n_of
+returns-in-1 c =
+    simp (c.in-1.is, c._j_11.ensures, c._n_1-n.ensures, c._f-f30.ensures, c._f-f20.ensures, c._f-f10.ensures)
+
+pub returns-in-2 : goal.returns-in-2
+unfolding j_of n_of
+returns-in-2 c =
+    simp (c.in-2.is, c._j_12.ensures, c._n_1-n.ensures, c._f-f30.ensures, c._f-f20.ensures, c._f-f10.ensures)
+
+pub returns-in_default : goal.returns-in_default
+unfolding j_of n_of
+returns-in_default c =
+    simp (c._j_13.ensures, c._n_1-n.ensures, c._f-f30.ensures, c._f-f20.ensures, c._f-f10.ensures) (last-times _ _ _ _ _ _ c.in_default.in_default-own.rest.0.0.1 c.in_default.in_default-own.rest.0.1 c.in_default.in_default-own.rest.1)
