@@ -68,7 +68,7 @@ def source(folder, comments=False):
 def words(marker):
     """{name: the comment above it} of every struct or function under a marker."""
     text = "\n".join(source(c / "src", True) for c in sorted(CRATES.iterdir()))
-    found = re.findall(rf'((?://[^\n]*\n)+){re.escape(marker)}\s*pub (?:extern "C" fn|struct) (\w+)', text)
+    found = re.findall(rf'((?://[^\n]*\n)+){re.escape(marker)}\s*(?:#\[derive\([^)]*\)\]\s*)?pub (?:extern "C" fn|struct) (\w+)', text)
     return {name: " ".join(line[2:].strip() for line in comment.splitlines()) for comment, name in found}
 
 
@@ -96,7 +96,7 @@ def structs():
     """{name: [(field, number, count of an array field or None)]} of every #[repr(C)] struct."""
     text = "\n".join(source(c / "src") for c in sorted(CRATES.iterdir()))
     found = {}
-    for name, body in re.findall(r"#\[repr\(C\)\]\s*pub struct (\w+)\s*\{(.*?)\}", text, re.S):
+    for name, body in re.findall(r"#\[repr\(C\)\]\s*(?:#\[derive\([^)]*\)\]\s*)?pub struct (\w+)\s*\{(.*?)\}", text, re.S):
         assert name not in found, f"two exported structs named {name}"
         fields = [re.fullmatch(r"pub (\w+): (?:(\w+)|\[(\w+); (\d+)\])", f.strip()) for f in body.split(",") if f.strip()]
         found[name] = [(m[1], m[2] or m[3], m[4]) for m in fields]
@@ -106,11 +106,11 @@ def structs():
 def entries():
     """[(name, [(parameter, type)], result)] of every exported function."""
     text, found = source(CRATES / LIBRARY / "src"), []
-    for m in re.finditer(r'#\[no_mangle\]\s*pub extern "C" fn (\w+)\s*\((.*?)\)\s*(?:->\s*(\w+))?\s*(?=ensures|requires|\{)', text, re.S):
+    for m in re.finditer(r'#\[unsafe\(no_mangle\)\]\s*pub extern "C" fn (\w+)\s*\((.*?)\)\s*(?:->\s*(\w+))?\s*(?=ensures|requires|\{)', text, re.S):
         params = [tuple(x.strip() for x in p.split(":", 1)) for p in m[2].split(",") if p.strip()]
         assert "requires" not in text[m.end():m.end() + 9], m[1]
         found.append((m[1], params, m[3]))
-    assert len(found) == text.count("#[no_mangle]"), "an entry was not understood"
+    assert len(found) == text.count("#[unsafe(no_mangle)]"), "an entry was not understood"
     assert (ASKED, [], "u64") in found, ASKED
     return found
 
@@ -146,7 +146,7 @@ def header(kept, fns, questions):
     star = {"value": "%s ", "const": "const %s *", "mut": "%s *"}
     out = [f"/* {NOTE} */", "#ifndef PELMETSAVORY_ENTRIES_H", "#define PELMETSAVORY_ENTRIES_H", "#include <stddef.h>", "#include <stdint.h>", ""]
     out += ["/* The interface version that this header was made for: that of the library must be the same (pelmetsavory_ready). */", f"#define PELMETSAVORY_INTERFACE_VERSION {version()}", ""]
-    said = words("#[repr(C)]") | words("#[no_mangle]")
+    said = words("#[repr(C)]") | words("#[unsafe(no_mangle)]")
     for name, fields in kept:
         out += [f"/* {said[name]} */", "typedef struct {"] + [f"    {t(k)} {f}{f'[{n}]' if n else ''}; /* {FIELDS[f]} */" for f, k, n in fields] + [f"}} {t(name)};", ""]
     for name, params, result in fns:

@@ -2,7 +2,7 @@
 pub mod kernel;
 
 // Done, or the number of the first question that is answered no.
-#[derive(Drop)]
+#[derive(Clone, Copy)]
 pub enum Answer {
     Done,
     Refused(u64),

@@ -1,4 +1,7 @@
 // The part of triplet_iw.rs that averages integration weights over degenerate sets.
+
+#![tactic(auto)]
+
 ghost use Rattle.std.specs.Prelude.{◌≡◌};
 ghost use Rattle.averaging.specs.Answers.{averaging_no, averaging_answer, weights_after, flags_after};
 

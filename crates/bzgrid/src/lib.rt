@@ -1,4 +1,7 @@
 // Neighbouring grid points of a BZ grid, of one point and of many.
+
+#![tactic(auto)]
+
 ghost use Rattle.bzgrid.specs.Calls.{around_in, DidFind, DidFindAll};
 
 pub use ask::Answer;

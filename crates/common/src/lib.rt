@@ -10,7 +10,7 @@ pub use ask::Answer;
 pub mod kernel;
 
 // The answer, and the product beside it, zeros beside a refusal.
-#[derive(Drop)]
+#[derive(Clone, Copy)]
 pub struct MatvecAnswer {
     pub answer: Answer,
     pub vector: [f64; 3],

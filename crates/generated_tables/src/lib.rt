@@ -1,4 +1,7 @@
 // The four neighbour tables made from the four main diagonals of the cell.
+
+#![tactic(auto)]
+
 ghost use Rattle.std.specs.Prelude.{◌≡◌};
 ghost use Rattle.cell_tetrahedra.specs.Rows.{generated_tables};
 

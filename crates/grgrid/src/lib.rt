@@ -1,10 +1,13 @@
 // Generalized regular grid helpers.
+
+#![tactic(auto)]
+
 ghost use Rattle.std.specs.Prelude.{◌≡◌};
 ghost use Rattle.grgrid.specs.Index.{index_answer};
 
 pub mod kernel;
 
-#[derive(Drop)]
+#[derive(Clone, Copy)]
 pub enum IndexAnswer {
     Index(i64),
     Refused(u64),

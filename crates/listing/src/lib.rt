@@ -1,2 +1,5 @@
 // The listing of a sheet, and the line of a refusal, as bytes.
+
+#![tactic(auto)]
+
 pub mod kernel;

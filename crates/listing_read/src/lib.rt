@@ -1,4 +1,7 @@
 // The listing read back: its weights and flags, or a refusal that leaves both buffers as they were.
+
+#![tactic(auto)]
+
 ghost use Rattle.std.specs.Prelude.{◌≡◌, length};
 ghost use Rattle.ask.specs.Answers.{answer_of};
 ghost use Rattle.ask.specs.Lent.{Leaves};

@@ -11,7 +11,7 @@ pub const BAD_LATTICE: u64 = 2;
 pub const BAD_TABLE: u64 = 7;
 
 // Three mesh numbers, tested.
-#[derive(Drop)]
+#[derive(Clone, Copy)]
 pub struct Mesh {
     pub d0: usize,
     pub d1: usize,
@@ -19,7 +19,7 @@ pub struct Mesh {
 }
 
 // A grid address.
-#[derive(Drop)]
+#[derive(Clone, Copy)]
 pub struct Address {
     pub x: i64,
     pub y: i64,

@@ -1,4 +1,7 @@
 // The open count of a triplet: how many of its entries carry scattering.
+
+#![tactic(auto)]
+
 ghost use Rattle.std.specs.Prelude.{◌≡◌};
 ghost use Rattle.open_count.specs.OpenCount.{open_count_answer};
 
@@ -10,7 +13,7 @@ use sheet_counts::kernel::{cells_of, cells_per_triplet};
 pub mod kernel;
 
 // The open count, or the number of the first question that is answered no.
-#[derive(Drop)]
+#[derive(Clone, Copy)]
 pub enum OpenAnswer {
     Open(u64),
     Refused(u64),

@@ -12,7 +12,7 @@ pub mod version;
 
 // A piece as a caller names it: any numbers.
 #[repr(C)]
-#[derive(Drop)]
+#[derive(Clone, Copy)]
 pub struct Piece {
     pub triplet: i64,
     pub b1: i64,
@@ -21,14 +21,14 @@ pub struct Piece {
 
 // Three whole numbers: a triplet, an address, a mesh or a vector.
 #[repr(C)]
-#[derive(Drop)]
+#[derive(Clone, Copy)]
 pub struct Triple {
     pub numbers: [i64; 3],
 }
 
 // The kind and the mesh of a grid.
 #[repr(C)]
-#[derive(Drop)]
+#[derive(Clone, Copy)]
 pub struct Grid {
     pub bz_grid_type: i64,
     pub d_diag: [i64; 3],

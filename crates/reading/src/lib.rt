@@ -1,2 +1,5 @@
 // Bytes expected in a text.
+
+#![tactic(auto)]
+
 pub mod kernel;

@@ -11,7 +11,7 @@ mod diagonal;
 pub mod kernel;
 
 // The answer, and beside it the table's number and its 288 numbers, zeros beside a refusal.
-#[derive(Drop)]
+#[derive(Clone, Copy)]
 pub struct TableAnswer {
     pub answer: Answer,
     pub index: usize,

@@ -8,48 +8,48 @@ ghost use Rattle.replay_input.specs.Fields.{count_at, after_count, bits_at, afte
 ghost use Rattle.list_laws.specs.Lists.{tabulate};
 
 // Where the next field starts.
-#[derive(Drop)]
+#[derive(Clone, Copy)]
 pub struct Cursor {
     pub at: usize,
 }
 
 // A whole number as read, and where the next field starts.
-#[derive(Drop)]
+#[derive(Clone, Copy)]
 pub struct Whole {
     pub value: i64,
     pub next: Cursor,
 }
 
 // Three whole numbers, as an address or a mesh.
-#[derive(Drop)]
+#[derive(Clone, Copy)]
 pub struct Three {
     pub value: [i64; 3],
     pub next: Cursor,
 }
 
 // A number without a sign.
-#[derive(Drop)]
+#[derive(Clone, Copy)]
 pub struct Bits {
     pub value: u64,
     pub next: Cursor,
 }
 
 // A float.
-#[derive(Drop)]
+#[derive(Clone, Copy)]
 pub struct Real {
     pub value: f64,
     pub next: Cursor,
 }
 
 // How many numbers a list put at the start of a buffer.
-#[derive(Drop)]
+#[derive(Clone, Copy)]
 pub struct Listed {
     pub count: usize,
     pub next: Cursor,
 }
 
 // One case: the number it was to be refused with, 0 where it was to be accepted, and whether the answer agrees.
-#[derive(Drop)]
+#[derive(Clone, Copy)]
 pub struct Judged {
     pub refusal: u64,
     pub agrees: bool,

@@ -3,7 +3,7 @@ ghost use Rattle.std.specs.Prelude.{◌≡◌, cond, replicate};
 ghost use Rattle.replay_report.specs.Report.{one_more, refused_more};
 
 // Cases of one kind: how many, how many agree with the stored answer, how many differ, and how many were to be refused, by number.
-#[derive(Drop)]
+#[derive(Clone, Copy)]
 pub struct Count {
     pub cases: u64,
     pub agree: u64,

@@ -150,7 +150,7 @@ pub fn read_sheet(
 }
 
 // Whether a sheet is the stored one, and where that ends.
-#[derive(Drop)]
+#[derive(Clone, Copy)]
 pub struct Agreed {
     pub agrees: bool,
     pub next: Cursor,

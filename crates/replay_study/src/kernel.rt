@@ -6,7 +6,7 @@ use replay_input::kernel as input;
 use replay_input::kernel::Cursor;
 
 // A grid as read: kind, mesh, how many numbers its addresses and its map are, and where the next field starts.
-#[derive(Drop)]
+#[derive(Clone, Copy)]
 pub struct Grid {
     pub kind: i64,
     pub mesh: [i64; 3],
@@ -16,7 +16,7 @@ pub struct Grid {
 }
 
 // How many numbers both frequencies and the points are, and where the next field starts.
-#[derive(Drop)]
+#[derive(Clone, Copy)]
 pub struct Values {
     pub frequencies1: usize,
     pub frequencies2: usize,

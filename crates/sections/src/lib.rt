@@ -1,8 +1,11 @@
 // Lines and sections of a text: a tag and values parted by tabs, and the lines one after another that bear a tag.
+
+#![tactic(auto)]
+
 pub mod kernel;
 
 // What a line is to a section with a tag: a row of it, a line with another tag, or a line with this tag that is not well formed.
-#[derive(Drop)]
+#[derive(Clone, Copy)]
 pub enum Line {
     Row,
     Other,
@@ -10,14 +13,14 @@ pub enum Line {
 }
 
 // A section as read: how many values, and where the next section starts.
-#[derive(Drop)]
+#[derive(Clone, Copy)]
 pub enum Rows {
     Read { count: usize, next: usize },
     Bad,
 }
 
 // A line that stands once, as read: where the next line starts.
-#[derive(Drop)]
+#[derive(Clone, Copy)]
 pub enum One {
     Read { next: usize },
     Bad,

@@ -1,4 +1,7 @@
 // The tally of a run sheet: the accepted runs of each worker.
+
+#![tactic(auto)]
+
 ghost use Rattle.std.specs.Prelude.{◌≡◌};
 ghost use Rattle.sheet_tally.specs.Tallies.{added_to};
 
@@ -7,13 +10,13 @@ use ask::Answer;
 pub mod kernel;
 
 // The tally: a count of accepted runs, repeats included, for each of sixteen workers. A run keeps its worker's count below 2^63.
-#[derive(Drop)]
+#[derive(Clone, Copy)]
 pub struct Tally {
     pub runs: [u64; 16],
 }
 
 // What comes back: the answer, and the tally beside it, the old one after a refusal.
-#[derive(Drop)]
+#[derive(Clone, Copy)]
 pub struct SheetAnswer {
     pub answer: Answer,
     pub tally: Tally,

@@ -4,7 +4,7 @@ use sheet_tally::Tally;
 pub mod kernel;
 
 // What a call leaves beside the sheet: its number, 0 where it is done, the tally, and the triplet whose corners are kept.
-#[derive(Drop)]
+#[derive(Clone, Copy)]
 pub struct Turn {
     pub no: u64,
     pub tally: Tally,

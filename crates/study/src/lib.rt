@@ -4,7 +4,7 @@ pub mod kernel;
 pub use study_head::Head;
 
 // The sections `addr` and `map` as read: how many numbers each, and where the next section starts.
-#[derive(Drop)]
+#[derive(Clone, Copy)]
 pub enum GridRead {
     Read {
         addresses: usize,
@@ -15,7 +15,7 @@ pub enum GridRead {
 }
 
 // The sections `f1`, `f2` and `point` as read: how many floats each, and where the next section starts.
-#[derive(Drop)]
+#[derive(Clone, Copy)]
 pub enum FloatsRead {
     Read {
         f1: usize,
@@ -27,7 +27,7 @@ pub enum FloatsRead {
 }
 
 // A study as read: its head, and how many numbers each section has.
-#[derive(Drop)]
+#[derive(Clone, Copy)]
 pub enum StudyRead {
     Read {
         head: Head,

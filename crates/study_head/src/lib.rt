@@ -1,8 +1,11 @@
 // The lines of a study that stand once, read from its text: question 1 of document 01.
+
+#![tactic(auto)]
+
 pub mod kernel;
 
 // The numbers of the lines that stand once: `grid`, `diag`, `type`, `bands`.
-#[derive(Drop)]
+#[derive(Clone, Copy)]
 pub struct Head {
     pub bz_grid_type: i64,
     pub d0: i64,
@@ -15,7 +18,7 @@ pub struct Head {
 }
 
 // The lines that stand once as read, and where the next line starts.
-#[derive(Drop)]
+#[derive(Clone, Copy)]
 pub enum HeadRead {
     Read { head: Head, next: usize },
     Bad,

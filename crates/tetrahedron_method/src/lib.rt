@@ -1,4 +1,7 @@
 // The tetrahedron method: integration weights from the vertex values of rows of tetrahedra.
+
+#![tactic(auto)]
+
 ghost use Rattle.std.specs.Prelude.{◌≡◌};
 ghost use Rattle.tetrahedron_method.specs.Answer.{integration_weight_answer};
 
@@ -7,13 +10,13 @@ pub use relative_grid_address::{TableAnswer, all_relative_grid_address, relative
 pub mod kernel;
 
 // Which weight: I times the density g, or J times the number of states n.
-#[derive(Drop)]
+#[derive(Clone, Copy)]
 pub enum WeightFunction {
     I,
     J,
 }
 
-#[derive(Drop)]
+#[derive(Clone, Copy)]
 pub enum WeightAnswer {
     Weight(f64),
     Refused(u64),

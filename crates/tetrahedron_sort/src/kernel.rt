@@ -6,7 +6,7 @@ ghost use Rattle.tetrahedron_sort.specs.Sort.{low2, high2, place_by, sort_of};
 use crate::SortedOmegas;
 
 // Two values in order, and whether they had to change places.
-#[derive(Drop)]
+#[derive(Clone, Copy)]
 struct OrderedPair {
     low: f64,
     high: f64,

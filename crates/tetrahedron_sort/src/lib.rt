@@ -5,7 +5,7 @@
 pub mod kernel;
 
 // The four values in ascending order, and the place of the first.
-#[derive(Drop)]
+#[derive(Clone, Copy)]
 pub struct SortedOmegas {
     pub omegas: [f64; 4],
     pub place: usize,

@@ -5,14 +5,14 @@
 pub mod kernel;
 
 // A number without a sign, or a field that spells none.
-#[derive(Drop)]
+#[derive(Clone, Copy)]
 pub enum Magnitude {
     Is(u64),
     Bad,
 }
 
 // A whole number, or a field that spells none.
-#[derive(Drop)]
+#[derive(Clone, Copy)]
 pub enum Whole {
     Is(i64),
     Bad,

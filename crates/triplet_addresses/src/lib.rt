@@ -1,4 +1,7 @@
 // Addresses of triplets: whether they add to zero, and both copies of the neighbour table.
+
+#![tactic(auto)]
+
 ghost use Rattle.std.specs.Prelude.{◌≡◌, length};
 ghost use Rattle.ask.specs.Ask.{first_no, after_call};
 ghost use Rattle.ask.specs.Answers.{answer_of};
@@ -10,7 +13,7 @@ pub use ask::Answer;
 mod copies;
 mod normal;
 
-#[derive(Drop)]
+#[derive(Clone, Copy)]
 pub enum IsNAnswer {
     Normal(bool),
     Refused(u64),

@@ -1,4 +1,7 @@
 // A study: its numbers as a caller gives them, tested by questions 3 to 12, and the counts of a tested one.
+
+#![tactic(auto)]
+
 use bzgrid_lookup::BzGrid;
 use triplet_types::TpType;
 
@@ -6,7 +9,7 @@ pub mod kernel;
 
 // The numbers of a study: any values, tested by the questions.
 #[repr(C)]
-#[derive(Drop)]
+#[derive(Clone, Copy)]
 pub struct Shape {
     pub bz_grid_type: i64,
     pub d_diag: [i64; 3],
@@ -16,7 +19,7 @@ pub struct Shape {
 }
 
 // The counts of a tested study. Weights lie by channel, triplet, point, b1, b2; flags without the channel.
-#[derive(Drop)]
+#[derive(Clone, Copy)]
 pub struct Sizes {
     pub channels: usize,
     pub triplets: usize,

@@ -1,11 +1,14 @@
 // The type of a triplet: question 8, and how many output channels it has.
+
+#![tactic(auto)]
+
 ghost use Rattle.std.specs.Prelude.{◌≡◌};
 ghost use Rattle.triplet_types.specs.Types.{tp_type_answer, channel_count};
 
 pub mod kernel;
 
 // What the weights are for.
-#[derive(Drop)]
+#[derive(Clone, Copy)]
 pub enum TpType {
     Type2,
     Type3,
@@ -13,7 +16,7 @@ pub enum TpType {
 }
 
 // A type, or the number of question 8.
-#[derive(Drop)]
+#[derive(Clone, Copy)]
 pub enum TpTypeAnswer {
     Known(TpType),
     Refused(u64),

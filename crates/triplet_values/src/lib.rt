@@ -1,8 +1,11 @@
 // Corner values of a band pair, and the box of a channel.
+
+#![tactic(auto)]
+
 pub mod kernel;
 
 // The least and the greatest of a channel's values.
-#[derive(Drop)]
+#[derive(Clone, Copy)]
 pub struct ValueBox {
     pub fmin: f64,
     pub fmax: f64,

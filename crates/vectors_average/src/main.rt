@@ -180,7 +180,7 @@ fn flag_runs_are(flags: &[i8], lengths: &[i64], runs: &[i64]) -> bool {
 }
 
 // Where the parts of a record on one buffer start.
-#[derive(Drop)]
+#[derive(Clone, Copy)]
 struct Buffer {
     room: usize,
     given: Cursor,

@@ -258,7 +258,7 @@ fn neighbour_case(text: &[u8], grid: Cursor, c: Cursor, record: u64) -> Judged {
     crowd_case(text, c, k, d, &addresses[..p], &map[..v])
 }
 
-#[derive(Drop)]
+#[derive(Clone, Copy)]
 struct Counts {
     index: Count,
     one: Count,

@@ -420,7 +420,7 @@ fn copies_case(text: &[u8], c: Cursor) -> Judged {
     }
 }
 
-#[derive(Drop)]
+#[derive(Clone, Copy)]
 struct Counts {
     weights: Count,
     normal: Count,

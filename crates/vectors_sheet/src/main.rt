@@ -29,7 +29,7 @@ use sheet::{Answer, SheetAnswer, Tally};
 // ---- the calls
 
 // What a call gave: the number of its refusal, 0 where it is done, and the tally afterwards.
-#[derive(Drop)]
+#[derive(Clone, Copy)]
 struct Made {
     number: u64,
     tally: Tally,
@@ -52,7 +52,7 @@ fn made_of(done: SheetAnswer) -> Made {
 }
 
 // Where the records of the grid, the table and the study start.
-#[derive(Drop)]
+#[derive(Clone, Copy)]
 struct Places {
     grid: Cursor,
     rows: Cursor,
@@ -109,7 +109,7 @@ fn checked(number: u64, agrees: bool) -> u64 {
 }
 
 // What a call gave, and where the record of what it is to give starts.
-#[derive(Drop)]
+#[derive(Clone, Copy)]
 struct Called {
     number: u64,
     tally: Tally,

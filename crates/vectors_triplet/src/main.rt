@@ -408,7 +408,7 @@ fn weights_case(text: &[u8], grid: Cursor, study: Cursor, c: Cursor, record: u64
     study_case(text, study, c, record, k, d, &addresses[..p], &map[..v])
 }
 
-#[derive(Drop)]
+#[derive(Clone, Copy)]
 struct Counts {
     all: Count,
     one: Count,

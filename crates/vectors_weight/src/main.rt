@@ -46,7 +46,7 @@ fn function_of(number: u64) -> WeightFunction {
 }
 
 // Four values of a record.
-#[derive(Drop)]
+#[derive(Clone, Copy)]
 struct Row {
     values: [f64; 4],
     next: Cursor,
@@ -210,7 +210,7 @@ fn table_agrees(answer: TableAnswer, refusal: u64, number: u64) -> bool {
 }
 
 // A lattice of a record.
-#[derive(Drop)]
+#[derive(Clone, Copy)]
 struct Lattice {
     first: [f64; 3],
     second: [f64; 3],
@@ -318,7 +318,7 @@ fn case_of(text: &[u8], vertices: Cursor, c: Cursor, record: u64) -> Judged {
     }
 }
 
-#[derive(Drop)]
+#[derive(Clone, Copy)]
 struct Counts {
     sort: Count,
     weight: Count,

@@ -1,2 +1,5 @@
 // Bytes written into a lent buffer.
+
+#![tactic(auto)]
+
 pub mod kernel;

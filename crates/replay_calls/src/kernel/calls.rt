@@ -6,7 +6,7 @@ use replay_input::kernel::{Bits, Cursor, Listed};
 use sheet::{Shape, SheetAnswer, Tally};
 
 // What a call names: its kind, a worker, a triplet and two bands; 0 where its kind names none.
-#[derive(Drop)]
+#[derive(Clone, Copy)]
 pub struct Call {
     pub kind: u64,
     pub worker: i64,
@@ -112,7 +112,7 @@ pub fn call_made(
 }
 
 // A call as read, and where the next field starts.
-#[derive(Drop)]
+#[derive(Clone, Copy)]
 pub struct CallRead {
     pub call: Call,
     pub next: Cursor,

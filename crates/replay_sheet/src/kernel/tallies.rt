@@ -10,7 +10,7 @@ use replay_input::kernel::Cursor;
 use sheet_tally::Tally;
 
 // A tally as read, and where the next field starts.
-#[derive(Drop)]
+#[derive(Clone, Copy)]
 pub struct TallyRead {
     pub tally: Tally,
     pub next: Cursor,

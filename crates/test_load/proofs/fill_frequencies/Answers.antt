@@ -8,28 +8,14 @@ use Rattle.test_load.proofs.fill_frequencies.Goals as goal
 
 pub returns-clause-frequencies2_after : goal.returns-clause-frequencies2_after
 returns-clause-frequencies2_after c =
-    (let n1 = length c.args.frequencies1.now in
-    let n2 = length c.args.frequencies2.now in
-    let n3 = length c.args.frequency_points.now in
-    let first : c.fill-first.result ≡ after c.args.start n1 = c.fill-first.ensures.value.0 in
-    let second : c.fill-second.result ≡ after c.args.start (n1 + n2) = c.fill-second.ensures.value.0 ∙ ap (λ (x : ℕ). after x n2) first ∙ after-after c.args.start n1 n2 in (
-      c.fill-first.ensures.frequencies_after,
-      (
-        c.fill-second.ensures.frequencies_after ∙ ap (λ (x : ℕ). frequencies_from x 0 n2) first ∙ goes_on c.args.start n1 n2,
-        c.fill.ensures.frequencies_after ∙ ap (λ (x : ℕ). frequencies_from x 0 n3) second ∙ goes_on c.args.start (n1 + n2) n3,
-      ),
-    )).1
+    c.fill-second.ensures.frequencies_after
+    ∙ ap (λ (x : ℕ). frequencies_from x 0 (length c.args.frequencies2.now)) c.fill-first.ensures.value.0
+    ∙ goes_on c.args.start (length c.args.frequencies1.now) (length c.args.frequencies2.now)
 
 pub returns-clause-frequency_points_after : goal.returns-clause-frequency_points_after
 returns-clause-frequency_points_after c =
-    (let n1 = length c.args.frequencies1.now in
+    let n1 = length c.args.frequencies1.now in
     let n2 = length c.args.frequencies2.now in
     let n3 = length c.args.frequency_points.now in
-    let first : c.fill-first.result ≡ after c.args.start n1 = c.fill-first.ensures.value.0 in
-    let second : c.fill-second.result ≡ after c.args.start (n1 + n2) = c.fill-second.ensures.value.0 ∙ ap (λ (x : ℕ). after x n2) first ∙ after-after c.args.start n1 n2 in (
-      c.fill-first.ensures.frequencies_after,
-      (
-        c.fill-second.ensures.frequencies_after ∙ ap (λ (x : ℕ). frequencies_from x 0 n2) first ∙ goes_on c.args.start n1 n2,
-        c.fill.ensures.frequencies_after ∙ ap (λ (x : ℕ). frequencies_from x 0 n3) second ∙ goes_on c.args.start (n1 + n2) n3,
-      ),
-    )).2
+    let second : c.fill-second.result ≡ after c.args.start (n1 + n2) = c.fill-second.ensures.value.0 ∙ ap (λ (x : ℕ). after x n2) c.fill-first.ensures.value.0 ∙ after-after c.args.start n1 n2 in
+    c.fill.ensures.frequencies_after ∙ ap (λ (x : ℕ). frequencies_from x 0 n3) second ∙ goes_on c.args.start (n1 + n2) n3

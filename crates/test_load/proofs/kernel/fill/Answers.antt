@@ -3,7 +3,7 @@ use lib.ListN.{length, length-set}
 use mathlib.Core.Path.{◌∙◌, ◌≡◌, ap, refl, sym}
 use native.Mathlib.Numerals.{add-one}
 use native.Mathlib.Omega.{arith}
-use Prim.Native.Nat.{suc, ◌+◌, ◌-◌, ◌≤◌}
+use Prim.Native.Nat.{suc, ◌+◌, ◌≤◌}
 use Rattle.list_laws.proofs.FillLaws.{front-all, front-next, front-none}
 use Rattle.test_load.proofs.LoadLaws.{after_none, after_next, next-number}
 use Rattle.test_load.specs.Load.{next, after, frequency, frequency_at, frequencies_from}

@@ -2,7 +2,7 @@
 use mathlib.Core.Path.{◌∙◌}
 use native.Mathlib.Omega.{arith}
 use Rattle.text.proofs.FieldLaws.{magnitude-none, magnitude-zero, magnitude-one, magnitude-more}
-use Rattle.text.proofs.kernel.parse_magnitude.Goals.{then-s-gt1, else-s-gt1}
+use Rattle.text.proofs.kernel.parse_magnitude.Goals.{then-s-gt1+else-s-eq48, else-s-gt1}
 use Rattle.text.proofs.kernel.parse_magnitude.Goals as goal
 
 pub returns-then-s-eq0 : goal.returns-then-s-eq0
@@ -15,6 +15,6 @@ pub returns : goal.returns
 returns c =
     c.parse_digits.ensures
     ∙ elim c.if-s-gt1.branch [
-      then-s-gt1 w ↦ magnitude-more c.args.s.now (omega arith) w.if-s-eq48.false
+      | then-s-gt1+else-s-eq48 w ↦ magnitude-more c.args.s.now (omega arith) w.if-s-eq48.false
       | else-s-gt1 w ↦ magnitude-one c.args.s.now c.if-s-eq0.false (omega arith)
     ]

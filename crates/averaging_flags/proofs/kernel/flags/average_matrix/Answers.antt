@@ -1,7 +1,5 @@
 -- `averaging_flags::kernel::flags::average_matrix` meets its contract: at each turn the blocks of the sets of rows before
 use mathlib.Core.Path.{refl}
-use mathlib.Core.Bool.{true}
-use Prim.Native.Nat.{◌-◌}
 use native.Mathlib.Omega.{arith}
 use Rattle.degenerate_sets.specs.Sets.{starts_at}
 use Rattle.degenerate_sets.specs.Blocks.{sets_of}
@@ -25,3 +23,7 @@ loop-top-preserved c =
       next-first _ c.loop-top-test.true c.set_end-bottom.ensures,
       rows-turn c.args.n (flag_in c.args.n) _ _ _ _ c.args.m.now c.loop-top.m _ c.loop-top-test.true (c.loop-top.invariant.1 c.loop-top-test.true) c.set_end-bottom.ensures c.loop-top.invariant.2 c.average_rows.ensures,
     )
+
+pub average_rows-requires-clause-top_le_bottom : goal.average_rows-requires-clause-top_le_bottom
+average_rows-requires-clause-top_le_bottom c =
+    omega (arith, next-bounds (starts_at _) c.loop-top-test.true c.set_end-bottom.ensures)

@@ -1,7 +1,5 @@
 -- `averaging_flags::kernel::flags::average_rows` meets its contract: at each turn the blocks of the sets of columns before
 use mathlib.Core.Path.{refl}
-use mathlib.Core.Bool.{true}
-use Prim.Native.Nat.{◌-◌}
 use native.Mathlib.Omega.{arith}
 use Rattle.degenerate_sets.specs.Sets.{starts_at}
 use Rattle.degenerate_sets.specs.Blocks.{degenerate_set}
@@ -25,3 +23,7 @@ loop-left-preserved c =
       next-first _ c.loop-left-test.true c.set_end-right.ensures,
       columns-turn c.args.n (flag_in c.args.n) _ _ _ _ c.args.m.now c.loop-left.m _ c.loop-left-test.true (c.loop-left.invariant.1 c.loop-left-test.true) c.set_end-right.ensures c.loop-left.invariant.2 c.average_block.ensures,
     )
+
+pub average_block-requires-clause-left_le_right : goal.average_block-requires-clause-left_le_right
+average_block-requires-clause-left_le_right c =
+    omega (arith, next-bounds (starts_at _) c.loop-left-test.true c.set_end-right.ensures)

@@ -1,5 +1,4 @@
 -- `averaging_flags::kernel::flags::clear_block` meets its contract: at each turn the block's rows before r are cleared.
-use Prim.Native.Nat.{◌-◌}
 use native.Mathlib.Omega.{arith}
 use Rattle.list_laws.proofs.MatrixLaws.{block_more}
 use Rattle.averaging_flags.proofs.kernel.flags.clear_block.Goals as goal

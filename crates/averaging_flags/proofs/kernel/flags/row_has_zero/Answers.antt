@@ -1,6 +1,7 @@
 -- `averaging_flags::kernel::flags::row_has_zero` meets its contract: at each turn `found` speaks of the first i flags.
+use borrow.Author.Rules.{rules}
 use mathlib.Core.Path.{refl}
-use Prim.Native.Nat.{◌-◌, ◌+◌}
+use Prim.Native.Nat.{◌+◌}
 use native.Mathlib.Numerals.{add-one}
 use native.Mathlib.Omega.{arith}
 use lib.IntN.{pos}
@@ -17,5 +18,5 @@ loop-i-init c = (omega arith, refl)
 pub loop-i-preserved : goal.loop-i-preserved
 unfolding row_has_zero
 loop-i-preserved c =
-    let same = eqb-signed w8 (get_or c.args.m.now (c.args.from + c.loop-i.i) (pos 0)) (pos 0) c.found-1.given (omega arith) in
+    let same = eqb-signed w8 (get_or c.args.m.now (c.args.from + c.loop-i.i) (pos 0)) (pos 0) (search rules) (omega arith) in
     (omega arith, rw add-one (cc (c.loop-i.invariant.1, same)))

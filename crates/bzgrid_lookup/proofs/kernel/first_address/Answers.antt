@@ -1,0 +1,18 @@
+-- `bzgrid_lookup::kernel::first_address` meets its contract.
+use Prim.Native.Nat.{◌-◌}
+use mathlib.Core.Path.{◌∙◌, sym}
+use native.Mathlib.Omega.{arith}
+use Rattle.list_laws.proofs.FirstLaws.{first-end, first-hit, first-miss}
+use Rattle.bzgrid_lookup.proofs.kernel.first_address.Goals as goal
+
+pub loop-k-preserved : goal.loop-k-preserved
+loop-k-preserved c =
+    c.loop-k.invariant ∙ first-miss _ c.loop-k.k c.args.hi _ (omega arith) (sym c.same_address.ensures ∙ c.if-same_address.false)
+
+pub returns-then-hi-k : goal.returns-then-hi-k
+returns-then-hi-k c =
+    sym (c.loop-k.invariant ∙ first-end _ c.loop-k.k c.args.hi c.args.lo (omega arith))
+
+pub returns-then-same_address : goal.returns-then-same_address
+returns-then-same_address c =
+    sym (c.loop-k.invariant ∙ first-hit _ c.loop-k.k c.args.hi c.args.lo (omega arith) (sym c.same_address.ensures ∙ c.if-same_address.true))

@@ -1,0 +1,24 @@
+-- `listing_line::kernel::weight_at` meets its contract.
+use Prim.Native.Nat.{ℕ, ◌+◌, ◌-◌}
+use lib.Ieee.{div, of_bits}
+use lib.ListN.{drop, take}
+use mathlib.Core.Path.{◌∙◌, ◌≡◌, ap, sym}
+use native.Mathlib.Omega.{arith}
+use Rattle.text.specs.Fields.{bits}
+use Rattle.listing_line.specs.Lines.{float_of, weight_here}
+use Rattle.listing_line.proofs.LineLaws.{weight_is}
+use Rattle.listing_line.proofs.kernel.weight_at.Goals.{After-parse_bits}
+use Rattle.listing_line.proofs.kernel.weight_at.Goals as goal
+
+read : (c : After-parse_bits) → float_of c.parse_bits.result ≡ weight_here c.args.text.now c.args.at
+read c =
+    let q : c.args.at + 16 - c.args.at ≡ 16 = omega arith in
+    weight_is c.args.text.now c.args.at 0 c.parse_bits.result (c.parse_bits.ensures ∙ ap (λ (k : ℕ). bits (take k (drop c.args.at c.args.text.now))) q)
+
+pub returns-in-Is : goal.returns-in-Is
+returns-in-Is c =
+    c.float_of.ensures ∙ (sym (ap float_of c.in-Is.is) ∙ read (goal.at.returns-in-Is c).After-parse_bits)
+
+pub returns-in-Bad : goal.returns-in-Bad
+unfolding of_bits div
+returns-in-Bad c = sym (ap float_of c.in-Bad.is) ∙ read (goal.at.returns-in-Bad c).After-parse_bits

@@ -1,0 +1,14 @@
+-- `listing_read::kernel::restore::restore_weights` meets its contract.
+use Prim.Native.Nat.{◌+◌, ◌-◌, ◌*◌, ◌≤◌}
+use lib.Ieee.{nan}
+use Rattle.list_laws.specs.Columns.{InColumn}
+use Rattle.list_laws.specs.Matrix.{Replaced}
+use Rattle.listing_line.specs.Lines.{weight_here}
+use Rattle.listing_read.proofs.kernel.restore.restore_weights.Given as goal
+
+abbrev pub invariant-loop-c : goal.invariant-loop-c
+invariant-loop-c l =
+    (l.c ≤ l.channels) × Replaced nan l.cells (InColumn l.c l.e) (λ l.c k. weight_here l.text (l.at + 17 * l.c)) l.initial.weights l.weights
+
+abbrev pub decreases-loop-c : goal.decreases-loop-c
+decreases-loop-c l = l.channels - l.c

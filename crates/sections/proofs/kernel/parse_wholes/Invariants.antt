@@ -1,0 +1,17 @@
+-- `sections::kernel::parse_wholes` meets its contract.
+use Prim.Native.Nat.{◌-◌, ◌≤◌}
+use mathlib.Core.Path.{◌≡◌}
+use lib.ListN.{length, take, drop}
+use Rattle.text.specs.Pieces.{split_from}
+use Rattle.sections.specs.Lines.{values, whole_field, front}
+use Rattle.sections.proofs.kernel.parse_wholes.Given as goal
+
+abbrev pub invariant-loop-i : goal.invariant-loop-i
+invariant-loop-i l =
+    (l.i ≤ l.count)
+    × (length l.out ≡ length l.initial.out)
+    × (take l.at l.out ≡ take l.at l.initial.out)
+    × (front (take l.i (drop l.at l.out)) (values whole_field (l.count - l.i) (split_from 9 l.line l.from)) ≡ values whole_field l.count (split_from 9 l.line l.p))
+
+abbrev pub decreases-loop-i : goal.decreases-loop-i
+decreases-loop-i l = l.count - l.i
