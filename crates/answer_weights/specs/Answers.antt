@@ -4,7 +4,7 @@ use Rattle.ask.specs.Ask.{first_no}
 use Rattle.triplet_study.specs.declared.Sizes.{Sizes}
 use Rattle.triplet_study.specs.Study.{Study, sizes_of}
 use Rattle.triplet_study.specs.Tested.{Ready}
-use Rattle.ask.specs.Lent.{Lent}
+use Rattle.ask.specs.Lent.{LentMut}
 use Rattle.triplet_iw.specs.Whole.{all_weights, all_flags}
 use Rattle.listing.specs.Listings.{listing_of, refusal_of}
 use Rattle.writing.specs.Written.{written}
@@ -28,5 +28,5 @@ abbrev pub Listable : Study → Sizes → ℕ → ℕ → Type 0
 Listable s z weights flags = Ready s z weights flags × (length (listing_for s) ≤ 118617)
 
 -- bytes written at the start of a buffer, and their count given
-abbrev pub Wrote : List ℕ → Lent ℕ → ℕ → Type 0
+abbrev pub Wrote : List ℕ → LentMut ℕ → ℕ → Type 0
 Wrote bytes out count = (count ≡ length bytes) × (out.exit.now ≡ written 0 bytes out.entry.now)

@@ -1,4 +1,7 @@
 // The tetrahedron method at grid points: integration weights by grid point, frequency point and band.
+
+#![tactic(auto)]
+
 ghost use Rattle.grid_point_weights.specs.Calls.{call_in, DidWeigh};
 
 pub use ask::Answer;

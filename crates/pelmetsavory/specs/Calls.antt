@@ -1,13 +1,13 @@
 -- What a call did, as a status and what it left.
 use Rattle.std.specs.Prelude.{◌≡◌, List, ℕ, Float, ℤ}
 use Rattle.triplet_study.specs.Study.{Study}
-use Rattle.ask.specs.Lent.{Lent}
+use Rattle.ask.specs.Lent.{LentMut}
 use Rattle.triplet_iw.specs.Calls.{weights_no, AreFilled}
 use Rattle.bzgrid.specs.Calls.{Around, point_no, found, many_no, all_found}
 use Rattle.grid_point_weights.specs.Calls.{GridPointCall, grid_point_no, weighed}
 
 -- what a call for weights and flags did: the status, and what it left
-abbrev pub CalledFill : Study → Lent Float → Lent ℤ → ℕ → Type 0
+abbrev pub CalledFill : Study → LentMut Float → LentMut ℤ → ℕ → Type 0
 CalledFill s weights flags status = (status ≡ weights_no s weights.entry.now flags.entry.now) × AreFilled s weights flags
 
 -- a call for the neighbours of one point

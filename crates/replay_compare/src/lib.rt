@@ -1,2 +1,5 @@
 // Comparing an answer with a stored one.
+
+#![tactic(auto)]
+
 pub mod kernel;

@@ -1,2 +1,5 @@
 // The records of a grid and of a study's values, for the programs that replay stored answers.
+
+#![tactic(auto)]
+
 pub mod kernel;

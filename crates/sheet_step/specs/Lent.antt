@@ -1,12 +1,12 @@
 -- A sheet as a contract names it: the lent lists at a call's entry and at its exit.
 use Rattle.std.specs.Prelude.{List, ℕ, Float, ℤ}
-use Rattle.ask.specs.Lent.{Lent}
+use Rattle.ask.specs.Lent.{LentMut}
 use Rattle.sheet_step.specs.Steps.{Sheet, sheet}
 
 -- the sheet that a call takes, with a tally
-abbrev pub sheet_in : Lent Float → Lent ℤ → Lent ℕ → List ℕ → Sheet
+abbrev pub sheet_in : LentMut Float → LentMut ℤ → LentMut ℕ → List ℕ → Sheet
 sheet_in weights flags marks tally = sheet weights.entry.now flags.entry.now marks.entry.now tally
 
 -- and the sheet that it leaves
-abbrev pub sheet_out : Lent Float → Lent ℤ → Lent ℕ → List ℕ → Sheet
+abbrev pub sheet_out : LentMut Float → LentMut ℤ → LentMut ℕ → List ℕ → Sheet
 sheet_out weights flags marks tally = sheet weights.exit.now flags.exit.now marks.exit.now tally

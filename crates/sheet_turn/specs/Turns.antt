@@ -1,6 +1,6 @@
 -- One call on its way: the sheet as it finds it, and what is made once for all calls.
 use Rattle.std.specs.Prelude.{◌≡◌, List, ℕ, Float, ℤ, length}
-use Rattle.std.specs.Borrow.{Bor}
+use Rattle.std.specs.Borrow.{MutBor}
 use Rattle.ask.specs.Ask.{first_no}
 use Rattle.triplet_study.specs.declared.Sizes.{Sizes}
 use Rattle.triplet_study.specs.Study.{Study, sizes_of}
@@ -8,7 +8,7 @@ use Rattle.triplet_corners.specs.Corners.{second_steps}
 use Rattle.sheet_step.specs.Steps.{Sheet, sheet, common_questions}
 
 -- the sheet of lists that are lent, as a `requires` names them
-abbrev pub sheet_now : Bor (List Float) → Bor (List ℤ) → Bor (List ℕ) → List ℕ → Sheet
+abbrev pub sheet_now : MutBor (List Float) → MutBor (List ℤ) → MutBor (List ℕ) → List ℕ → Sheet
 sheet_now weights flags marks tally = sheet weights.now flags.now marks.now tally
 
 -- 3 to 13, which every call asks: the number of the first no, or 0

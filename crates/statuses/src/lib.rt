@@ -1,5 +1,8 @@
 // What a caller of another language is told: a status, 0 or the number of the first question that is answered no, and the value behind a
 // reference, which a refusal leaves as it was.
+
+#![tactic(auto)]
+
 pub mod choice;
 pub mod grids;
 pub mod sheets;

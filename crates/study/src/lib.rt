@@ -1,4 +1,7 @@
 // The study that a text holds: question 1 of document 01.
+
+#![tactic(auto)]
+
 pub mod kernel;
 
 pub use study_head::Head;

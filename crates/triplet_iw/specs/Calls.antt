@@ -5,7 +5,7 @@ use Rattle.ask.specs.Answers.{answer_of}
 use Rattle.ask.specs.Ask.{Question, asks, first_no}
 use Rattle.triplet_study.specs.Study.{Study, sizes_of}
 use Rattle.triplet_study.specs.Questions.{study_questions, are_lengths}
-use Rattle.ask.specs.Lent.{Lent, Leaves}
+use Rattle.ask.specs.Lent.{LentMut, Leaves}
 use Rattle.triplet_iw.specs.Whole.{all_weights, all_flags}
 
 -- 3 to 11 of the study, then 12: "Is each lent buffer exactly as long as its record?"
@@ -17,11 +17,11 @@ abbrev pub weights_no : Study → List Float → List ℤ → ℕ
 weights_no s weights flags = first_no (weights_questions s (length weights) (length flags))
 
 -- what it leaves in the lent buffers: all weights and all flags, and after a refusal their old content
-abbrev pub AreFilled : Study → Lent Float → Lent ℤ → Type 0
+abbrev pub AreFilled : Study → LentMut Float → LentMut ℤ → Type 0
 AreFilled s weights flags =
     Leaves (weights_no s weights.entry.now flags.entry.now) (all_weights s) weights
     × Leaves (weights_no s weights.entry.now flags.entry.now) (all_flags s) flags
 
 -- What a call did: its answer, and what it left.
-abbrev pub DidFill : Study → Lent Float → Lent ℤ → Answer → Type 0
+abbrev pub DidFill : Study → LentMut Float → LentMut ℤ → Answer → Type 0
 DidFill s weights flags answer = (answer ≡ answer_of (weights_no s weights.entry.now flags.entry.now)) × AreFilled s weights flags

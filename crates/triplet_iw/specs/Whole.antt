@@ -2,7 +2,7 @@
 use Rattle.std.specs.Prelude.{◌≡◌, List, ◌*◌, Float, ℤ}
 use Rattle.list_laws.specs.Lists.{tabulate}
 use Rattle.triplet_study.specs.Study.{Study, sizes_of}
-use Rattle.ask.specs.Lent.{Lent}
+use Rattle.ask.specs.Lent.{LentMut}
 use Rattle.triplet_piece.specs.Weights.{weight_at, flag_at}
 
 -- "Weights lie by channel, triplet, point, b1, b2"
@@ -14,5 +14,5 @@ unfoldable pub all_flags : Study → List ℤ
 all_flags s = tabulate (sizes_of s).cells (flag_at s)
 
 -- a call computes all of them
-abbrev pub ComputesAll : Study → Lent Float → Lent ℤ → Type 0
+abbrev pub ComputesAll : Study → LentMut Float → LentMut ℤ → Type 0
 ComputesAll s weights flags = (weights.exit.now ≡ all_weights s) × (flags.exit.now ≡ all_flags s)

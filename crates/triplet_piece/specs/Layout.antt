@@ -5,7 +5,7 @@ use Rattle.list_laws.specs.Patch.{patch}
 use Rattle.triplet_outputs.specs.declared.Outputs.{Outputs}
 use Rattle.triplet_values.specs.Values.{area_at}
 use Rattle.triplet_study.specs.declared.Sizes.{Sizes}
-use Rattle.ask.specs.Lent.{Lent}
+use Rattle.ask.specs.Lent.{LentMut}
 
 -- of cell j, with so many points and band pairs: its triplet
 unfoldable pub triplet_at : ℕ → ℕ → ℕ → ℕ
@@ -60,7 +60,7 @@ pub record AreWritten (z : Sizes) (q : ℕ) (o : ℕ → Outputs) (weights : Lis
   pub flags-are : flags' ≡ piece_flags z q o flags
 
 -- a call writes piece q
-abbrev pub WritesPiece : Sizes → ℕ → (ℕ → Outputs) → Lent Float → Lent ℤ → Type 0
+abbrev pub WritesPiece : Sizes → ℕ → (ℕ → Outputs) → LentMut Float → LentMut ℤ → Type 0
 WritesPiece z q o weights flags = AreWritten z q o weights.entry.now flags.entry.now weights.exit.now flags.exit.now
 
 -- so many work areas of one size

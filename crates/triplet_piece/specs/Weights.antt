@@ -10,7 +10,7 @@ use Rattle.triplet_channels.specs.Channels.{outputs_at}
 use Rattle.triplet_channels.specs.Ordered.{outputs_ordered}
 use Rattle.triplet_study.specs.declared.Sizes.{Sizes}
 use Rattle.triplet_study.specs.Study.{Study, tp_in, grid_in, sizes_of}
-use Rattle.ask.specs.Lent.{Lent}
+use Rattle.ask.specs.Lent.{LentMut}
 use Rattle.triplet_corners.specs.Corners.{second_steps, corner_numbers}
 use Rattle.triplet_piece.specs.Layout.{triplet_at, point_at, pair_at, channel_of, patch_pieces}
 
@@ -71,5 +71,5 @@ pub record AreComputed (s : Study) (own : ℕ → Bool) (weights : List Float) (
   pub flags-are : flags' ≡ computed_flags s own flags
 
 -- a call computes them
-abbrev pub Computes : Study → (ℕ → Bool) → Lent Float → Lent ℤ → Type 0
+abbrev pub Computes : Study → (ℕ → Bool) → LentMut Float → LentMut ℤ → Type 0
 Computes s own weights flags = AreComputed s own weights.entry.now flags.entry.now weights.exit.now flags.exit.now

@@ -4,6 +4,9 @@
 // values).
 //
 // Refusal 0 is an accepted call. A refused one has no runs: it must leave both buffers as they were. Weights are compared by bits.
+
+#![tactic(auto)]
+
 ghost use Rattle.std.specs.Prelude.{◌≡◌, ◌≤◌, ◌<◌, length};
 
 use ask::kernel::number_of;

@@ -8,6 +8,9 @@
 //   5  the same for a point repeated: refusal, how many times, point, list of steps, length of the buffer, list of one number
 //
 // Refusal 0 is an accepted call. Each block has its own grids.
+
+#![tactic(auto)]
+
 ghost use Rattle.std.specs.Prelude.{◌≡◌, length};
 
 use ask::Answer;

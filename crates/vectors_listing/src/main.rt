@@ -3,6 +3,9 @@
 // the flags.
 //
 // An accepted call must give the stored record. A refused one must give its number and leave both buffers as they were.
+
+#![tactic(auto)]
+
 ghost use Rattle.std.specs.Prelude.{◌+◌, ◌≤◌, ◌≡◌, length};
 
 use ask::kernel::number_of;

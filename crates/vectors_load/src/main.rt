@@ -2,6 +2,9 @@
 // second and of the points, each by its bits.
 //
 // Nothing is asked of such a call, so each case is to be accepted.
+
+#![tactic(auto)]
+
 ghost use Rattle.std.specs.Prelude.{◌≡◌, length};
 
 use replay_compare::kernel as compare;

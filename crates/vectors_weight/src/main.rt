@@ -13,6 +13,9 @@
 //
 // Function 0 is I, 1 is J. Refusal 0 is an accepted call. Each block has its own vertices. Floats are compared by their bits, but for
 // 7 and 8, where the weight over 24 equal rows, or the sum of those of the four vertices in turn, lies from the least to the greatest.
+
+#![tactic(auto)]
+
 ghost use Rattle.std.specs.Prelude.{◌≡◌, length};
 
 use ask::kernel::number_of;

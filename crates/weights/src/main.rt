@@ -1,5 +1,11 @@
 // Reads a study from standard input, and writes its listing or its refusal to standard output.
+
+#![tactic(auto)]
+
 ghost use Rattle.std.specs.Prelude.{◌≡◌, ◌≤◌, length};
+
+use std::io;
+use std::io::Read;
 
 // One byte more than a study may have, so that a longer input is seen to be longer.
 fn text_buffer() -> [u8; 16385]
@@ -17,7 +23,7 @@ fn answer_buffer() -> [u8; 118617]
 
 // One read into the text from `done` on: how many of its bytes count as read afterwards. Where the read fails all of them do: that is
 // longer than a study, so the answer is the refusal with 1, whatever was read before.
-fn read_more(text: &mut [u8], done: usize) -> usize
+fn read_more(input: &mut impl Read, text: &mut [u8], done: usize) -> usize
     requires { done ≤ length text.old }
     ensures lower_bound { done ≤ result }
     ensures upper_bound { result ≤ length text.new }
@@ -25,21 +31,20 @@ fn read_more(text: &mut [u8], done: usize) -> usize
 {
     let all = text.len();
     let rest = &mut text[done..];
-    let got = libc::read(0, rest);
-    if got < 0 {
-        return all;
+    match input.read(rest) {
+        Ok(got) => done + got,
+        Err(_) => all,
     }
-    done + io::count(got, rest)
 }
 
 // Reads until the input ends, a read fails or the text is full: how many of its bytes count as read.
-fn read_text(text: &mut [u8]) -> usize
+fn read_text(input: &mut impl Read, text: &mut [u8]) -> usize
     ensures upper_bound { result ≤ length text.new }
     ensures text_len_unchanged { length text.new ≡ length text.old }
 {
     let mut done = 0;
     while done < text.len() {
-        let next = read_more(text, done);
+        let next = read_more(input, text, done);
         if next == done {
             break;
         }
@@ -48,10 +53,10 @@ fn read_text(text: &mut [u8]) -> usize
     done
 }
 
-fn main() {
+fn main(rt: HostRuntime) -> io::Result<()> {
     let mut text = text_buffer();
     let mut out = answer_buffer();
-    let n = read_text(&mut text);
+    let n = read_text(&mut rt.stdin(), &mut text);
     let k = answer::answer(&text[..n], &mut out);
-    io::write_all(1, &out[..k]);
+    rt.write_all(&out[..k])
 }

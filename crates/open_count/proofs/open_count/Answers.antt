@@ -42,4 +42,4 @@ overflow_mul-start c =
 pub open_from-requires : goal.open_from-requires
 open_from-requires c =
     let y = told (goal.at.open_from-requires c).Else-no-ne0 in
-    rw (triplet-is (goal.at.open_from-requires c).After-magnitude, c.cells_per_triplet-size.ensures, c.Cells-of.ensures, channels-are (goal.at.open_from-requires c).After-channels_of-channels) (y.room, y.weighed)
+    rw (triplet-is (goal.at.open_from-requires c).After-magnitude, c.cells_per_triplet-size.ensures, c.cells_of-cells.ensures, channels-are (goal.at.open_from-requires c).After-channels_of-channels) (y.room, y.weighed)

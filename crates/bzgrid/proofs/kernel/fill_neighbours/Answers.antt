@@ -1,5 +1,5 @@
 -- `bzgrid::kernel::fill_neighbours` meets its contract.
-use Prim.Native.Nat.{◌-◌, ◌<◌}
+use Prim.Native.Nat.{◌<◌}
 use lib.IntN.{pos}
 use lib.ListN.{length-set}
 use mathlib.Core.Path.{◌∙◌, ap, refl}

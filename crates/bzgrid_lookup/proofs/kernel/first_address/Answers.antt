@@ -1,5 +1,4 @@
 -- `bzgrid_lookup::kernel::first_address` meets its contract.
-use Prim.Native.Nat.{◌-◌}
 use mathlib.Core.Path.{◌∙◌, sym}
 use native.Mathlib.Omega.{arith}
 use Rattle.list_laws.proofs.FirstLaws.{first-end, first-hit, first-miss}

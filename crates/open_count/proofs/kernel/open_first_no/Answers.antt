@@ -1,4 +1,5 @@
 -- `open_count::kernel::open_first_no` meets its contract: 8 and 9 first, then 12 and 14.
+use borrow.Author.Rules.{rules}
 use borrow.Author.Tests.{eq-eqb, ne_eqb}
 use lib.IntN.{ℤ}
 use lib.Signed.{mag}
@@ -28,13 +29,13 @@ yes-8-9 c =
     let y = all_yes (count_questions c.args.tp_type c.args.counts) (counts-numbered c.args.tp_type c.args.counts) (sym (told-8-9 (goal.at.Else-no-ne0 c).After-counts_first_no-no) ∙ c.if-no-ne0.false) in
     (y.0, y.1.0)
 
-weights-are : (c : After-cells_of) → c.channels_of.result * c.Cells-of.result ≡ weight_count_of c.args.tp_type c.args.counts
+weights-are : (c : After-cells_of) → c.channels_of.result * c.cells_of.result ≡ weight_count_of c.args.tp_type c.args.counts
 weights-are c =
-    rw (c.channels_of.ensures, c.Cells-of.ensures, to_z-of_z w64 c.args.tp_type c.ranges.tp_type)
+    rw (c.channels_of.ensures, c.cells_of.ensures, to_z-of_z w64 c.args.tp_type c.ranges.tp_type)
 
 on-sheet : (c : After-is_below) → c.is_below.result ≡ is_below c.args.triplet (mag c.args.counts.num_triplets)
 on-sheet c =
-    let n : _ = rw (back c.args.counts.num_triplets c.struct_told-1.given.0.1) at c.magnitude.ensures in
+    let n : _ = rw (back c.args.counts.num_triplets (search rules)) at c.magnitude.ensures in
     rw (to_z-of_z w64 c.args.triplet c.ranges.triplet, n) at c.is_below.ensures
 
 pub returns-then-no-ne0 : goal.returns-then-no-ne0

@@ -1,5 +1,4 @@
 -- `text::kernel::cut` meets its contract.
-use Prim.Native.Nat.{◌-◌}
 use mathlib.Core.Path.{sym, ◌∙◌}
 use native.Mathlib.Omega.{arith}
 use Rattle.text.proofs.PieceLaws.{index-hit, index-miss, index-none}

@@ -1,8 +1,6 @@
 -- `text::kernel::parse_digits` meets its contract.
-use Prim.Native.Nat.{◌-◌}
 use mathlib.Core.Path.{sym, ◌∙◌}
 use native.Mathlib.Omega.{arith}
-use Rattle.text.specs.Fields.{value}
 use Rattle.text.proofs.FieldLaws.{within, value-end, value-step, value-bad, value-over}
 use Rattle.text.proofs.kernel.parse_digits.Goals as goal
 

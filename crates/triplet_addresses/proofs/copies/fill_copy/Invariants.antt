@@ -8,7 +8,7 @@ use Rattle.triplet_addresses.proofs.copies.fill_copy.Given as goal
 
 abbrev pub invariant-loop-k : goal.invariant-loop-k
 invariant-loop-k l =
-    (l.k ≤ length l.out) × (length l.out ≡ length l.initial.out) × (take l.k l.out ≡ tabulate l.k (λ l.k. step_of l.negated (at l.table l.k)))
+    (l.k ≤ length l.out) × (length l.out ≡ length l.initial.out) × (take l.k l.out ≡ tabulate l.k (λ k. step_of l.negated (at l.table k)))
 
 abbrev pub decreases-loop-k : goal.decreases-loop-k
 decreases-loop-k l =

@@ -1,4 +1,5 @@
 -- `averaging_blocks::kernel::weights::average_matrix` meets its contract: at each turn the blocks of the sets of rows before
+-- `top`, which starts a set or is the end, have had theirs.
 use mathlib.Core.Path.{◌≡◌}
 use mathlib.Core.Bool.{true}
 use Prim.Native.Nat.{◌≤◌, ◌<◌, ◌-◌}

@@ -1,4 +1,5 @@
 -- `averaging_flags::kernel::flags::average_rows` meets its contract: at each turn the blocks of the sets of columns before
+-- `left`, which starts a set or is the end, have had theirs.
 use mathlib.Core.Path.{refl}
 use native.Mathlib.Omega.{arith}
 use Rattle.degenerate_sets.specs.Sets.{starts_at}

@@ -1,0 +1,14 @@
+-- `grid_point_weights::corners::corner_points` meets its contract.
+use Prim.Native.Nat.{◌-◌, ◌≤◌}
+use mathlib.Core.Path.{◌≡◌}
+use Rattle.grid_point_weights.specs.Weights.{corner_of}
+use Rattle.list_laws.specs.Lists.{area}
+use Rattle.grid_point_weights.proofs.corners.corner_points.Given as goal
+
+abbrev pub invariant-loop-j : goal.invariant-loop-j
+invariant-loop-j l =
+    (l.j ≤ l.n) × (l.corners ≡ area 384 l.j (corner_of l.grid l.addresses l.gp_map l.table l.gp2irgp_map l.gp) 0)
+
+abbrev pub decreases-loop-j : goal.decreases-loop-j
+decreases-loop-j l =
+    l.n - l.j
