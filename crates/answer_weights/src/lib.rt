@@ -1,2 +1,5 @@
 // A tested study's weights, computed and listed.
+
+#![tactic(auto)]
+
 pub mod kernel;

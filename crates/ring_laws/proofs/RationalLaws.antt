@@ -2,13 +2,13 @@
 use mathlib.Core.Path.{◌≡◌, refl, sym, ◌∙◌, ap, ap₂, subst}
 use mathlib.Core.Logic.{◌≢◌}
 use mathlib.Core.HLevel.{Π_prop}
-use mathlib.Core.Bool.{Bool, true, false, Bool-set}
-use mathlib.Core.Quot.{Quot, mk, sound, Quot-set, lift, ind}
+use mathlib.Core.Bool.{Bool, Bool-set}
+use mathlib.Core.Quot.{mk, sound, Quot-set, lift, ind}
 use mathlib.Core.List.{List, [], ◌∷◌}
 use Prim.Native.Nat.{ℕ, zero, suc}
 use lib.Dec.{T, T_prop}
 use lib.IntN.{ℤ, pos, negsuc, neg_ℤ, neg_ℤ-neg_ℤ, neg_ℤ-+ℤ, ◌+ℤ◌, ◌*ℤ◌, +ℤ_comm, +ℤ_invr, *ℤ_comm, zero-*ℤ}
-use Rattle.ring_laws.specs.Ring.{Ring, Field, Ordered, Below, AtMost, LinearOrdered}
+use Rattle.ring_laws.specs.Ring.{Ring, Field, Ordered, AtMost, LinearOrdered}
 use Rattle.ring_laws.specs.Expression.{Expr, var, nought, unit, plus, minus, times}
 use Rattle.ring_laws.specs.Polynomial.{given}
 use Rattle.ring_laws.specs.Rational.{is_positive, Fraction, Same, Rational}

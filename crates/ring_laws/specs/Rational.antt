@@ -1,5 +1,5 @@
 -- The rational numbers: fractions of integers, two of them the same where their cross products are.
-use Rattle.std.specs.Prelude.{◌≡◌, Bool, true, false, ℕ, zero, suc, T, ℤ, pos, negsuc, ◌*ℤ◌}
+use Rattle.std.specs.Prelude.{◌≡◌, Bool, true, false, zero, suc, T, ℤ, pos, negsuc, ◌*ℤ◌}
 use mathlib.Core.Quot.{Quot}
 
 abbrev pub is_positive : ℤ → Bool

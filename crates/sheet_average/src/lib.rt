@@ -1,2 +1,5 @@
 // What an accepted averaging writes: the averages of a triplet, its weights channel by channel and its flags.
+
+#![tactic(auto)]
+
 pub mod kernel;

@@ -1,14 +1,13 @@
 -- In every field: the derivative of the number n of states is the density g, and for each vertex the derivative of its states J n is its density I g. The derivative is taken by dual numbers, of the paper's own text.
-use mathlib.Core.Path.{◌≡◌, refl, sym, ◌∙◌, ap, ap₂}
+use mathlib.Core.Path.{◌≡◌, sym, ◌∙◌}
 use mathlib.Core.Logic.{◌≢◌}
-use Prim.Native.Nat.{ℕ, zero, suc, ◌<◌}
+use Prim.Native.Nat.{ℕ, zero, suc}
 use mathlib.Core.List.{List, [], ◌∷◌}
 use native.Mathlib.Omega.{arith}
 use Rattle.ring_laws.specs.Ring.{Field}
 use Rattle.ring_laws.specs.Expression.{Expr, var, nought, unit, plus, minus, times}
 use Rattle.ring_laws.specs.Polynomial.{Given, given, Hold}
-use Rattle.ring_laws.proofs.RingLaws
-use Rattle.ring_laws.proofs.PolynomialLaws.{ring, modulo}
+use Rattle.ring_laws.proofs.PolynomialLaws.{modulo}
 use Rattle.tetrahedron_paper.specs.Operations.{Operations, exact, dual}
 use Rattle.tetrahedron_paper.specs.Paper as P
 use Rattle.tetrahedron_paper.proofs.Symbolic as S

@@ -1,14 +1,14 @@
 -- In every field: at each vertex the formulas of the two neighbouring ranges agree, so that n, g and each vertex's states J n are continuous; n is 0 at the first vertex and 1 at the last.
-use mathlib.Core.Path.{◌≡◌, refl, sym, ◌∙◌, ap, ap₂}
+use mathlib.Core.Path.{◌≡◌, sym, ◌∙◌}
 use mathlib.Core.Logic.{◌≢◌}
-use Prim.Native.Nat.{ℕ, zero, suc, ◌<◌}
-use mathlib.Core.List.{List, [], ◌∷◌}
+use Prim.Native.Nat.{ℕ, zero, suc}
+use mathlib.Core.List.{[], ◌∷◌}
 use native.Mathlib.Omega.{arith}
 use Rattle.ring_laws.specs.Ring.{Field}
-use Rattle.ring_laws.specs.Expression.{Expr, var, nought, unit, plus, minus, times}
-use Rattle.ring_laws.specs.Polynomial.{Given, given, Hold}
+use Rattle.ring_laws.specs.Expression.{var, nought, unit, plus, minus, times}
+use Rattle.ring_laws.specs.Polynomial.{given}
 use Rattle.ring_laws.proofs.PolynomialLaws.{ring, modulo}
-use Rattle.tetrahedron_paper.specs.Operations.{Operations, exact}
+use Rattle.tetrahedron_paper.specs.Operations.{exact}
 use Rattle.tetrahedron_paper.specs.Paper as P
 use Rattle.tetrahedron_paper.proofs.Symbolic as S
 use Rattle.tetrahedron_paper.proofs.Symbolic.{symbolic}

@@ -1,15 +1,15 @@
 -- In every ordered field, with ascending vertices, n and g are positive between the first vertex and the last: so the method needs no other premise there.
-use mathlib.Core.Path.{◌≡◌, refl, sym, ◌∙◌, ap, subst}
+use mathlib.Core.Path.{◌≡◌, sym, ◌∙◌, subst}
 use mathlib.Core.Logic.{◌≢◌}
 use Prim.Native.Nat.{ℕ, zero, suc, ◌<◌}
-use mathlib.Core.List.{List, [], ◌∷◌}
+use mathlib.Core.List.{[], ◌∷◌}
 use native.Mathlib.Omega.{arith}
 use Rattle.ring_laws.specs.Ring.{Field, Ordered, Below}
-use Rattle.ring_laws.specs.Expression.{Expr, var, nought, unit, plus, minus, times}
+use Rattle.ring_laws.specs.Expression.{var, nought, unit, plus, minus, times}
 use Rattle.ring_laws.specs.Polynomial.{given}
 use Rattle.ring_laws.proofs.RingLaws
 use Rattle.ring_laws.proofs.PolynomialLaws.{ring, modulo}
-use Rattle.tetrahedron_paper.specs.Operations.{Operations, exact}
+use Rattle.tetrahedron_paper.specs.Operations.{exact}
 use Rattle.tetrahedron_paper.specs.Paper as P
 use Rattle.tetrahedron_paper.specs.Method.{Differ, Method, Joined, Ascending}
 use Rattle.tetrahedron_paper.proofs.Symbolic as S

@@ -1,13 +1,13 @@
 -- In every field: at each vertex the density I g of each vertex is the same in the two neighbouring ranges, so it is continuous. The share I alone is not: it leaves 0 at the first vertex and falls to 0 at the last, where g is 0.
-use mathlib.Core.Path.{◌≡◌, refl, sym, ◌∙◌, ap, ap₂}
+use mathlib.Core.Path.{◌≡◌, sym, ◌∙◌}
 use mathlib.Core.Logic.{◌≢◌}
-use Prim.Native.Nat.{ℕ, zero, suc, ◌<◌}
-use mathlib.Core.List.{List, [], ◌∷◌}
+use Prim.Native.Nat.{ℕ, zero, suc}
+use mathlib.Core.List.{[], ◌∷◌}
 use Rattle.ring_laws.specs.Ring.{Field}
-use Rattle.ring_laws.specs.Expression.{Expr, var, nought, unit, plus, minus, times}
-use Rattle.ring_laws.specs.Polynomial.{Given, given, Hold}
-use Rattle.ring_laws.proofs.PolynomialLaws.{ring, modulo}
-use Rattle.tetrahedron_paper.specs.Operations.{Operations, exact}
+use Rattle.ring_laws.specs.Expression.{Expr, nought, unit, plus, minus, times}
+use Rattle.ring_laws.specs.Polynomial.{given}
+use Rattle.ring_laws.proofs.PolynomialLaws.{modulo}
+use Rattle.tetrahedron_paper.specs.Operations.{exact}
 use Rattle.tetrahedron_paper.specs.Paper as P
 use Rattle.tetrahedron_paper.proofs.Symbolic as S
 use Rattle.tetrahedron_paper.proofs.Symbolic.{symbolic}

@@ -1,11 +1,10 @@
 -- The range that the text gives omega, in every ordered field with a test of its order; and the method in that range, for ascending vertices and every omega.
-use mathlib.Core.Path.{◌≡◌, refl, sym, ap, subst}
+use mathlib.Core.Path.{◌≡◌, refl, sym, subst}
 use mathlib.Core.Bool.{Bool, true, false, cond}
 use Prim.Native.Nat.{ℕ, zero, suc, ◌<◌}
 use native.Mathlib.Omega.{arith}
 use lib.Dec.{T}
-use Rattle.ring_laws.specs.Ring.{Ring, Field, Ordered, Below, AtMost, LinearOrdered}
-use Rattle.tetrahedron_paper.specs.Operations.{exact}
+use Rattle.ring_laws.specs.Ring.{Ordered, Below, AtMost, LinearOrdered}
 use Rattle.tetrahedron_paper.specs.Paper as P
 use Rattle.tetrahedron_paper.specs.Method.{Method, Ascending, Between}
 use Rattle.tetrahedron_paper.proofs.Inside as I

@@ -1,15 +1,15 @@
 -- In every field: the shares of the four vertices sum to the whole, and the cut's mean value is omega.
-use mathlib.Core.Path.{◌≡◌, refl, sym, ◌∙◌, ap, ap₂}
+use mathlib.Core.Path.{◌≡◌, sym, ◌∙◌, ap}
 use mathlib.Core.Logic.{◌≢◌}
 use Prim.Native.Nat.{ℕ, zero, suc, ◌<◌}
 use mathlib.Core.List.{List, [], ◌∷◌}
 use native.Mathlib.Omega.{arith}
 use Rattle.ring_laws.specs.Ring.{Field}
-use Rattle.ring_laws.specs.Expression.{Expr, var, nought, unit, plus, minus, times}
+use Rattle.ring_laws.specs.Expression.{Expr, var, unit, plus, minus, times}
 use Rattle.ring_laws.specs.Polynomial.{given}
 use Rattle.ring_laws.proofs.RingLaws
-use Rattle.ring_laws.proofs.PolynomialLaws.{ring, modulo}
-use Rattle.tetrahedron_paper.specs.Operations.{Operations, exact, dual}
+use Rattle.ring_laws.proofs.PolynomialLaws.{modulo}
+use Rattle.tetrahedron_paper.specs.Operations.{exact}
 use Rattle.tetrahedron_paper.specs.Paper as P
 use Rattle.tetrahedron_paper.proofs.Symbolic as S
 use Rattle.tetrahedron_paper.proofs.Symbolic.{symbolic, inner, table}

@@ -1,16 +1,16 @@
 -- In every field: for each vertex the density I g is the rate at which the number n of states falls as the vertex's value rises. So the shares I follow from n alone.
-use mathlib.Core.Path.{◌≡◌, refl, sym, ◌∙◌, ap, ap₂}
+use mathlib.Core.Path.{◌≡◌, ◌∙◌}
 use mathlib.Core.Logic.{◌≢◌}
 use mathlib.Core.Bool.{cond}
 use lib.Dec.{eqb}
 use Prim.Native.Nat.{ℕ, zero, suc, ◌<◌}
-use mathlib.Core.List.{List, [], ◌∷◌}
+use mathlib.Core.List.{[], ◌∷◌}
 use native.Mathlib.Omega.{arith}
 use Rattle.ring_laws.specs.Ring.{Field}
-use Rattle.ring_laws.specs.Expression.{Expr, var, nought, unit, plus, minus, times}
-use Rattle.ring_laws.specs.Polynomial.{Given, given, Hold}
-use Rattle.ring_laws.proofs.PolynomialLaws.{ring, modulo}
-use Rattle.tetrahedron_paper.specs.Operations.{Operations, exact, dual}
+use Rattle.ring_laws.specs.Expression.{Expr, nought, unit, plus, minus, times}
+use Rattle.ring_laws.specs.Polynomial.{given}
+use Rattle.ring_laws.proofs.PolynomialLaws.{modulo}
+use Rattle.tetrahedron_paper.specs.Operations.{exact, dual}
 use Rattle.tetrahedron_paper.specs.Paper as P
 use Rattle.tetrahedron_paper.proofs.Symbolic as S
 use Rattle.tetrahedron_paper.proofs.Symbolic.{symbolic}

@@ -1,10 +1,9 @@
 -- The paper's text at expressions: operations that build an expression, so that the value of a formula's expression in a field is, by computation, the formula in that field. No formula is written a second time.
-use Prim.Native.Nat.{ℕ, zero, suc, ◌+◌, ◌*◌, ◌-◌, ◌/◌}
+use Prim.Native.Nat.{ℕ, ◌+◌, ◌*◌, ◌-◌, ◌/◌}
 use mathlib.Core.Bool.{Bool, cond, ◌&&◌}
-use mathlib.Core.List.{List, [], ◌∷◌}
 use lib.Dec.{ltb, eqb}
 use Rattle.ring_laws.specs.Expression.{Expr, var, nought, unit, plus, minus, times}
-use Rattle.tetrahedron_paper.specs.Operations.{Operations, dual}
+use Rattle.tetrahedron_paper.specs.Operations.{Operations}
 
 -- a number that tells the divisors of the formulas apart: 1 the span, 5 three, 7 four, 15 and 13 the two sums that the shares I are divided by
 abbrev pub mark : Expr → ℕ

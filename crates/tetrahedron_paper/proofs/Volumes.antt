@@ -1,12 +1,12 @@
 -- In every field: the number n of states is the volume of the tetrahedron's part below omega.
-use mathlib.Core.Path.{◌≡◌, refl, sym, ◌∙◌, ap, ap₂}
+use mathlib.Core.Path.{◌≡◌, refl, sym, ◌∙◌, ap}
 use mathlib.Core.Logic.{◌≢◌}
-use Prim.Native.Nat.{ℕ, zero, suc, ◌+◌, ◌<◌}
+use Prim.Native.Nat.{ℕ, zero, suc}
 use mathlib.Core.List.{List, [], ◌∷◌}
 use native.Mathlib.Omega.{arith}
 use Rattle.ring_laws.specs.Ring.{Field}
 use Rattle.ring_laws.specs.Expression.{Expr, var, nought, unit, plus, minus, times}
-use Rattle.ring_laws.specs.Polynomial.{Given, given, Hold}
+use Rattle.ring_laws.specs.Polynomial.{Given, given}
 use Rattle.ring_laws.proofs.RingLaws
 use Rattle.ring_laws.proofs.PolynomialLaws.{ring, modulo}
 use Rattle.tetrahedron_paper.specs.Operations.{Operations, exact}
@@ -16,7 +16,6 @@ use Rattle.tetrahedron_paper.proofs.Symbolic as S
 use Rattle.tetrahedron_paper.proofs.Symbolic.{symbolic}
 use Rattle.tetrahedron_paper.proofs.Quotients as Q
 use Rattle.tetrahedron_paper.proofs.Quotients.{Apart}
-use Rattle.tetrahedron_paper.proofs.Shares as H
 use Rattle.tetrahedron_paper.proofs.Shares.{env}
 
 -- the product of three inverses: variables 0 to 2 the factors, 3 to 5 their inverses, 6 the inverse of the product

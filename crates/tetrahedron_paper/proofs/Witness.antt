@@ -4,7 +4,6 @@ use mathlib.Core.Quot.{sound}
 use Prim.Native.Nat.{ℕ, zero, suc, ◌<◌}
 use native.Mathlib.Omega.{arith}
 use Rattle.ring_laws.specs.Rational.{Rational}
-use Rattle.ring_laws.specs.Ring.{LinearOrdered}
 use Rattle.ring_laws.proofs.RationalLaws.{rationals, rational_ordered, rational_field, cast, add, neg, mul, inv, positive}
 use Rattle.tetrahedron_paper.specs.Operations.{exact}
 use Rattle.tetrahedron_paper.specs.Paper as P

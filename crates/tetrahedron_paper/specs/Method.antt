@@ -1,7 +1,7 @@
 -- What makes the formulas the linear tetrahedron method: claims on the paper's text in a field, in one range and at one vertex.
 use Rattle.std.specs.Prelude.{◌≡◌, ◌≢◌, cond, eqb, ℕ, zero, suc, ◌<◌}
 use Rattle.ring_laws.specs.Ring.{Field, Ordered, Below, AtMost}
-use Rattle.tetrahedron_paper.specs.Operations.{Operations, exact, dual}
+use Rattle.tetrahedron_paper.specs.Operations.{exact, dual}
 use Rattle.tetrahedron_paper.specs.Paper as P
 use Rattle.tetrahedron_paper.specs.Volume.{below}
 

@@ -1,4 +1,7 @@
 // Triplets: whether their addresses add to zero, both copies of the neighbour table, and the weights of all triplets.
+
+#![tactic(auto)]
+
 ghost use Rattle.triplet_study.specs.Lent.{study_in};
 ghost use Rattle.triplet_iw.specs.Calls.{DidFill};
 

@@ -1,4 +1,7 @@
 // Integration weights of triplets.
+
+#![tactic(auto)]
+
 ghost use Rattle.triplet_study.specs.Lent.{study_of_one};
 ghost use Rattle.triplet_iw.specs.Calls.{DidFill};
 

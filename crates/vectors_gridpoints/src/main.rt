@@ -9,6 +9,9 @@
 //   6  copies of a table: refusal, type, list of the table, length of the buffer, list of the answer
 //
 // Refusal 0 is an accepted call. Each block has its own grids and studies.
+
+#![tactic(auto)]
+
 ghost use Rattle.std.specs.Prelude.{◌≡◌, length};
 
 use ask::Answer;

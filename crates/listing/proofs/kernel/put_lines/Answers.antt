@@ -1,5 +1,5 @@
 -- `listing::kernel::put_lines` meets its contract.
-use Prim.Native.Nat.{◌+◌, ◌-◌, ℕ}
+use Prim.Native.Nat.{◌+◌, ℕ}
 use lib.ListN.{length}
 use mathlib.Core.Path.{◌∙◌, ◌≡◌, ap, refl}
 use native.Mathlib.Omega.{arith}

@@ -1,5 +1,5 @@
 -- `listing_line::kernel::pass_weights` meets its contract.
-use Prim.Native.Nat.{◌+◌, ◌-◌, ◌*◌}
+use Prim.Native.Nat.{◌+◌, ◌*◌}
 use mathlib.Core.Path.{◌≡◌}
 use native.Mathlib.Omega.{arith}
 use Rattle.listing.specs.Listings.{weight_end, weight_text}

@@ -1,5 +1,5 @@
 -- `listing_read::kernel::is_listing` meets its contract: before each turn the header and the lines before were passed over.
-use Prim.Native.Nat.{ℕ, ◌+◌, ◌-◌}
+use Prim.Native.Nat.{ℕ}
 use mathlib.Core.List.{◌++◌}
 use mathlib.Core.Path.{◌∙◌, ◌≡◌, ap}
 use native.Mathlib.Omega.{arith}

@@ -1,5 +1,4 @@
 -- `reading::kernel::pass_slice` meets its contract.
-use Prim.Native.Nat.{◌-◌}
 use lib.ListN.{drop, length, take}
 use lib.Seq.{take-length}
 use mathlib.Core.Path.{◌∙◌, ◌≡◌}

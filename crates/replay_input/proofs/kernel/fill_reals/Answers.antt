@@ -2,7 +2,6 @@
 use Prim.Native.Nat.{ℕ, min}
 use mathlib.Core.Path.{refl, ap, ◌∙◌}
 use native.Mathlib.Omega.{arith}
-use Prim.Native.Nat.{◌-◌}
 use lib.ListN.{length, length-set}
 use Rattle.list_laws.proofs.FillLaws.{front-none}
 use Rattle.replay_input.proofs.FieldLaws.{place-first, place-next, place_end, list-next, list-end, real-next}

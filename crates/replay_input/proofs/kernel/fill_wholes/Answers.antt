@@ -5,7 +5,6 @@ use mir.Syntax.{w64}
 use mir.Facts.{to_z-of_z}
 use borrow.Author.Rules.{rules}
 use native.Mathlib.Omega.{arith}
-use Prim.Native.Nat.{◌-◌}
 use lib.ListN.{length, length-set}
 use Rattle.list_laws.proofs.FillLaws.{front-none}
 use Rattle.replay_input.proofs.FieldLaws.{place-first, place-next, place_end, list-next, list-end, whole-next}

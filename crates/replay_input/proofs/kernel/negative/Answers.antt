@@ -1,5 +1,4 @@
 -- `replay_input::kernel::negative` meets its contract: -1 - n of an n below 2^63 fits.
-use Prim.Native.Nat.{◌-◌}
 use Rattle.replay_input.proofs.FieldLaws.{negated-zero, negated-is}
 use Rattle.replay_input.proofs.kernel.negative.Goals as goal
 

@@ -1,6 +1,5 @@
 -- `replay_input::kernel::next_bits` meets its contract: what is read from here on gives what it gave at the start. The measure is what is left of the text.
 use native.Mathlib.Omega.{arith}
-use Prim.Native.Nat.{◌-◌}
 use mathlib.Core.Path.{sym, ◌∙◌}
 use Rattle.replay_input.specs.Fields.{bits_at, after_bits}
 use Rattle.replay_input.proofs.FieldLaws.{spelled-end, spelled_step, spelled-stop, passed-end, passed-step, passed-stop}

@@ -8,7 +8,7 @@ use lib.ListN.{length, take, drop, length-drop}
 use lib.Seq.{length-take-le}
 use Rattle.sections.specs.declared.Line.{Line}
 use Rattle.text.specs.Pieces.{ended}
-use Rattle.sections.specs.Lines.{whole_field, is, read, told_line}
+use Rattle.sections.specs.Lines.{whole_field, read, told_line}
 use Rattle.sections.proofs.LineLaws.{row-bytes, joined-nil, rows_end, rows_other, rows-broken, rows_row}
 use Rattle.sections.proofs.kernel.parse_rows.Goals as goal
 

@@ -13,6 +13,7 @@ use Rattle.sheet_tally.specs.Tallies.{count_of, is_room, is_worker}
 use Rattle.sheet_tally.proofs.kernel.tally_first_no.Goals.{After-is_below, After-magnitude, After-room_ok}
 use Rattle.sheet_tally.proofs.kernel.tally_first_no.Goals as goal
 
+-- 21, of the argument
 worker-asked : (c : After-is_below) → c.is_below.result ≡ is_worker c.args.worker
 unfolding is_worker
 worker-asked c =
@@ -26,12 +27,12 @@ place c =
 place_in : (c : After-magnitude) → c.magnitude.result < 16
 unfolding is_worker
 place_in c =
-    rw (place c) (below-lt c.args.worker 16 (yes_of (worker-asked c.before.before) c.if-not-is_below.false))
+    rw (place c) (below-lt c.args.worker 16 (yes_of (worker-asked (goal.at.After-magnitude c).After-is_below) c.if-not-is_below.false))
 
 -- 20, of the worker's count
 room-asked : (c : After-room_ok) → c.room_ok.result ≡ is_room (count_of c.args.tally.runs c.args.worker) c.args.runs
 room-asked c =
-    c.room_ok.ensures ∙ ap (λ (k : ℕ). is_room (get_or c.args.tally.runs k 0) c.args.runs) (place c.before)
+    c.room_ok.ensures ∙ ap (λ (k : ℕ). is_room (get_or c.args.tally.runs k 0) c.args.runs) (place (goal.at.After-room_ok c).After-magnitude)
 
 pub returns-then-not-is_below : goal.returns-then-not-is_below
 unfolding first_no

@@ -10,6 +10,7 @@ use Rattle.sheet_tally.proofs.TallyLaws.{tally-yes}
 use Rattle.sheet_tally.proofs.kernel.with_runs.Goals.{After-magnitude-w}
 use Rattle.sheet_tally.proofs.kernel.with_runs.Goals as goal
 
+-- the worker's place, which lies among the sixteen, and the room of its count
 place : (c : After-magnitude-w) → c.magnitude-w.result ≡ mag c.args.worker
 place c =
     c.magnitude-w.ensures ∙ ap mag (to_z-of_z w64 c.args.worker c.ranges.worker)

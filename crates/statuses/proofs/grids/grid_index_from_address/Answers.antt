@@ -12,8 +12,8 @@ returns-in-Index-clause-index_after c = let d : _ = index-done _ _ c.args.index.
 
 pub returns-in-Refused-clause-value : goal.returns-in-Refused-clause-value
 returns-in-Refused-clause-value c =
-    (index-refused _ _ _ _ (sym c.in-Refused.is ∙ c.grid_index_from_address.ensures)).0
+    (index-refused _ _ c.args.index.now _ (sym c.in-Refused.is ∙ c.grid_index_from_address.ensures)).0
 
 pub returns-in-Refused-clause-index_after : goal.returns-in-Refused-clause-index_after
 returns-in-Refused-clause-index_after c =
-    (index-refused _ _ _ _ (sym c.in-Refused.is ∙ c.grid_index_from_address.ensures)).1
+    (index-refused _ _ c.args.index.now _ (sym c.in-Refused.is ∙ c.grid_index_from_address.ensures)).1

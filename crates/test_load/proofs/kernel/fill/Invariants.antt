@@ -7,6 +7,7 @@ use Rattle.list_laws.specs.Lists.{fronted}
 use Rattle.test_load.specs.Load.{IsNumber, after, frequency_at}
 use Rattle.test_load.proofs.kernel.fill.Given as goal
 
+-- the record that is made
 abbrev pub made : ℕ → ℕ → Float
 made x k = frequency_at x (0 + k)
 

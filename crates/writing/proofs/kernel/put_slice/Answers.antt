@@ -1,5 +1,5 @@
 -- `writing::kernel::put_slice` meets its contract.
-use Prim.Native.Nat.{◌+◌, ◌-◌, ℕ}
+use Prim.Native.Nat.{◌+◌, ℕ}
 use borrow.Author.Rules.{rules}
 use lib.ListN.{get_or, length-set, set}
 use mathlib.Core.List.{List}

@@ -1,5 +1,5 @@
 -- `listing_read::kernel::restore::restore` meets its contract: before each turn the flags and weights of the entries before are restored.
-use Prim.Native.Nat.{ℕ, ◌+◌, ◌-◌, ◌*◌, ◌≤◌}
+use Prim.Native.Nat.{ℕ, ◌+◌, ◌*◌, ◌≤◌}
 use borrow.Author.Rules.{rules}
 use lib.Ieee.{nan}
 use lib.IntN.{pos}

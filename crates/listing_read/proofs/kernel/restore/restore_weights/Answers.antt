@@ -1,5 +1,5 @@
 -- `listing_read::kernel::restore::restore_weights` meets its contract.
-use Prim.Native.Nat.{◌+◌, ◌-◌, ◌*◌, ◌<◌}
+use Prim.Native.Nat.{◌+◌, ◌*◌, ◌<◌}
 use lib.Ieee.{nan}
 use lib.ListN.{length}
 use native.Mathlib.Omega.{arith}

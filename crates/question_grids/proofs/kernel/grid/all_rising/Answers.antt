@@ -1,5 +1,4 @@
 -- `question_grids::kernel::grid::all_rising` meets its contract.
-use Prim.Native.Nat.{◌-◌}
 use native.Mathlib.Omega.{arith}
 use Rattle.list_laws.proofs.BelowLaws.{below_next, below_none}
 use Rattle.question_grids.proofs.kernel.grid.all_rising.Goals as goal

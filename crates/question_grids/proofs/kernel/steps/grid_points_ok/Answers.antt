@@ -1,5 +1,4 @@
 -- `question_grids::kernel::steps::grid_points_ok` meets its contract.
-use Prim.Native.Nat.{◌-◌}
 use native.Mathlib.Omega.{arith}
 use Rattle.list_laws.proofs.BelowLaws.{below_end, below_next, below_none}
 use Rattle.question_grids.specs.Steps.{are_grid_points}

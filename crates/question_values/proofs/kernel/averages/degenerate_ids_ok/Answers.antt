@@ -1,5 +1,4 @@
 -- `question_values::kernel::averages::degenerate_ids_ok` meets its contract: at each turn `ok` speaks of the first k ids.
-use Prim.Native.Nat.{◌-◌}
 use native.Mathlib.Omega.{arith}
 use lib.ListN.{length}
 use borrow.Author.Tests.{ne_eqb, eq-eqb}

@@ -1,5 +1,4 @@
 -- `question_values::kernel::averages::weights_ok` meets its contract: at each turn `ok` speaks of the first k weights.
-use Prim.Native.Nat.{◌-◌}
 use native.Mathlib.Omega.{arith}
 use Rattle.list_laws.proofs.BelowLaws.{below_end, below_next, below_none}
 use Rattle.question_values.specs.Averages.{are_weights}

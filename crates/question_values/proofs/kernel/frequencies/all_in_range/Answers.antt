@@ -1,5 +1,4 @@
 -- `question_values::kernel::frequencies::all_in_range` meets its contract.
-use Prim.Native.Nat.{◌-◌}
 use native.Mathlib.Omega.{arith}
 use Rattle.list_laws.proofs.BelowLaws.{below_end, below_next, below_none}
 use Rattle.question_values.specs.Frequencies.{are_in_range}

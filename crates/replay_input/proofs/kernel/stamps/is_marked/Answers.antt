@@ -1,12 +1,11 @@
 -- `replay_input::kernel::stamps::is_marked` meets its contract: at each turn `ok` speaks of the first i places.
-use Prim.Native.Nat.{◌-◌}
 use lib.Dec.{eqb}
 use lib.Ieee.{Float, binary64, nan, to_bits}
 use lib.ListN.{get_or}
 use mathlib.Core.Path.{◌∙◌, ap}
 use native.Mathlib.Omega.{arith}
 use Rattle.list_laws.proofs.BelowLaws.{below_end, below_next, below_none}
-use Rattle.replay_input.specs.Stamps.{is_marked, mark_at}
+use Rattle.replay_input.specs.Stamps.{is_marked}
 use Rattle.replay_input.proofs.kernel.stamps.is_marked.Goals as goal
 
 pub loop-i-init : goal.loop-i-init

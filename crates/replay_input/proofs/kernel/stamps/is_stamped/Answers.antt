@@ -1,5 +1,4 @@
 -- `replay_input::kernel::stamps::is_stamped` meets its contract: at each turn `ok` speaks of the first i places.
-use Prim.Native.Nat.{◌-◌}
 use borrow.Author.Rules.{rules}
 use mathlib.Core.Path.{◌∙◌, ap}
 use mir.Facts.{to_z-of_z}

@@ -1,5 +1,5 @@
 -- `replay_input::kernel::stamps::mark` meets its contract: at each turn the front of the buffer holds the marks.
-use Prim.Native.Nat.{◌-◌, ℕ}
+use Prim.Native.Nat.{ℕ}
 use lib.ListN.{length-set}
 use mathlib.Core.Path.{◌∙◌, ap, refl}
 use native.Mathlib.Omega.{arith}

@@ -1,5 +1,5 @@
 -- `replay_input::kernel::stamps::stamp` meets its contract: at each turn the front of the buffer holds the stamps.
-use Prim.Native.Nat.{◌-◌, ℕ}
+use Prim.Native.Nat.{ℕ}
 use borrow.Author.Rules.{rules}
 use lib.ListN.{length-set}
 use mathlib.Core.Path.{◌∙◌, ap, refl}

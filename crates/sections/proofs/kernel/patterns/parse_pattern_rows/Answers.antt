@@ -6,7 +6,7 @@ use mathlib.Core.List.{List}
 use mathlib.Core.Path.{◌∙◌, ap, refl, sym}
 use native.Mathlib.Omega.{arith}
 use Rattle.sections.proofs.LineLaws.{joined-nil, row-bytes, rows-broken, rows_end, rows_other, rows_row}
-use Rattle.sections.specs.Lines.{is, pattern_field, read, told_line}
+use Rattle.sections.specs.Lines.{pattern_field, read, told_line}
 use Rattle.text.specs.Pieces.{ended}
 use Rattle.sections.specs.declared.Line.{Line}
 use Rattle.sections.proofs.kernel.patterns.parse_pattern_rows.Goals as goal

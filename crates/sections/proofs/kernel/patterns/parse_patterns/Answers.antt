@@ -1,5 +1,5 @@
 -- `sections::kernel::patterns::parse_patterns` meets its contract.
-use Prim.Native.Nat.{◌+◌, ◌-◌}
+use Prim.Native.Nat.{◌+◌}
 use borrow.Author.Rules.{rules}
 use lib.ListN.{length-set}
 use lib.Seq.{take-set-le}

@@ -1,0 +1,37 @@
+-- `sheet_step::kernel::asks::sheet_first_no` meets its contract.
+use lib.Dec.{eqb}
+use lib.ListN.{length}
+use mathlib.Core.Bool.{◌&&◌}
+use mathlib.Core.Path.{◌≡◌}
+use Rattle.list_laws.proofs.BoolLaws.{no_of, yes_of}
+use Rattle.ask.specs.Ask.{first_no}
+use Rattle.sheet_step.proofs.CountLaws.{marks-held}
+use Rattle.sheet_step.proofs.StepLaws.{sheet-lengths}
+use Rattle.sheet_step.specs.Steps.{are_sheet_lengths}
+use Rattle.sheet_step.proofs.kernel.asks.sheet_first_no.Goals.{After-bytes_for}
+use Rattle.sheet_step.proofs.kernel.asks.sheet_first_no.Goals as goal
+
+-- question 12's answer
+lengths-are : (c : After-bytes_for) → (c.lengths_ok.result && eqb (length c.args.marks.now) c.bytes_for.result) ≡ are_sheet_lengths c.args.z c.args.weights c.args.flags (length c.args.marks.now)
+unfolding are_sheet_lengths
+lengths-are c = rw (c.lengths_ok.ensures, c.bytes_for.ensures)
+
+pub returns-then-not-lengths_ok-marks : goal.returns-then-not-lengths_ok-marks
+unfolding first_no
+returns-then-not-lengths_ok-marks c =
+    rw (no_of (lengths-are (goal.at.returns-then-not-lengths_ok-marks c).After-bytes_for) c.if-not-lengths_ok-marks.true)
+
+pub marks_ok-requires : goal.marks_ok-requires
+marks_ok-requires c =
+    let l : _ = sheet-lengths c.args.z c.args.weights c.args.flags (length c.args.marks.now) (yes_of (lengths-are (goal.at.marks_ok-requires c).After-bytes_for) c.if-not-lengths_ok-marks.false) in
+    (c.requires.pairs-some, marks-held c.args.z c.requires c.args.marks.now l.1.1)
+
+pub returns-then-not-marks_ok : goal.returns-then-not-marks_ok
+unfolding first_no
+returns-then-not-marks_ok c =
+    rw (yes_of (lengths-are (goal.at.returns-then-not-marks_ok c).After-bytes_for) c.if-not-lengths_ok-marks.false, no_of c.marks_ok.ensures c.if-not-marks_ok.true)
+
+pub returns : goal.returns
+unfolding first_no
+returns c =
+    rw (yes_of (lengths-are (goal.at.returns c).After-bytes_for) c.if-not-lengths_ok-marks.false, yes_of c.marks_ok.ensures c.if-not-marks_ok.false)
