@@ -1,4 +1,7 @@
 // The answer to a text: the listing of its study, or the number of the first question that it fails.
+
+#![tactic(auto)]
+
 ghost use Rattle.std.specs.Prelude.{◌≡◌, length};
 ghost use Rattle.answer.specs.Texts.{answer_of, answered};
 

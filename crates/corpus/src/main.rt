@@ -1,4 +1,7 @@
 // Answers the texts of standard input one after the other. Each is a line of six digits, how many bytes it has, and then those bytes.
+
+#![tactic(auto)]
+
 ghost use Rattle.std.specs.Prelude.{◌≡◌, length};
 
 use replay_input::kernel as input;

@@ -1,4 +1,7 @@
 // The carry-on of the run sheet: all its open pieces.
+
+#![tactic(auto)]
+
 ghost use Rattle.triplet_study.specs.Lent.{study_in};
 ghost use Rattle.sheet_step.specs.Lent.{sheet_in, sheet_out};
 ghost use Rattle.sheet_step.specs.Steps.{carry, Did};

@@ -1,4 +1,7 @@
 // The run of a named piece of the run sheet.
+
+#![tactic(auto)]
+
 ghost use Rattle.triplet_study.specs.Lent.{study_in};
 ghost use Rattle.sheet_step.specs.Lent.{sheet_in, sheet_out};
 ghost use Rattle.sheet_step.specs.Steps.{run, Did};

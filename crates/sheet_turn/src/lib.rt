@@ -1,4 +1,7 @@
 // One call on a sheet whose questions 3 to 13 say yes: it asks its own, then works. What all calls of a list share is made once, and lent.
+
+#![tactic(auto)]
+
 use sheet_tally::Tally;
 
 pub mod kernel;

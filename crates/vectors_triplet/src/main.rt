@@ -8,6 +8,9 @@
 //   4  weights of one triplet: the same
 //
 // Refusal 0 is an accepted call. Each block has its own grids and studies. Weights are compared by bits.
+
+#![tactic(auto)]
+
 ghost use Rattle.std.specs.Prelude.{◌≡◌, ◌<◌, length};
 
 use ask::Answer;

@@ -8,30 +8,25 @@ use Rattle.answer_weights.proofs.ListedLaws.{wrote_so}
 use Rattle.answer_weights.proofs.ReadyLaws.{few-made, may-list, passed}
 use Rattle.answer_weights.specs.Answers.{listing_for}
 use Rattle.triplet_study.proofs.StudyLaws.{few-counts, study-shaped}
-use Rattle.triplet_study.specs.Study.{Study, study}
-use Rattle.answer_weights.proofs.kernel.put_study.Goals.{After-flag_buffer-flags, After-sizes_of-z, After-weight_buffer-weights, Start}
+use Rattle.triplet_study.specs.Study.{study}
+use Rattle.answer_weights.proofs.kernel.put_study.Goals.{After-flag_buffer-flags, After-sizes_of-z, After-weight_buffer-weights}
 use Rattle.answer_weights.proofs.kernel.put_study.Goals as goal
-
-abbrev asked : Start → Study
-asked s = study s.args.shape s.args.addresses.now s.args.gp_map.now s.args.steps.now s.args.frequencies1.now s.args.frequencies2.now s.args.points.now s.args.triplets.now
 
 -- its counts are few
 few : (c : After-sizes_of-z) → (c.sizes_of-z.result.cells ≤ 4096) × (c.sizes_of-z.result.channels * c.sizes_of-z.result.cells ≤ 4096)
 few c =
-    let s : tie.Start = c in
-    few-made (asked s) s.requires.0 c.sizes_of-z.result c.sizes_of-z.ensures
+    few-made (study c.args.shape c.args.addresses.now c.args.gp_map.now c.args.steps.now c.args.frequencies1.now c.args.frequencies2.now c.args.points.now c.args.triplets.now) c.requires.triplets_value c.sizes_of-z.result c.sizes_of-z.ensures
 
 -- the lent parts of the buffers are as long as the counts say
 weights-fit : (c : After-weight_buffer-weights) → length (take (c.sizes_of-z.result.channels * c.sizes_of-z.result.cells) c.weight_buffer-weights.result) ≡ c.sizes_of-z.result.channels * c.sizes_of-z.result.cells
-weights-fit c = length-take-le _ c.weight_buffer-weights.result (omega (arith, ((let s : tie.Start = c in few-made (asked s) s.requires.0 c.sizes_of-z.result c.sizes_of-z.ensures)).1, c.weight_buffer-weights.ensures))
+weights-fit c = length-take-le _ c.weight_buffer-weights.result (omega (arith, (few-made (study c.args.shape c.args.addresses.now c.args.gp_map.now c.args.steps.now c.args.frequencies1.now c.args.frequencies2.now c.args.points.now c.args.triplets.now) c.requires.triplets_value c.sizes_of-z.result c.sizes_of-z.ensures).1, c.weight_buffer-weights.ensures))
 
 flags-fit : (c : After-flag_buffer-flags) → length (take c.sizes_of-z.result.cells c.flag_buffer-flags.result) ≡ c.sizes_of-z.result.cells
-flags-fit c = length-take-le _ c.flag_buffer-flags.result (omega (arith, ((let s : tie.Start = c in few-made (asked s) s.requires.0 c.sizes_of-z.result c.sizes_of-z.ensures)).0, c.flag_buffer-flags.ensures))
+flags-fit c = length-take-le _ c.flag_buffer-flags.result (omega (arith, (few-made (study c.args.shape c.args.addresses.now c.args.gp_map.now c.args.steps.now c.args.frequencies1.now c.args.frequencies2.now c.args.points.now c.args.triplets.now) c.requires.triplets_value c.sizes_of-z.result c.sizes_of-z.ensures).0, c.flag_buffer-flags.ensures))
 
 pub sizes_of-z-requires : goal.sizes_of-z-requires
 sizes_of-z-requires c =
-    let s : tie.Start = c in
-    few-counts (passed (asked s) s.requires.0)
+    few-counts (passed (study c.args.shape c.args.addresses.now c.args.gp_map.now c.args.steps.now c.args.frequencies1.now c.args.frequencies2.now c.args.points.now c.args.triplets.now) c.requires.triplets_value)
 
 pub overflow_mul-n : goal.overflow_mul-n
 overflow_mul-n c =
@@ -55,10 +50,8 @@ slice_bounds-put_weights-end-2 c =
 
 pub put_weights-requires : goal.put_weights-requires
 put_weights-requires c =
-    let s : tie.Start = c in
-    may-list (asked s) s.requires.0 c.sizes_of-z.result c.sizes_of-z.ensures _ _ (weights-fit (goal.at.put_weights-requires c).After-weight_buffer-weights) (flags-fit (goal.at.put_weights-requires c).After-flag_buffer-flags) s.requires.1.0 s.requires.1.1
+    may-list (study c.args.shape c.args.addresses.now c.args.gp_map.now c.args.steps.now c.args.frequencies1.now c.args.frequencies2.now c.args.points.now c.args.triplets.now) c.requires.triplets_value c.sizes_of-z.result c.sizes_of-z.ensures _ _ (weights-fit (goal.at.put_weights-requires c).After-weight_buffer-weights) (flags-fit (goal.at.put_weights-requires c).After-flag_buffer-flags) c.requires.points_len_bound.0 c.requires.points_len_bound.1
 
 pub returns : goal.returns
 returns c =
-    let s : tie.Start = c in
-    wrote_so _ _ _ _ _ c.put_weights.ensures.0 c.put_weights.ensures.1 (ap listing_for (study-shaped (asked s) c.sizes_of-z.result c.sizes_of-z.ensures))
+    wrote_so _ _ _ _ _ c.put_weights.ensures.0 c.put_weights.ensures.1 (ap listing_for (study-shaped (study c.args.shape c.args.addresses.now c.args.gp_map.now c.args.steps.now c.args.frequencies1.now c.args.frequencies2.now c.args.points.now c.args.triplets.now) c.sizes_of-z.result c.sizes_of-z.ensures))

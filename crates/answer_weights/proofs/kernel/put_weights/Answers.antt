@@ -6,14 +6,13 @@ use Rattle.answer_weights.proofs.ListedLaws.{listable, listed, wrote_as}
 use Rattle.answer_weights.proofs.kernel.put_weights.Goals as goal
 
 pub put_listing-requires-clause-points_nonzero : goal.put_listing-requires-clause-points_nonzero
-put_listing-requires-clause-points_nonzero c = let s : tie.Start = c in
-    listable s.requires.0 _ _ c.fill_triplets.ensures.0 c.fill_triplets.ensures.1
+put_listing-requires-clause-points_nonzero c =
+    listable c.requires.0 _ _ c.fill_triplets.ensures.0 c.fill_triplets.ensures.1
 
 pub put_listing-requires-clause-flags_in_bounds : goal.put_listing-requires-clause-flags_in_bounds
-put_listing-requires-clause-flags_in_bounds c = let s : tie.Start = c in
-    omega (arith, s.requires.1, ap length (listed s.requires.0 _ _ c.fill_triplets.ensures.0 c.fill_triplets.ensures.1))
+put_listing-requires-clause-flags_in_bounds c =
+    omega (arith, c.requires.1, ap length (listed c.requires.0 _ _ c.fill_triplets.ensures.0 c.fill_triplets.ensures.1))
 
 pub returns : goal.returns
 returns c =
-    let s : tie.Start = c in
-    wrote_as _ _ _ _ _ c.put_listing.ensures.0 c.put_listing.ensures.1 (listed s.requires.0 _ _ c.fill_triplets.ensures.0 c.fill_triplets.ensures.1)
+    wrote_as _ _ _ _ _ c.put_listing.ensures.0 c.put_listing.ensures.1 (listed c.requires.0 _ _ c.fill_triplets.ensures.0 c.fill_triplets.ensures.1)

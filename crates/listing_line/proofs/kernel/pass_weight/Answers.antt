@@ -13,6 +13,7 @@ use Rattle.listing_line.proofs.LineLaws.{weight-bad, weight-length, weight-print
 use Rattle.listing_line.proofs.kernel.pass_weight.Goals.{After-parse_bits}
 use Rattle.listing_line.proofs.kernel.pass_weight.Goals as goal
 
+-- what was read are the sixteen digits
 read : (c : After-parse_bits) → c.parse_bits.result ≡ bits (take 16 (drop c.args.at c.args.text.now))
 read c =
     let q : c.args.at + 16 - c.args.at ≡ 16 = omega arith in

@@ -10,6 +10,7 @@ use Rattle.listing_line.proofs.LineLaws.{weight_is}
 use Rattle.listing_line.proofs.kernel.weight_at.Goals.{After-parse_bits}
 use Rattle.listing_line.proofs.kernel.weight_at.Goals as goal
 
+-- what was read is the weight
 read : (c : After-parse_bits) → float_of c.parse_bits.result ≡ weight_here c.args.text.now c.args.at
 read c =
     let q : c.args.at + 16 - c.args.at ≡ 16 = omega arith in

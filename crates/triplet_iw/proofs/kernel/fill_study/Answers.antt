@@ -12,6 +12,7 @@ use Prim.Native.Nat.{ℕ}
 use Rattle.triplet_iw.proofs.kernel.fill_study.Goals.{Start}
 use Rattle.triplet_iw.proofs.kernel.fill_study.Goals as goal
 
+-- the study that the arguments make
 abbrev asked : Start → Study
 asked s =
     study s.args.shape s.args.addresses.now s.args.gp_map.now s.args.relative_grid_address.now s.args.frequencies1.now s.args.frequencies2.now s.args.frequency_points.now s.args.triplets.now

@@ -11,6 +11,7 @@ use Rattle.writing.specs.Written.{written}
 use Rattle.writing.proofs.kernel.put_bits.Goals.{After-hex-k}
 use Rattle.writing.proofs.kernel.put_bits.Goals as goal
 
+-- the digits are the number's, and as many
 spelled : (c : After-hex-k) → take c.hex-k.result c.hex-k.new.out ≡ hexadecimal c.args.n
 spelled c = c.hex-k.ensures.digits ∙ bits_is c.args.n c.hex-k.result (omega arith) c.hex-k.ensures.len
 

@@ -11,6 +11,7 @@ use Rattle.writing.specs.Written.{written}
 use Rattle.writing.proofs.kernel.put_decimal.Goals.{After-decimal-k}
 use Rattle.writing.proofs.kernel.put_decimal.Goals as goal
 
+-- the digits are the number's, and as many
 spelled : (c : After-decimal-k) → take c.decimal-k.result c.decimal-k.new.out ≡ decimal c.args.n
 spelled c = c.decimal-k.ensures.digits ∙ decimal-is c.args.n c.decimal-k.result (omega arith) c.decimal-k.ensures.len
 

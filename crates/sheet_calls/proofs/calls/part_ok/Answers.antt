@@ -1,0 +1,10 @@
+-- `sheet_calls::calls::part_ok` meets its contract.
+use mir.Syntax.{w64}
+use mir.ValLaws.{to_z-of_z}
+use Rattle.sheet_calls.specs.Calls.{is_part}
+use Rattle.sheet_calls.proofs.calls.part_ok.Goals as goal
+
+pub returns : goal.returns
+unfolding is_part
+returns c =
+    rw (c.nonneg.ensures, c.nonneg-2.ensures, c.magnitude-s.ensures, c.magnitude-e.ensures, to_z-of_z w64 c.args.start c.ranges.start, to_z-of_z w64 c.args.end c.ranges.end)
