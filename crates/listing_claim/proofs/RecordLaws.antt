@@ -28,7 +28,7 @@ use Rattle.reading.proofs.RowLaws.{piece-stands, rows-stand}
 use Rattle.listing_line.specs.Lines.{numbers_of, flag_here, float_of, weight_here}
 use Rattle.listing_line.proofs.LineLaws.{number-zero, number-one, flag-zero, flag_one, spelled-read, sixteen}
 use Rattle.listing_read.specs.Restored.{place_of, line_start, flag_place, weight_place, flags_in, weights_in, is_listing}
-use Rattle.listing_read.proofs.RestoredLaws.{line-is, written-two, weights-seventeen, start_is, flags-length, weights-length, flag-in, weight-in}
+use Rattle.listing_read.proofs.RestoredLaws.{line-is, flag-two, weights-seventeen, start_is, flags-length, weights-length, flag-in, weight-in}
 use Rattle.listing_claim.specs.Records.{IsFlag, IsDouble, IsRecord}
 
 written-zero : (flags : List ℤ) (e : ℕ) → at flags e ≡ pos 0 → flag_at flags e ≡ 0
@@ -73,7 +73,7 @@ module _ (points bands1 bands2 channels cells : ℕ) (weights : List Float) (fla
   weights-stand e l =
       let n : List ℕ = numbers_of (place_of points bands1 bands2 e) in
       let s : Stand (lines e) (line_start points bands1 bands2 channels e) text = piece-stands header lines cells e (line_start points bands1 bands2 channels e) text listed l (sym (start_is points bands1 bands2 channels weights flags e)) in
-      let q : line_start points bands1 bands2 channels e + length (n ++ number (flag_at flags e) 9) ≡ flag_place points bands1 bands2 channels e + 2 = omega (arith, length-append n (number (flag_at flags e) 9), written-two points bands1 bands2 channels flags e) in
+      let q : line_start points bands1 bands2 channels e + length (n ++ number (flag_at flags e) 9) ≡ flag_place points bands1 bands2 channels e + 2 = omega (arith, length-append n (number (flag_at flags e) 9), flag-two points bands1 bands2 channels flags e) in
       rw q at
       (stand-second (n ++ number (flag_at flags e) 9) (weights_of weights (length flags) e channels) (line_start points bands1 bands2 channels e) text (rw (line-is points bands1 bands2 channels weights flags e) at s))
 

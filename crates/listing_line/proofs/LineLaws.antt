@@ -37,9 +37,9 @@ unfolding decimal places
 number-one = refl
 
 -- a flag and its tab are two bytes, whatever says that it is 0
-pub flag-two : (zero : Bool) → length (number (cond zero 0 1) 9) ≡ 2
-flag-two true = ap length number-zero
-flag-two false = ap length number-one
+pub two-bytes : (zero : Bool) → length (number (cond zero 0 1) 9) ≡ 2
+two-bytes true = ap length number-zero
+two-bytes false = ap length number-one
 
 module _ (text : List ℕ) (at : ℕ) where
   pub flag-zero : get_or text at 0 ≡ 48 → flag_here text at ≡ 0
@@ -52,7 +52,7 @@ module _ (text : List ℕ) (at : ℕ) where
 
   pub flag-length : length (number (flag_here text at) 9) ≡ 2
   unfolding flag_here
-  flag-length = flag-two (eqb (get_or text at 0) 48)
+  flag-length = two-bytes (eqb (get_or text at 0) 48)
 
   module _ (h : at < length text) where
     -- a digit that is a flag's: what is left is the tab

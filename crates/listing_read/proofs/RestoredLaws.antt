@@ -24,7 +24,7 @@ use Rattle.reading.specs.Passed.{passed}
 use Rattle.reading.proofs.PassedLaws.{Stand, passed-yes, stand-first, stand-room, whole_is, whole-passed}
 use Rattle.reading.proofs.RowLaws.{rows_ext, rows_long, one_more_lem, front-stands, piece-stands, piece-passed, rows-lost}
 use Rattle.listing_line.specs.Lines.{numbers_of, flag_here, weight_here, weights_here, line_here}
-use Rattle.listing_line.proofs.LineLaws.{flag-two, weight-length}
+use Rattle.listing_line.proofs.LineLaws.{two-bytes, weight-length}
 use Rattle.listing_read.specs.Restored.{place_of, next_place, line_start, flag_place, weight_place, flags_in, weights_in, is_listing}
 
 -- ---- the place after a place
@@ -102,9 +102,9 @@ module _ (points bands1 bands2 channels : ℕ) where
   unfolding line_of front_of numbers_of place_of
   line-is weights flags e = refl
 
-  pub written-two : (flags : List ℤ) (e : ℕ) → length (number (flag_at flags e) 9) ≡ 2
+  pub flag-two : (flags : List ℤ) (e : ℕ) → length (number (flag_at flags e) 9) ≡ 2
   unfolding flag_at
-  written-two flags e = flag-two (eq_z (at flags e) (pos 0))
+  flag-two flags e = two-bytes (eq_z (at flags e) (pos 0))
 
   pub weights-seventeen : (weights : List Float) (total e n : ℕ) → length (rows n (weight_of weights total e channels)) ≡ n * 17
   unfolding weight_of
@@ -118,7 +118,7 @@ module _ (points bands1 bands2 channels : ℕ) where
         arith,
         length-append (numbers e ++ number (flag_at flags e) 9) (weights_of weights (length flags) e channels),
         length-append (numbers e) (number (flag_at flags e) 9),
-        written-two flags e,
+        flag-two flags e,
         weights-seventeen weights (length flags) e channels,
       )
 

@@ -1,2 +1,5 @@
 // A sheet's content out of standard input, and what a replay of its calls counts and prints.
+
+#![tactic(auto)]
+
 pub mod kernel;

@@ -1,4 +1,7 @@
 // Lists of calls on a run sheet: what all calls ask is asked once.
+
+#![tactic(auto)]
+
 ghost use Rattle.std.specs.Prelude.{length};
 ghost use Rattle.triplet_study.specs.Lent.{study_in};
 ghost use Rattle.sheet_step.specs.Lent.{sheet_in, sheet_out};

@@ -1,2 +1,5 @@
 // The calls of a list, one after the other, on a sheet and with what all calls take: made once, and lent.
+
+#![tactic(auto)]
+
 pub mod kernel;

@@ -39,8 +39,7 @@ fill_neighbours-requires c =
 pub loop-i-preserved : goal.loop-i-preserved
 loop-i-preserved c =
     let s : _ = (goal.at.loop-i-preserved c).Start in
-    let size = triples_in c.args.steps.now in
-    (
+    let size = triples_in c.args.steps.now in (
       omega arith,
       same_len_mid c.loop-i.start (c.loop-i.start + size - c.loop-i.start) c.loop-i.out c.fill_neighbours.new.out c.fill_neighbours.auto.out ∙ c.loop-i.invariant.1,
       row_next c.loop-i.i size c.loop-i.start c.loop-i.invariant.2,

@@ -13,12 +13,11 @@ pub loop-i-init : goal.loop-i-init
 loop-i-init c = (omega arith, c.requires, fill_none number_of c.args.out.now)
 
 pub loop-i-preserved : goal.loop-i-preserved
-loop-i-preserved c =
-    (
-      omega arith,
-      simp length-set (omega arith),
-      fill-next number_of c.loop-i.out c.loop-i.i _ (omega arith) c.loop-i.invariant.2 (back c.number.result c.number.type_inv ∙ c.number.ensures),
-    )
+loop-i-preserved c = (
+  omega arith,
+  simp length-set (omega arith),
+  fill-next number_of c.loop-i.out c.loop-i.i _ (omega arith) c.loop-i.invariant.2 (back c.number.result c.number.type_inv ∙ c.number.ensures),
+)
 
 pub returns : goal.returns
 returns c = fill_end number_of c.loop-i.out c.loop-i.i 1152 c.loop-i.invariant.2 (omega arith) (omega arith) ∙ numbers-are

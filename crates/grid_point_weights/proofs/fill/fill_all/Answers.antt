@@ -45,8 +45,7 @@ fill_point-requires c =
 
 pub loop-i-preserved : goal.loop-i-preserved
 loop-i-preserved c =
-    let size = size_of (goal.at.loop-i-preserved c).Start in
-    (
+    let size = size_of (goal.at.loop-i-preserved c).Start in (
       omega arith,
       same_len_mid c.loop-i.start (c.loop-i.start + size - c.loop-i.start) c.loop-i.iw c.fill_point.new.iw c.fill_point.auto.iw ∙ c.loop-i.invariant.1,
       row_next c.loop-i.i size c.loop-i.start c.loop-i.invariant.2,

@@ -13,13 +13,13 @@ loop-i-init c = (omega arith, omega arith, least-none (length_of c.args.rec_latt
 pub loop-i-preserved : goal.loop-i-preserved
 loop-i-preserved c =
     elim c.if-min_length-length.branch [
-      then-min_length-length w ↦ (
+      | then-min_length-length w ↦ (
         omega arith,
         omega arith,
         w.shortest-is ∙ least-take (length_of c.args.rec_lattice) c.loop-i.i c.loop-i.shortest c.loop-i.invariant.0 c.loop-i.invariant.2 (rw (c.length_of-length.ensures, c.loop-i.invariant.3) at w.if-min_length-length.true),
         w.min_length-is ∙ c.length_of-length.ensures ∙ ap (length_of c.args.rec_lattice) (sym w.shortest-is),
       )
-    | else-min_length-length w ↦ (
+      | else-min_length-length w ↦ (
         omega arith,
         omega arith,
         w.shortest-is ∙ least-keep (length_of c.args.rec_lattice) c.loop-i.i c.loop-i.shortest c.loop-i.invariant.0 c.loop-i.invariant.2 (rw (c.length_of-length.ensures, c.loop-i.invariant.3) at w.if-min_length-length.false),

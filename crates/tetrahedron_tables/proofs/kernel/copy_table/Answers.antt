@@ -12,12 +12,11 @@ pub loop-i-init : goal.loop-i-init
 loop-i-init c = (omega arith, c.requires.1, fill_none _ c.args.out.now)
 
 pub loop-i-preserved : goal.loop-i-preserved
-loop-i-preserved c =
-    (
-      omega arith,
-      simp length-set (omega arith),
-      fill-next _ c.loop-i.out c.loop-i.i _ (omega arith) c.loop-i.invariant.2 (back c.number.result c.number.type_inv ∙ c.number.ensures),
-    )
+loop-i-preserved c = (
+  omega arith,
+  simp length-set (omega arith),
+  fill-next _ c.loop-i.out c.loop-i.i _ (omega arith) c.loop-i.invariant.2 (back c.number.result c.number.type_inv ∙ c.number.ensures),
+)
 
 pub returns : goal.returns
 returns c =

@@ -18,12 +18,11 @@ loop-top-smaller c =
     omega (arith, next-bounds (starts_at _) c.loop-top-test.true c.set_end-bottom.ensures)
 
 pub loop-top-preserved : goal.loop-top-preserved
-loop-top-preserved c =
-    (
-      (next-bounds _ c.loop-top-test.true c.set_end-bottom.ensures).1,
-      next-first _ c.loop-top-test.true c.set_end-bottom.ensures,
-      rows-turn c.args.n (flag_in c.args.n) _ _ _ _ c.args.m.now c.loop-top.m _ c.loop-top-test.true (c.loop-top.invariant.1 c.loop-top-test.true) c.set_end-bottom.ensures c.loop-top.invariant.2 c.average_rows.ensures,
-    )
+loop-top-preserved c = (
+  (next-bounds _ c.loop-top-test.true c.set_end-bottom.ensures).1,
+  next-first _ c.loop-top-test.true c.set_end-bottom.ensures,
+  rows-turn c.args.n (flag_in c.args.n) _ _ _ _ c.args.m.now c.loop-top.m _ c.loop-top-test.true (c.loop-top.invariant.1 c.loop-top-test.true) c.set_end-bottom.ensures c.loop-top.invariant.2 c.average_rows.ensures,
+)
 
 pub average_rows-requires-clause-top_le_bottom : goal.average_rows-requires-clause-top_le_bottom
 average_rows-requires-clause-top_le_bottom c =

@@ -18,12 +18,11 @@ loop-left-smaller c =
     omega (arith, next-bounds (starts_at _) c.loop-left-test.true c.set_end-right.ensures)
 
 pub loop-left-preserved : goal.loop-left-preserved
-loop-left-preserved c =
-    (
-      (next-bounds _ c.loop-left-test.true c.set_end-right.ensures).1,
-      next-first _ c.loop-left-test.true c.set_end-right.ensures,
-      columns-turn c.args.n (flag_in c.args.n) _ _ _ _ c.args.m.now c.loop-left.m _ c.loop-left-test.true (c.loop-left.invariant.1 c.loop-left-test.true) c.set_end-right.ensures c.loop-left.invariant.2 c.average_block.ensures,
-    )
+loop-left-preserved c = (
+  (next-bounds _ c.loop-left-test.true c.set_end-right.ensures).1,
+  next-first _ c.loop-left-test.true c.set_end-right.ensures,
+  columns-turn c.args.n (flag_in c.args.n) _ _ _ _ c.args.m.now c.loop-left.m _ c.loop-left-test.true (c.loop-left.invariant.1 c.loop-left-test.true) c.set_end-right.ensures c.loop-left.invariant.2 c.average_block.ensures,
+)
 
 pub average_block-requires-clause-left_le_right : goal.average_block-requires-clause-left_le_right
 average_block-requires-clause-left_le_right c =

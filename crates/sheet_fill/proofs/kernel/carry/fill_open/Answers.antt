@@ -51,10 +51,9 @@ fill_piece-last-requires-clause-second_value c = let long = computed-lengths c.l
     let o : is_open_mark c.loop-q.marks c.loop-q.q ≡ true = eq-eqb _ 0 (sym c.mark_at.ensures ∙ c.if-mark_at-ne-OPEN.false) in (c.requires.second_value.0, (omega (arith, c.loop-q-test.true), (marks-hold (goal.at.fill_piece-last-requires-clause-second_value c).Start c.loop-q.q c.loop-q.marks c.loop-q.invariant.1, o)))
 
 pub loop-q-preserved : goal.loop-q-preserved
-loop-q-preserved c =
-    (
-      omega (arith, c.loop-q-test.true),
-      c.fill_piece-last.ensures.marks_after ∙ closed-more c.args.marks.now c.loop-q.marks c.loop-q.q c.loop-q.invariant.1,
-      computed-join (studied (goal.at.loop-q-preserved c).Start) (is_open_at c.loop-q.q c.args.marks.now) (is_open_piece c.loop-q.marks c.loop-q.q) (is_open_at (c.loop-q.q + 1) c.args.marks.now) (open_more c.args.marks.now c.loop-q.marks c.loop-q.q c.loop-q.invariant.1) c.loop-q.invariant.2 c.fill_piece-last.ensures.computes,
-      c.fill_piece-last.ensures.kept_2,
-    )
+loop-q-preserved c = (
+  omega (arith, c.loop-q-test.true),
+  c.fill_piece-last.ensures.marks_after ∙ closed-more c.args.marks.now c.loop-q.marks c.loop-q.q c.loop-q.invariant.1,
+  computed-join (studied (goal.at.loop-q-preserved c).Start) (is_open_at c.loop-q.q c.args.marks.now) (is_open_piece c.loop-q.marks c.loop-q.q) (is_open_at (c.loop-q.q + 1) c.args.marks.now) (open_more c.args.marks.now c.loop-q.marks c.loop-q.q c.loop-q.invariant.1) c.loop-q.invariant.2 c.fill_piece-last.ensures.computes,
+  c.fill_piece-last.ensures.kept_2,
+)

@@ -8,9 +8,9 @@ use Rattle.sheet_fill.proofs.kernel.run.fill_named.Goals as goal
 
 pub keep_corners-requires-clause-sound_grid : goal.keep_corners-requires-clause-sound_grid
 keep_corners-requires-clause-sound_grid c = (
-        grid-sound c.requires.ready,
-        ((c.requires.ready.tested.table, steps-few c.requires.ready), (rw c.requires.second_value.0 (second-triples c.args.z.tp c.args.steps.now c.requires.ready.tested.table), rw c.requires.second_value.0 (omega (arith, second-length c.args.z.tp c.args.steps.now, steps-few c.requires.ready)))),
-      )
+  grid-sound c.requires.ready,
+  ((c.requires.ready.tested.table, steps-few c.requires.ready), (rw c.requires.second_value.0 (second-triples c.args.z.tp c.args.steps.now c.requires.ready.tested.table), rw c.requires.second_value.0 (omega (arith, second-length c.args.z.tp c.args.steps.now, steps-few c.requires.ready)))),
+)
 
 pub keep_corners-requires-clause-t_in_bounds : goal.keep_corners-requires-clause-t_in_bounds
 keep_corners-requires-clause-t_in_bounds c = (triplet-in c.requires.ready c.args.t c.requires.second_value.1.0, c.requires.ready.tested.triplets-at)
