@@ -1,5 +1,8 @@
 // What programs in other languages call: each public entry under its C name. A status is 0, or the number of the first question
 // that is answered no; a refused call leaves every buffer as it was. `pelmetsavory_answer` alone has no status: its refusal is text.
+
+#![tactic(auto)]
+
 pub mod answering;
 pub mod grids;
 pub mod listings;

@@ -14,6 +14,9 @@
 // Refusal 0 is an accepted call. All counts are hexadecimal. Each block has its own grids, tables and studies. A list's sheet goes
 // from call to call, and after each call all of it is compared, weights by bits; of a NaN only that it is one, since a proved program
 // can make and read no other.
+
+#![tactic(auto)]
+
 ghost use Rattle.std.specs.Prelude.{◌≡◌, length};
 
 use replay_calls::kernel::calls;
