@@ -10,7 +10,7 @@ use lib.IntN.{ℤ}
 use lib.ListN.{length, get_or, length-map, length-append, get_or-append}
 use lib.Seq.{get_or-append-add}
 use Rattle.list_laws.specs.Lists.{one_if, how_many, Each}
-use Rattle.list_laws.specs.Matrix.{Block, block, has_entry}
+use Rattle.list_laws.specs.Matrix.{Block, has_entry}
 use Rattle.list_laws.proofs.CountLaws.{many-append, many-map, many-both, each_append, each_map, each-as}
 use Rattle.list_laws.proofs.MapLaws.{get_or-map-lt}
 use Rattle.list_laws.proofs.MatrixLaws.{has_in}

@@ -8,7 +8,7 @@ use native.Mathlib.Nat.{div-add-mod', mod-lt}
 use native.Mathlib.Omega.{arith}
 use lib.ListN.{length, get_or}
 use Rattle.list_laws.specs.Lists.{places_below}
-use Rattle.list_laws.specs.Matrix.{Block, block, InBlock, Replaced, has_entry}
+use Rattle.list_laws.specs.Matrix.{Block, InBlock, Replaced, has_entry}
 use Rattle.list_laws.proofs.BoolLaws.{clash, true-or-false}
 use Rattle.list_laws.proofs.MatrixLaws.{square-pos, has_in, in-has}
 use Rattle.list_laws.proofs.PatchLaws.{patch-is}

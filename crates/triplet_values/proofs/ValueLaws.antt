@@ -3,7 +3,6 @@ use mathlib.Core.Path.{◌≡◌, refl, ◌∙◌, subst}
 use mathlib.Core.List.{List}
 use Prim.Native.Nat.{ℕ, zero, suc, ◌+◌, ◌<◌}
 use native.Mathlib.Nat.{lt_irrefl}
-use native.Mathlib.Omega.{arith}
 use borrow.Author.Count.{below_more}
 use lib.Ieee.{Float, nan}
 use lib.ListN.{get_or, length, set}

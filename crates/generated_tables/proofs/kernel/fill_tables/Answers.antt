@@ -1,6 +1,5 @@
 -- The loop writes the numbers in order, and these are the four tables.
 use mathlib.Core.Path.{◌∙◌}
-use Prim.Native.Nat.{◌-◌}
 use native.Mathlib.Omega.{arith}
 use lib.ListN.{length-set}
 use Rattle.list_laws.proofs.FillLaws.{fill_none, fill-next, fill_end}

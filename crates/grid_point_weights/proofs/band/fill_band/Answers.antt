@@ -1,5 +1,5 @@
 -- `grid_point_weights::band::fill_band` meets its contract.
-use Prim.Native.Nat.{◌*◌, ◌+◌, ◌-◌, ◌<◌}
+use Prim.Native.Nat.{◌*◌, ◌+◌, ◌<◌}
 use lib.Ieee.{Float, nan}
 use lib.ListN.{get_or, length}
 use mathlib.Core.List.{List}
@@ -8,7 +8,6 @@ use native.Mathlib.Omega.{arith}
 use Rattle.grid_point_weights.specs.Weights.{corner_weight}
 use Rattle.list_laws.proofs.ColumnLaws.{column-next}
 use Rattle.list_laws.proofs.ProductLaws.{digit_lt}
-use Rattle.list_laws.specs.Lists.{rows}
 use Rattle.tetrahedron_method.proofs.SortedLaws.{weight_is}
 use Rattle.tetrahedron_method.specs.Weight.{weight_of}
 use Rattle.grid_point_weights.proofs.band.fill_band.Goals as goal

@@ -4,7 +4,6 @@ use lib.Ieee.{nan}
 use lib.ListN.{length}
 use Rattle.grid_point_weights.specs.Weights.{corner_weight}
 use Rattle.list_laws.specs.Columns.{InColumn}
-use Rattle.list_laws.specs.Lists.{rows}
 use Rattle.list_laws.specs.Matrix.{Replaced}
 use Rattle.grid_point_weights.proofs.band.fill_band.Given as goal
 

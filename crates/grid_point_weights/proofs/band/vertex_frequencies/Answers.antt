@@ -1,5 +1,4 @@
 -- `grid_point_weights::band::vertex_frequencies` meets its contract.
-use Prim.Native.Nat.{◌-◌}
 use lib.Ieee.{binary64, of_bits}
 use mathlib.Core.Path.{refl}
 use native.Mathlib.Omega.{arith}

@@ -1,5 +1,5 @@
 -- `grid_point_weights::corners::corner_points` meets its contract.
-use Prim.Native.Nat.{◌-◌, ℕ}
+use Prim.Native.Nat.{ℕ}
 use lib.Signed.{mag}
 use mathlib.Core.Path.{◌∙◌, ap}
 use native.Mathlib.Omega.{arith}

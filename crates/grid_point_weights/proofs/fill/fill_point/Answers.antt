@@ -1,5 +1,4 @@
 -- `grid_point_weights::fill::fill_point` meets its contract.
-use Prim.Native.Nat.{◌-◌}
 use mathlib.Core.Path.{◌∙◌, ◌≡◌}
 use native.Mathlib.Omega.{arith}
 use Rattle.grid_point_weights.proofs.WeightLaws.{corners-held, weights-all}

@@ -1,5 +1,5 @@
 -- `marks::kernel::all_computed` meets its contract.
-use Prim.Native.Nat.{◌*◌, ◌+◌, ◌-◌}
+use Prim.Native.Nat.{◌*◌, ◌+◌}
 use native.Mathlib.Omega.{arith}
 use Rattle.list_laws.proofs.BelowLaws.{below_end, below_next, below_none}
 use Rattle.marks.specs.Marks.{are_computed, is_computed_at}

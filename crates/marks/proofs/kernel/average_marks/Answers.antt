@@ -1,5 +1,4 @@
 -- `marks::kernel::average_marks` meets its contract.
-use Prim.Native.Nat.{◌-◌}
 use mathlib.Core.Path.{◌∙◌}
 use native.Mathlib.Omega.{arith}
 use Rattle.marks.proofs.MarkLaws.{averaged-all, averaged-more, averaged-none}

@@ -1,5 +1,4 @@
 -- `marks::kernel::marks_ok` meets its contract.
-use Prim.Native.Nat.{◌-◌}
 use native.Mathlib.Omega.{arith}
 use Rattle.list_laws.proofs.BelowLaws.{below_end, below_next, below_none}
 use Rattle.marks.specs.Marks.{are_marks}

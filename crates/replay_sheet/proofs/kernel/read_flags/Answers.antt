@@ -2,7 +2,7 @@
 use borrow.Author.Rules.{rules}
 use native.Mathlib.Omega.{arith}
 use lib.ListN.{length-set, length}
-use Prim.Native.Nat.{◌-◌, ℕ}
+use Prim.Native.Nat.{ℕ}
 use mir.Syntax.{w8, w64}
 use mir.Facts.{to_z-of_z}
 use Rattle.replay_sheet.proofs.ContentLaws.{flag-next}

@@ -1,7 +1,7 @@
 -- `replay_sheet::kernel::read_marks` meets its contract: at each turn the front of the buffer holds the first i numbers. The measure is what is left of it.
 use native.Mathlib.Omega.{arith}
 use lib.ListN.{length-set, length}
-use Prim.Native.Nat.{◌-◌, ℕ}
+use Prim.Native.Nat.{ℕ}
 use Rattle.replay_sheet.proofs.ContentLaws.{mark-next}
 use mathlib.Core.Path.{◌≡◌, refl, ap, ◌∙◌}
 use Rattle.list_laws.specs.Lists.{tabulate}

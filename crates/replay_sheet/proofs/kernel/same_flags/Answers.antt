@@ -12,7 +12,6 @@ use Rattle.replay_input.specs.Fields.{after_whole, field_place}
 use Rattle.replay_input.proofs.FieldLaws.{place-first, place-next}
 use Rattle.replay_sheet.proofs.ContentLaws.{flag-next}
 use Rattle.replay_sheet.specs.Content.{same_flags}
-use Prim.Native.Nat.{◌-◌}
 use lib.ListN.{get_or, length}
 use Rattle.replay_sheet.proofs.kernel.same_flags.Goals as goal
 

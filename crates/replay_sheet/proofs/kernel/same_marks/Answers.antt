@@ -7,7 +7,6 @@ use Rattle.replay_input.specs.Fields.{after_count, field_place}
 use Rattle.replay_input.proofs.FieldLaws.{place-first, place-next}
 use Rattle.replay_sheet.proofs.ContentLaws.{mark-next}
 use Rattle.replay_sheet.specs.Content.{same_marks}
-use Prim.Native.Nat.{◌-◌}
 use lib.ListN.{get_or, length}
 use Rattle.replay_sheet.proofs.kernel.same_marks.Goals as goal
 

@@ -7,7 +7,6 @@ use Rattle.list_laws.proofs.BelowLaws.{below_none, below_next, below_end}
 use Rattle.replay_input.specs.Fields.{after_bits, field_place}
 use Rattle.replay_input.proofs.FieldLaws.{place-first, place-next, real-next}
 use Rattle.replay_sheet.specs.Content.{same_weights}
-use Prim.Native.Nat.{◌-◌}
 use lib.ListN.{get_or, length}
 use Rattle.replay_sheet.proofs.kernel.same_weights.Goals as goal
 

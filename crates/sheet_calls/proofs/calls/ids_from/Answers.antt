@@ -7,7 +7,6 @@ use mir.ValLaws.{to_z-of_z}
 use native.Mathlib.Omega.{arith}
 use Rattle.sheet_calls.proofs.CallLaws.{ids-none, ids-part, part-within}
 use Rattle.sheet_calls.specs.Calls.{is_part}
-use Rattle.list_laws.specs.Lists.{at}
 use Rattle.sheet_calls.proofs.calls.ids_from.Goals as goal
 
 pub offset_bounds-ids-s : goal.offset_bounds-ids-s

@@ -2,7 +2,7 @@
 use lib.ListN.{length}
 use mathlib.Core.Path.{◌∙◌, refl}
 use native.Mathlib.Omega.{arith}
-use Prim.Native.Nat.{◌+◌, ◌-◌, ◌*◌, ◌≤◌}
+use Prim.Native.Nat.{◌+◌, ◌*◌, ◌≤◌}
 use Rattle.list_laws.proofs.FillLaws.{rows_none, rows_row}
 use Rattle.sheet_tally.specs.Tallies.{sixteen_of}
 use Rattle.sheet_list.proofs.asks.fill_tallies.Goals.{In-loop-i}

@@ -4,7 +4,6 @@ use Rattle.list_laws.proofs.FillLaws.{front-all, front-next, front-none}
 use native.Mathlib.Omega.{arith}
 use mathlib.Core.Path.{◌∙◌, ◌≡◌, refl}
 use lib.ListN.{length, length-set}
-use Prim.Native.Nat.{◌-◌}
 use Rattle.sheet_list.proofs.asks.fill_with.Goals as goal
 
 pub loop-i-init : goal.loop-i-init

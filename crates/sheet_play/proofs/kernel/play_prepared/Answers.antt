@@ -2,7 +2,7 @@
 use lib.ListN.{length, length-set}
 use mathlib.Core.Path.{◌∙◌, ◌≡◌, refl, sym, subst}
 use native.Mathlib.Omega.{arith}
-use Prim.Native.Nat.{◌+◌, ◌-◌, ◌<◌, ◌≤◌, ◌*◌, ℕ}
+use Prim.Native.Nat.{◌+◌, ◌<◌, ◌≤◌, ◌*◌, ℕ}
 use Rattle.list_laws.proofs.FillLaws.{front-next, front-none, rows_end, rows_none, rows_row}
 use Rattle.sheet_fill.proofs.PieceLaws.{kept-none}
 use Rattle.sheet_play.proofs.OutcomeLaws.{after_none, common-after, number-next, number_after, outcome-end, sheet-next, tally-next, tally_after}

@@ -2,7 +2,7 @@
 use lib.ListN.{get_or, length, length-set}
 use mathlib.Core.Path.{◌∙◌, ◌≡◌, ap, refl, sym}
 use native.Mathlib.Omega.{arith}
-use Prim.Native.Nat.{ℕ, ◌-◌}
+use Prim.Native.Nat.{ℕ}
 use Rattle.list_laws.proofs.FillLaws.{front-all, front-next, front-none}
 use Rattle.list_laws.specs.Lists.{tabulate}
 use Rattle.sheet_play.proofs.kernel.store_counts.Goals as goal

@@ -1,6 +1,5 @@
 -- The loop writes a table's entries in order, and these are its flat list.
 use mathlib.Core.Path.{◌∙◌}
-use Prim.Native.Nat.{◌-◌}
 use native.Mathlib.Omega.{arith}
 use lib.ListN.{length-set}
 use Rattle.list_laws.proofs.FillLaws.{fill_none, fill-next, fill_end}

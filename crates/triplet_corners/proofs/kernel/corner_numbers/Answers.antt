@@ -1,5 +1,5 @@
 -- `triplet_corners::kernel::corner_numbers` meets its contract.
-use Prim.Native.Nat.{◌-◌, ◌/◌, zero-le}
+use Prim.Native.Nat.{◌/◌, zero-le}
 use borrow.Author.Rules.{rules}
 use lib.ListN.{length}
 use mathlib.Core.Path.{◌∙◌, ◌≡◌}

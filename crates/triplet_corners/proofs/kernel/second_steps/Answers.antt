@@ -1,5 +1,5 @@
 -- `triplet_corners::kernel::second_steps` meets its contract.
-use Prim.Native.Nat.{◌-◌, zero-le}
+use Prim.Native.Nat.{zero-le}
 use borrow.Author.Rules.{rules}
 use lib.IntN.{pos}
 use lib.ListN.{length}

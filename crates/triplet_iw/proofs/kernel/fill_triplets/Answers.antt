@@ -6,7 +6,7 @@ use Rattle.triplet_corners.proofs.CornerLaws.{second-lent}
 use Rattle.triplet_study.specs.Study.{Study, study}
 use native.Mathlib.Omega.{arith}
 use mathlib.Core.Path.{◌≡◌, refl}
-use Prim.Native.Nat.{◌-◌, zero-le}
+use Prim.Native.Nat.{zero-le}
 use borrow.Author.Rules.{rules}
 use Rattle.triplet_iw.proofs.kernel.fill_triplets.Goals.{Start}
 use Rattle.triplet_iw.proofs.kernel.fill_triplets.Goals as goal

@@ -1,5 +1,5 @@
 -- `triplet_piece::kernel::fill_points` meets its contract.
-use Prim.Native.Nat.{◌*◌, ◌+◌, ◌-◌, ◌<◌, zero-le, ℕ}
+use Prim.Native.Nat.{◌*◌, ◌+◌, ◌<◌, zero-le, ℕ}
 use borrow.Author.Rules.{rules}
 use lib.ListN.{length}
 use mathlib.Core.Path.{◌∙◌, ◌≡◌, ap, sym}

@@ -1,5 +1,5 @@
 -- `triplet_piece::kernel::put_weights` meets its contract.
-use Prim.Native.Nat.{◌-◌, zero-le}
+use Prim.Native.Nat.{zero-le}
 use borrow.Author.Rules.{rules}
 use lib.ListN.{length-set}
 use mathlib.Core.Path.{◌∙◌, ◌≡◌, refl}

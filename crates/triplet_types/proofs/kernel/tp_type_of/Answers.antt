@@ -2,7 +2,6 @@
 use mathlib.Core.Path.{◌∙◌, sym}
 use mir.Syntax.{w64}
 use mir.ValLaws.{to_z-of_z}
-use Rattle.list_laws.specs.Lists.{at}
 use Rattle.triplet_types.specs.Types.{tp_type_of}
 use Rattle.triplet_types.proofs.kernel.tp_type_of.Goals as goal
 

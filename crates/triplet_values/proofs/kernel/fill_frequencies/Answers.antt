@@ -1,5 +1,4 @@
 -- `triplet_values::kernel::fill_frequencies` meets its contract.
-use Prim.Native.Nat.{◌-◌}
 use lib.Ieee.{nan}
 use mathlib.Core.Path.{◌∙◌, sym}
 use native.Mathlib.Omega.{arith}

@@ -1,6 +1,5 @@
 -- `degenerate_sets::kernel::sets::set_end` meets its contract: what is left to look for starts at e.
 use mathlib.Core.Path.{sym, ◌∙◌}
-use Prim.Native.Nat.{◌-◌}
 use native.Mathlib.Omega.{arith}
 use Rattle.degenerate_sets.specs.Sets.{starts_at}
 use Rattle.degenerate_sets.proofs.SetLaws.{next-hit, next-step, next-end, end-first}

@@ -1,7 +1,7 @@
 -- `replay_sheet::kernel::tallies::read_tally` meets its contract: at each turn the first i counts are read. The measure is what is left of them.
 use native.Mathlib.Omega.{arith}
 use lib.ListN.{length-replicate, replicate}
-use Prim.Native.Nat.{◌-◌, ℕ}
+use Prim.Native.Nat.{ℕ}
 use Rattle.replay_input.proofs.FieldLaws.{place-first, place-next, list-next}
 use mathlib.Core.Path.{◌≡◌, ap, ◌∙◌}
 use Rattle.list_laws.specs.Lists.{fronted}

@@ -3,7 +3,6 @@ use native.Mathlib.Omega.{arith}
 use mathlib.Core.Path.{◌≡◌, ap, ◌∙◌}
 use lib.Dec.{eqb}
 use lib.ListN.{get_or}
-use Prim.Native.Nat.{◌-◌}
 use Rattle.list_laws.proofs.BelowLaws.{below_none, below_next, below_end}
 use Rattle.replay_input.specs.Fields.{after_bits, field_place}
 use Rattle.replay_input.proofs.FieldLaws.{place-first, place-next}

@@ -5,7 +5,7 @@ use mathlib.Core.Bool.{false, true}
 use mathlib.Core.List.{List}
 use mathlib.Core.Path.{◌∙◌, ◌≡◌, ap, sym}
 use native.Mathlib.Omega.{arith}
-use Prim.Native.Nat.{ℕ, ◌+◌, ◌-◌, zero-le}
+use Prim.Native.Nat.{ℕ, ◌+◌, zero-le}
 use Rattle.marks.proofs.BytesLaws.{holds_same}
 use Rattle.marks.proofs.MarkLaws.{length-carried}
 use Rattle.marks.specs.Bytes.{Holds}

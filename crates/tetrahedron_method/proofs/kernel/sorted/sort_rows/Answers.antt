@@ -2,7 +2,6 @@
 use Rattle.tetrahedron_method.proofs.SortedLaws.{turned-next}
 use Rattle.tetrahedron_sort.specs.declared.SortedOmegas.{SortedOmegas}
 use Rattle.tetrahedron_sort.specs.Sort.{sorted_of, place_of}
-use Prim.Native.Nat.{◌-◌}
 use mathlib.Core.Path.{◌∙◌, ap}
 use borrow.Author.Rules.{rules}
 use native.Mathlib.Omega.{arith}

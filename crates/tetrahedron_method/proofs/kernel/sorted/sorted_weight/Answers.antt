@@ -1,7 +1,7 @@
 -- `tetrahedron_method::kernel::sorted::sorted_weight` meets its contract.
 use Rattle.tetrahedron_method.specs.Sorted.{sorted_sum, sorted_weight}
 use native.Mathlib.Numerals.{add-one}
-use Prim.Native.Nat.{◌-◌, zero-le}
+use Prim.Native.Nat.{zero-le}
 use mathlib.Core.Path.{◌≡◌, refl}
 use borrow.Author.Rules.{rules}
 use native.Mathlib.Omega.{arith}

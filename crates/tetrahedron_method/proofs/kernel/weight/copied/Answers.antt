@@ -1,5 +1,5 @@
 -- `tetrahedron_method::kernel::weight::copied` meets its contract.
-use Prim.Native.Nat.{ℕ, ◌-◌}
+use Prim.Native.Nat.{ℕ}
 use lib.Ieee.{nan, binary64, of_bits}
 use lib.ListN.{get_or}
 use mathlib.Core.Path.{refl}
