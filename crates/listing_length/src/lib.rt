@@ -1,1 +1,3 @@
 // How long a listing can be: laws alone.
+
+#![tactic(auto)]

@@ -1,1 +1,3 @@
 // The starred points of document 01: specs/Points.antt is the list, proofs/Starred.antt the proof.
+
+#![tactic(auto)]

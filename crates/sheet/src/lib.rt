@@ -1,5 +1,8 @@
 // The run sheet: run a named piece, carry on, average a triplet, the tally, the open count. Weights lie by channel, triplet, point, b1, b2;
 // flags without the channel; marks by triplet, b1, b2.
+
+#![tactic(auto)]
+
 pub use ask::Answer;
 pub use open_count::{OpenAnswer, open_count};
 pub use sheet_averaging::average_triplet;
