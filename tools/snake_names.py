@@ -4,8 +4,8 @@
     snake_names.py [--list]      at the top of the repository, once, after the kit's port.py
 
 Taken are the names that a file of specs/ or proofs/ declares with a small first letter and a capital inside: definitions, lemmas, fields, local
-ones. They are turned wherever they stand as whole words in .antt and .rt files, in must-fail edits and, between backticks, in documents. Types,
-modules, functions of src/, exported names and strings keep theirs. --list prints the names and changes nothing.
+ones. They are turned wherever they stand as whole words in .antt and .rt files and in must-fail edits. Types, modules, functions of src/, exported
+names and strings keep theirs, and documents are not touched. --list prints the names and changes nothing.
 """
 import pathlib
 import re
