@@ -1,16 +1,16 @@
 -- The answer to a text: what the program `weights` prints.
-use Rattle.std.specs.Prelude.{List, [], ◌∷◌, ◌++◌, ℕ, Float, ℤ, length, get_or, drop}
+use Rattle.std.specs.Prelude.{◌≡◌, true, ◌≤◌, ◌/◌, List, [], ◌∷◌, ◌++◌, ℕ, Float, ℤ, length, get_or, drop, Option, Some, None}
 use Rattle.std.specs.Float.{binary64}
 use Rattle.std.specs.Float.Ieee.{of_bits}
 use Rattle.std.specs.Int.Signed.{mag}
 use Rattle.list_laws.specs.Lists.{tabulate}
+use Rattle.list_laws.specs.Signed.{is_between}
 use Rattle.tetrahedron_tables.specs.Tables.{table_of, flat}
 use Rattle.triplet_study.specs.declared.Shape.{Shape}
 use Rattle.triplet_study.specs.Study.{Study, study}
-use Rattle.ask.specs.Lent.{Lent}
 use Rattle.listing.specs.Listings.{refusal_of}
 use Rattle.study_head.specs.declared.Head.{Head}
-use Rattle.study.specs.Studies.{StudyText, Holds, holds, holds_none, study_in}
+use Rattle.study.specs.Studies.{StudyText, study_in}
 use Rattle.answer_weights.specs.Answers.{answer_to}
 
 -- "floats as 16 hexadecimal digits of their bits": the floats of bit patterns
@@ -30,19 +30,19 @@ table_for h = flat (table_of (mag h.diag))
 abbrev pub asked : Head → List ℤ → List ℤ → List Float → List Float → List Float → List ℤ → Study
 asked h addresses gp-map frequencies1 frequencies2 points triplets = study (shape_of h) addresses gp-map (table_for h) frequencies1 frequencies2 points triplets
 
--- that of lists that are lent
-abbrev pub asked_in : Head → Lent ℤ → Lent ℤ → Lent Float → Lent Float → Lent Float → Lent ℤ → Study
-asked_in h addresses gp-map frequencies1 frequencies2 points triplets =
-    asked h addresses.entry.now gp-map.entry.now frequencies1.entry.now frequencies2.entry.now points.entry.now triplets.entry.now
-
 -- a study of a text with its floats as numbers
 abbrev pub asked_of : StudyText → Study
 asked_of s = asked s.head s.addresses s.gp-map (floats_of s.f1) (floats_of s.f2) (floats_of s.points) s.triplets
 
+-- a study whose `diag` names a table, whose floats have room, and whose listing has room
+abbrev pub Answerable : StudyText → Type 0
+Answerable s =
+    (is_between 0 3 s.head.diag ≡ true) × (length s.f1 ≤ 16384) × (length s.f2 ≤ 16384) × (length s.points ≤ 712) × (length s.triplets / 3 ≤ 1170)
+
 -- the answer by what a text holds; a text that is too long or not well formed is refused with 1
-abbrev pub answer_of_held : Holds → List ℕ
-answer_of_held holds_none = refusal_of 1
-answer_of_held (holds s) = answer_to (asked_of s)
+abbrev pub answer_of_held : Option StudyText → List ℕ
+answer_of_held None = refusal_of 1
+answer_of_held (Some s) = answer_to (asked_of s)
 
 -- The answer to a text.
 unfoldable pub answer_of : List ℕ → List ℕ

@@ -2,14 +2,16 @@
 ghost use Rattle.std.specs.Prelude.{◌≡◌, true, ◌/◌, ◌≤◌, length};
 ghost use Rattle.list_laws.specs.Signed.{is_between};
 ghost use Rattle.ask.specs.Ask.{first_no};
+ghost use Rattle.ask.specs.Refusals.{answer_of};
 ghost use Rattle.study_counts.specs.Counts.{few_weights};
-ghost use Rattle.triplet_study.specs.Lent.{study_in};
+ghost use Rattle.triplet_study.specs.Lent.{study_of};
 ghost use Rattle.answer_weights.specs.Asked.{questions_of};
 ghost use Rattle.answer_weights.specs.Answers.{answer_to, Wrote};
-ghost use Rattle.answer.specs.Texts.{asked_in, shape_of, table_for};
+ghost use Rattle.answer.specs.Texts.{shape_of, table_for};
 
+use ask::Refusal;
 use study::Head;
-use triplet_study::Shape;
+use triplet_study::{Shape, Study};
 
 // Question 1, the count of weights.
 fn few_weights(shape: Shape, points: usize, triplets: usize) -> bool
@@ -21,37 +23,19 @@ fn few_weights(shape: Shape, points: usize, triplets: usize) -> bool
     study_counts::kernel::weight_count_ok(tp_type, num_band1, num_band2, points, triplets)
 }
 
-// The number of the first question that is answered no, or 0.
-fn first_no(
-    shape: Shape,
-    addresses: &[i64],
-    gp_map: &[i64],
-    steps: &[i64],
-    frequencies1: &[f64],
-    frequencies2: &[f64],
-    points: &[f64],
-    triplets: &[i64],
-) -> u64
-    ensures { result ≡ first_no (questions_of (study_in shape addresses gp_map steps frequencies1 frequencies2 points triplets)) }
+// Question 1, then questions 3 to 11.
+fn ask(study: Study) -> Result<(), Refusal>
+    ensures { result ≡ answer_of (first_no (questions_of (study_of study.entry))) tt }
 {
-    let count = (triplets.len() + 2) / 3;
-    if !few_weights(shape, points.len(), count) {
-        return questions::BAD_TEXT;
+    let triplets = (study.triplets.len() + 2) / 3;
+    if !few_weights(study.shape, study.frequency_points.len(), triplets) {
+        return Err(Refusal::Text);
     }
-    triplet_study::kernel::study_first_no(
-        shape,
-        addresses,
-        gp_map,
-        steps,
-        frequencies1,
-        frequencies2,
-        points,
-        triplets,
-    )
+    triplet_study::kernel::ask_study(study)
 }
 
 // The shape of a head.
-fn shape_of(head: Head) -> Shape
+pub fn shape_of(head: Head) -> Shape
     ensures { result ≡ shape_of head }
 {
     Shape {
@@ -64,7 +48,7 @@ fn shape_of(head: Head) -> Shape
 }
 
 // The built-in table of a head.
-fn table_of(head: Head) -> [i64; 288]
+pub fn table_of(head: Head) -> [i64; 288]
     requires { is_between 0 3 head.diag ≡ true }
     ensures { result ≡ table_for head }
 {
@@ -76,43 +60,12 @@ fn table_of(head: Head) -> [i64; 288]
 }
 
 // Writes the answer to a study.
-pub fn put_answer(
-    out: &mut [u8; 118617],
-    head: Head,
-    addresses: &[i64],
-    gp_map: &[i64],
-    frequencies1: &[f64],
-    frequencies2: &[f64],
-    points: &[f64],
-    triplets: &[i64],
-) -> usize
-    requires { (is_between 0 3 head.diag ≡ true) × ((length points.now ≤ 712) × (length triplets.now / 3 ≤ 1170)) }
-    ensures { Wrote (answer_to (asked_in head addresses gp_map frequencies1 frequencies2 points triplets)) out result }
+pub fn put_answer(out: &mut [u8; 118617], study: Study) -> usize
+    requires { (length study.frequency_points.now ≤ 712) × (length study.triplets.now / 3 ≤ 1170) }
+    ensures { Wrote (answer_to (study_of study.entry)) out result }
 {
-    let shape = shape_of(head);
-    let table = table_of(head);
-    let no = first_no(
-        shape,
-        addresses,
-        gp_map,
-        &table,
-        frequencies1,
-        frequencies2,
-        points,
-        triplets,
-    );
-    if no != 0 {
-        return listing::kernel::put_refusal(out, 0, no);
+    match ask(study) {
+        Ok(()) => answer_weights::kernel::put_study(out, study),
+        Err(why) => listing::kernel::put_refusal(out, 0, why.number()),
     }
-    answer_weights::kernel::put_study(
-        out,
-        shape,
-        addresses,
-        gp_map,
-        &table,
-        frequencies1,
-        frequencies2,
-        points,
-        triplets,
-    )
 }

@@ -1,16 +1,21 @@
 // Floats from their bit patterns.
-ghost use Rattle.std.specs.Prelude.{◌≤◌, ◌≡◌, length, take};
+ghost use Rattle.std.specs.Prelude.{◌≤◌, ◌≡◌, length};
 ghost use Rattle.answer.specs.Texts.{floats_of};
 
-// The floats of bit patterns, at the start of out.
-pub fn fill_floats(patterns: &[u64], out: &mut [f64])
-    requires { length patterns.now ≤ length out.old }
-    ensures { take (length patterns.now) out.new ≡ floats_of patterns.now }
+// Room for the floats of bit patterns.
+pub fn reals() -> [f64; 16385]
+    ensures { 16385 ≡ length result }
 {
-    let mut k = 0;
-    while k < patterns.len() {
-        let x = text::kernel::float_of(patterns[k]);
-        out[k] = x;
-        k += 1;
+    [0.0; 16385]
+}
+
+// The floats of bit patterns, at the start of out.
+pub fn fill_floats<'b>(patterns: &[u64], out: &'b mut [f64]) -> &'b [f64]
+    requires { length patterns.now ≤ length out.old }
+    ensures { result.now ≡ floats_of patterns.now }
+{
+    for (k, pattern) in patterns.iter().enumerate() {
+        out[k] = text::kernel::float_of(*pattern);
     }
+    &out[..patterns.len()]
 }

@@ -1,73 +1,31 @@
-// A study as a text holds it: its buffers, and its answer.
-ghost use Rattle.std.specs.Prelude.{◌≡◌, true, ◌/◌, ◌≤◌, length};
-ghost use Rattle.list_laws.specs.Signed.{is_between};
-ghost use Rattle.writing.specs.Written.{written};
-ghost use Rattle.answer_weights.specs.Answers.{answer_to};
-ghost use Rattle.answer.specs.Texts.{asked, floats_of};
+// The answer to a study as a text holds it.
+ghost use Rattle.answer_weights.specs.Answers.{answer_to, Wrote};
+ghost use Rattle.study.specs.Told.{study_text};
+ghost use Rattle.answer.specs.Texts.{asked_of, Answerable};
 
-use crate::{asking, floats};
-use study::Head;
+use crate::asking;
+use crate::floats::{fill_floats, reals};
+use study::HeldStudy;
+use triplet_study::Study;
 
-// Room for whole triples: a text has at most 16,384 numbers, and a row may be begun behind them.
-pub fn triples() -> [i64; 16387]
-    ensures { 16387 ≡ length result }
+// Writes it at the start of out.
+pub fn put_held(out: &mut [u8; 118617], held: HeldStudy) -> usize
+    requires { Answerable (study_text held) }
+    ensures { Wrote (answer_to (asked_of (study_text held.entry))) out result }
 {
-    [0; 16387]
-}
-
-// Room for single numbers.
-pub fn numbers() -> [i64; 16385]
-    ensures { 16385 ≡ length result }
-{
-    [0; 16385]
-}
-
-// Room for bit patterns.
-pub fn patterns() -> [u64; 16385]
-    ensures { 16385 ≡ length result }
-{
-    [0; 16385]
-}
-
-// Room for the floats of bit patterns.
-fn reals() -> [f64; 16385]
-    ensures { 16385 ≡ length result }
-{
-    [0.0; 16385]
-}
-
-// Writes the answer to a study whose floats are bit patterns.
-pub fn put_held(
-    out: &mut [u8; 118617],
-    head: Head,
-    addresses: &[i64],
-    gp_map: &[i64],
-    f1: &[u64],
-    f2: &[u64],
-    points: &[u64],
-    triplets: &[i64],
-) -> usize
-    requires { (is_between 0 3 head.diag ≡ true) × ((length f1.now ≤ 16384) × ((length f2.now ≤ 16384) × ((length points.now ≤ 712) × (length triplets.now / 3 ≤ 1170)))) }
-    ensures value { result ≡ length (answer_to (asked head addresses.now gp_map.now (floats_of f1.now) (floats_of f2.now) (floats_of points.now) triplets.now)) }
-    ensures out_after { out.new ≡ written 0 (answer_to (asked head addresses.now gp_map.now (floats_of f1.now) (floats_of f2.now) (floats_of points.now) triplets.now)) out.old }
-{
+    let table = asking::table_of(held.head);
     let mut frequencies1 = reals();
     let mut frequencies2 = reals();
     let mut frequency_points = reals();
-    floats::fill_floats(f1, &mut frequencies1);
-    floats::fill_floats(f2, &mut frequencies2);
-    floats::fill_floats(points, &mut frequency_points);
-    let i = f1.len();
-    let j = f2.len();
-    let k = points.len();
-    asking::put_answer(
-        out,
-        head,
-        addresses,
-        gp_map,
-        &frequencies1[..i],
-        &frequencies2[..j],
-        &frequency_points[..k],
-        triplets,
-    )
+    let study = Study {
+        shape: asking::shape_of(held.head),
+        addresses: held.grid.addresses,
+        gp_map: held.grid.gp_map,
+        relative_grid_address: &table,
+        frequencies1: fill_floats(held.floats.f1, &mut frequencies1),
+        frequencies2: fill_floats(held.floats.f2, &mut frequencies2),
+        frequency_points: fill_floats(held.floats.points, &mut frequency_points),
+        triplets: held.triplets,
+    };
+    asking::put_answer(out, study)
 }

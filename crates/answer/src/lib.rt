@@ -5,7 +5,8 @@
 ghost use Rattle.std.specs.Prelude.{◌≡◌, length};
 ghost use Rattle.answer.specs.Texts.{answer_of, answered};
 
-use study::StudyRead;
+use ask::Refusal;
+use study::StudyBuffers;
 
 mod asking;
 mod floats;
@@ -17,40 +18,9 @@ pub fn answer(text: &[u8], out: &mut [u8; 118617]) -> usize
     ensures value { result ≡ length (answer_of text.now) }
     ensures out_after { out.new ≡ answered (answer_of text.now) out.old }
 {
-    let mut addresses = held::triples();
-    let mut gp_map = held::numbers();
-    let mut f1 = held::patterns();
-    let mut f2 = held::patterns();
-    let mut points = held::patterns();
-    let mut triplets = held::triples();
-    let StudyRead::Read {
-        head: h,
-        addresses: a,
-        gp_map: m,
-        f1: i,
-        f2: j,
-        points: k,
-        triplets: t,
-    } = study::kernel::read_study(
-        text,
-        &mut addresses,
-        &mut gp_map,
-        &mut f1,
-        &mut f2,
-        &mut points,
-        &mut triplets,
-    )
-    else {
-        return listing::kernel::put_refusal(out, 0, questions::BAD_TEXT);
-    };
-    held::put_held(
-        out,
-        h,
-        &addresses[..a],
-        &gp_map[..m],
-        &f1[..i],
-        &f2[..j],
-        &points[..k],
-        &triplets[..t],
-    )
+    let mut buffers = StudyBuffers::new();
+    match study::kernel::read_study(text, &mut buffers) {
+        Some(study) => held::put_held(out, study),
+        None => listing::kernel::put_refusal(out, 0, Refusal::Text.number()),
+    }
 }

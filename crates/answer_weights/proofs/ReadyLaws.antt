@@ -1,5 +1,5 @@
 -- A study whose questions are answered yes has few weights, its buffers fit, and its listing has room. Assumes nothing.
-use mathlib.Core.Path.{◌≡◌, ap, ◌∙◌, subst⁻¹}
+use mathlib.Core.Path.{◌≡◌, ap, ◌∙◌}
 use mathlib.Core.Bool.{true, ◌&&◌}
 use Prim.Native.Nat.{ℕ, ◌*◌, ◌≤◌}
 use native.Mathlib.Nat.{mul-le-mul_right}
@@ -19,10 +19,10 @@ use Rattle.triplet_types.specs.declared.TpType.{TpType}
 use Rattle.triplet_types.specs.declared.TpType.TheVariants.{Type2, Type3, Type4}
 use Rattle.triplet_types.proofs.TypeLaws.{channels-of-type}
 use Rattle.triplet_study.specs.declared.Sizes.{Sizes}
-use Rattle.triplet_study.specs.Study.{Study, study, tp_in, bands1_in, bands2_in, triplet_count, sizes_by, sizes_of}
+use Rattle.triplet_study.specs.Study.{Study, tp_in, bands1_in, bands2_in, triplet_count, sizes_by, sizes_of}
 use Rattle.triplet_study.specs.Questions.{triplets_in, study_questions, are_lengths}
 use Rattle.triplet_study.specs.Tested.{Tested}
-use Rattle.triplet_study.proofs.StudyLaws.{study-numbered, tested, ready, study-shaped}
+use Rattle.triplet_study.proofs.StudyLaws.{study-numbered, tested, ready}
 use Rattle.triplet_piece.specs.Weights.{flag_at}
 use Rattle.triplet_iw.specs.Whole.{all_weights, all_flags}
 use Rattle.listing_length.proofs.ListingLengthLaws.{listing-longest}
@@ -37,7 +37,7 @@ channel-some Type3 = omega arith
 channel-some Type4 = omega arith
 
 -- buffers of the right lengths: question 12 says yes
-lengths-yes : (z : Sizes) (w f : ℕ) → w ≡ z.channels * z.cells → f ≡ z.cells → are_lengths z w f ≡ true
+pub lengths-yes : (z : Sizes) (w f : ℕ) → w ≡ z.channels * z.cells → f ≡ z.cells → are_lengths z w f ≡ true
 unfolding are_lengths
 lengths-yes z w f e g = simp (eq-eqb w (z.channels * z.cells) e, eq-eqb f z.cells g)
 
@@ -49,7 +49,7 @@ module _ (s : Study) (yes : first_no (questions_of s) ≡ 0) where
   few = all.0
 
   -- 3 to 11 say yes
-  further : first_no (study_questions s) ≡ 0
+  pub further : first_no (study_questions s) ≡ 0
   unfolding first_no
   further = rw few at yes
 
@@ -109,7 +109,5 @@ module _ (s : Study) (yes : first_no (questions_of s) ≡ 0) where
     few-made = rw made (few-cells, few-weights)
 
     -- and buffers of their lengths
-    pub may-list : (w f : ℕ) → w ≡ z.channels * z.cells → f ≡ z.cells → length s.points ≤ 712 → triplet_count s ≤ 1170
-        → Listable (study z.shape s.addresses s.gp-map s.steps s.frequencies1 s.frequencies2 s.points s.triplets) z w f
-    may-list w f e g hp ht =
-        subst⁻¹ (λ (y : Study). Listable y z w f) (study-shaped s z made) (ready s z w f further made (lengths-yes z w f e g), listing-room hp ht)
+    pub may-list : (w f : ℕ) → w ≡ z.channels * z.cells → f ≡ z.cells → length s.points ≤ 712 → triplet_count s ≤ 1170 → Listable s z w f
+    may-list w f e g hp ht = (ready s z w f further made (lengths-yes z w f e g), listing-room hp ht)

@@ -1,44 +1,34 @@
 // The listing of a study that passed its questions, written at the start of a buffer that holds the longest one.
 ghost use Rattle.std.specs.Prelude.{◌≡◌, ◌/◌, ◌≤◌, length};
 ghost use Rattle.ask.specs.Ask.{first_no};
-ghost use Rattle.triplet_study.specs.Lent.{study_now, study_in};
+ghost use Rattle.triplet_study.specs.Lent.{study_of};
 ghost use Rattle.answer_weights.specs.Asked.{questions_of};
 ghost use Rattle.answer_weights.specs.Answers.{listing_for, Listable, Wrote};
 
-use triplet_study::{Shape, Sizes};
+use listing::kernel::Sheet;
+use triplet_study::{Study, TestedStudy};
 
 // Computes all weights and flags of a study into the lent buffers, and writes their listing.
 fn put_weights(
     out: &mut [u8; 118617],
     weights: &mut [f64],
     flags: &mut [i8],
-    z: Sizes,
-    addresses: &[i64],
-    gp_map: &[i64],
-    steps: &[i64],
-    frequencies1: &[f64],
-    frequencies2: &[f64],
-    points: &[f64],
-    triplets: &[i64],
+    tested: &TestedStudy,
 ) -> usize
-    requires { Listable (study_now z.shape addresses gp_map steps frequencies1 frequencies2 points triplets) z (length weights.old) (length flags.old) }
-    ensures { Wrote (listing_for (study_in z.shape addresses gp_map steps frequencies1 frequencies2 points triplets)) out result }
+    requires { Listable (study_of tested.now.study) tested.now.sizes (length weights.old) (length flags.old) }
+    ensures { Wrote (listing_for (study_of tested.now.study)) out result }
 {
-    triplet_iw::kernel::fill_triplets(
+    triplet_iw::kernel::fill_tested(weights, flags, tested);
+    let z = tested.sizes;
+    let sheet = Sheet {
+        points: z.points,
+        bands1: z.bands1,
+        bands2: z.bands2,
+        channels: z.channels,
         weights,
         flags,
-        z,
-        addresses,
-        gp_map,
-        steps,
-        frequencies1,
-        frequencies2,
-        points,
-        triplets,
-    );
-    listing::kernel::put_listing(
-        out, 0, z.points, z.bands1, z.bands2, z.channels, weights, flags,
-    )
+    };
+    listing::kernel::put_listing(out, 0, &sheet)
 }
 
 // Room for the weights of a study: question 1 lets no more pass.
@@ -55,43 +45,17 @@ fn flag_buffer() -> [i8; 4096]
     [0; 4096]
 }
 
-// Writes the listing of a study that passed its questions. `steps` is its table.
-pub fn put_study(
-    out: &mut [u8; 118617],
-    shape: Shape,
-    addresses: &[i64],
-    gp_map: &[i64],
-    steps: &[i64],
-    frequencies1: &[f64],
-    frequencies2: &[f64],
-    points: &[f64],
-    triplets: &[i64],
-) -> usize
-    requires triplets_value { first_no (questions_of (study_now shape addresses gp_map steps frequencies1 frequencies2 points triplets)) ≡ 0 }
-    requires points_len_bound { (length points.now ≤ 712) × (length triplets.now / 3 ≤ 1170) }
-    ensures { Wrote (listing_for (study_in shape addresses gp_map steps frequencies1 frequencies2 points triplets)) out result }
+// Writes the listing of a study that passed its questions.
+pub fn put_study(out: &mut [u8; 118617], study: Study) -> usize
+    requires passed { first_no (questions_of (study_of study)) ≡ 0 }
+    requires points_len_bound { (length study.frequency_points.now ≤ 712) × (length study.triplets.now / 3 ≤ 1170) }
+    ensures { Wrote (listing_for (study_of study.entry)) out result }
 {
-    let z = triplet_study::kernel::sizes_of(
-        shape,
-        steps.len() / 12,
-        points.len(),
-        triplets.len() / 3,
-    );
+    let sizes = triplet_study::kernel::sizes_of_passed(study);
+    let tested = TestedStudy { study, sizes };
     let mut weights = weight_buffer();
     let mut flags = flag_buffer();
-    let m = z.cells;
-    let n = z.channels * m;
-    put_weights(
-        out,
-        &mut weights[..n],
-        &mut flags[..m],
-        z,
-        addresses,
-        gp_map,
-        steps,
-        frequencies1,
-        frequencies2,
-        points,
-        triplets,
-    )
+    let m = sizes.cells;
+    let n = sizes.channels * m;
+    put_weights(out, &mut weights[..n], &mut flags[..m], &tested)
 }

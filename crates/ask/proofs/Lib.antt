@@ -1,3 +1,3 @@
 -- The laws.
 pub mod AskLaws
-pub mod AnswerLaws
+pub mod RefusalLaws

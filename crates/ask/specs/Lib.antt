@@ -1,4 +1,4 @@
 -- The definitions.
 pub mod Ask
-pub mod Answers
+pub mod Refusals
 pub mod Lent

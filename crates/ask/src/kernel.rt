@@ -1,15 +1,15 @@
 // For the crates above.
 ghost use Rattle.std.specs.Prelude.{◌≡◌};
-ghost use Rattle.ask.specs.Answers.{answer_number};
+ghost use Rattle.ask.specs.Refusals.{number_of};
 
-use crate::Answer;
+use crate::Refusal;
 
-// The number of an answer, 0 where the call is done.
-pub fn number_of(answer: Answer) -> u64
-    ensures { result ≡ answer_number answer }
+// The status of a call that gives nothing but its buffers: 0 where it is done, otherwise the refusal's number.
+pub fn status_of(answer: Result<(), Refusal>) -> u64
+    ensures { result ≡ number_of answer }
 {
     match answer {
-        Answer::Done => 0,
-        Answer::Refused(number) => number,
+        Ok(()) => 0,
+        Err(why) => why.number(),
     }
 }

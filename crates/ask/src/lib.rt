@@ -1,11 +1,7 @@
-// Questions asked in their order, and the answer of a call: done, or refused with the number of the first that is answered no.
+// Questions asked in their order, and the answer of a call: what it gives, or why it is refused.
 #![tactic(auto)]
 
 pub mod kernel;
+mod refusal;
 
-// Done, or the number of the first question that is answered no.
-#[derive(Clone, Copy)]
-pub enum Answer {
-    Done,
-    Refused(u64),
-}
+pub use refusal::Refusal;

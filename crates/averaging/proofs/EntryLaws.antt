@@ -13,6 +13,7 @@ use Rattle.list_laws.proofs.MatrixLaws.{each-ext, part-len}
 use Rattle.ieee_laws.specs.Zeros.{plus_zero}
 use Rattle.ask.proofs.AskLaws.{after-done}
 use Rattle.question_values.specs.TpTypes.{channels_of}
+use Rattle.degenerate_sets.specs.Averages.{points_by}
 use Rattle.averaging_flags.specs.Flags.{averaged_flags, flags_in_turn, averaged_flag_points}
 use Rattle.averaging_blocks.specs.Weights.{averaged, weights_in_turn, averaged_points}
 use Rattle.averaging_flags.proofs.FlagLaws.{flags-in-turn}
@@ -23,7 +24,7 @@ use Rattle.averaging.proofs.AnswerLaws.{accepted}
 module _ (iw : List Float) (iwz ids1 ids2 : List ℤ) (points bands type : ℤ) (done : averaging_no iw iwz ids1 ids2 points bands type ≡ 0) where
   pub entry-weights : weights_after iw iwz ids1 ids2 points bands type
       ≡ each_part (mag bands * mag bands) (weights_in_turn (mag bands) ids1 ids2) (channels_of type * mag points) iw
-  unfolding averaged_points
+  unfolding points_by
   entry-weights =
       let n : ℕ = mag bands in
       let x = accepted iw iwz ids1 ids2 points bands type done in
@@ -34,7 +35,7 @@ module _ (iw : List Float) (iwz ids1 ids2 : List ℤ) (points bands type : ℤ) 
 
   pub entry-flags : flags_after iw iwz ids1 ids2 points bands type
       ≡ each_part (mag bands * mag bands) (flags_in_turn (mag bands) ids1 ids2) (mag points) iwz
-  unfolding averaged_flag_points
+  unfolding points_by
   entry-flags =
       let n : ℕ = mag bands in
       let x = accepted iw iwz ids1 ids2 points bands type done in

@@ -3,8 +3,9 @@
 use Rattle.std.specs.Prelude.{◌&&◌, List, [], ◌∷◌, ℕ, ◌*◌, eqb, ℤ, pos, length, Float}
 use Rattle.std.specs.Int.Signed.{mag}
 use Rattle.ask.specs.Ask.{Question, asks, first_no, after_call}
-use Rattle.ask.specs.Answers.{answer_of}
-use Rattle.ask.specs.declared.Answer.{Answer}
+use Rattle.ask.specs.Refusals.{answer_of}
+use Rattle.ask.specs.declared.refusal.Refusal.{Refusal}
+use Rattle.std.specs.declared.result.Result.{Result}
 use Rattle.question_values.specs.Averages.{are_degenerate_ids, are_weights}
 use Rattle.question_values.specs.Counts.{are_counts, cell_count}
 use Rattle.question_values.specs.TpTypes.{is_tp_type, channels_of}
@@ -26,8 +27,8 @@ abbrev pub averaging_no : List Float → List ℤ → List ℤ → List ℤ → 
 averaging_no iw iwz ids1 ids2 points bands type = first_no (averaging_questions iw iwz ids1 ids2 points bands type)
 
 -- the answer
-abbrev pub averaging_answer : List Float → List ℤ → List ℤ → List ℤ → ℤ → ℤ → ℤ → Answer
-averaging_answer iw iwz ids1 ids2 points bands type = answer_of (averaging_no iw iwz ids1 ids2 points bands type)
+abbrev pub averaging_answer : List Float → List ℤ → List ℤ → List ℤ → ℤ → ℤ → ℤ → Result Unit Refusal
+averaging_answer iw iwz ids1 ids2 points bands type = answer_of (averaging_no iw iwz ids1 ids2 points bands type) tt
 
 -- the weights afterwards: each point's matrix of each channel is averaged; as they were after a refusal
 abbrev pub weights_after : List Float → List ℤ → List ℤ → List ℤ → ℤ → ℤ → ℤ → List Float

@@ -3,94 +3,76 @@
 #![tactic(auto)]
 
 ghost use Rattle.std.specs.Prelude.{◌≡◌};
-ghost use Rattle.averaging.specs.Answers.{averaging_no, averaging_answer, weights_after, flags_after};
+ghost use Rattle.averaging.specs.Answers.{averaging_answer, weights_after, flags_after};
+ghost use Rattle.averaging.specs.Lent.{answer_in, weights_in, flags_in};
 
-pub use ask::Answer;
+pub use ask::Refusal;
+use averaging_walk::kernel::walk::average_points;
 use numbers::kernel::magnitude;
 use question_values::kernel::averages::{degenerate_ids_ok, weights_ok};
 use question_values::kernel::counts::signed_counts_ok;
 use question_values::kernel::tp_type::{channels_of, tp_type_ok};
 
-// The number of the first question that is answered no, or 0.
-fn averaging_first_no(
-    iw: &[f64],
-    iw_zero: &[i8],
-    degenerate_ids1: &[i64],
-    degenerate_ids2: &[i64],
-    num_band0: i64,
-    num_band: i64,
-    tp_type: i64,
-) -> u64
-    ensures { result ≡ averaging_no iw.now iw_zero.now
-        degenerate_ids1.now degenerate_ids2.now num_band0 num_band tp_type }
+// What one triplet is averaged by: the degenerate ids at q' and at q'', the counts of points and of bands, and the type.
+#[derive(Clone, Copy)]
+pub struct Averaging<'a> {
+    pub degenerate_ids1: &'a [i64],
+    pub degenerate_ids2: &'a [i64],
+    pub num_band0: i64,
+    pub num_band: i64,
+    pub tp_type: i64,
+}
+
+// Questions 8, 9, 12, 17 and 19.
+fn ask_averaging(averaging: Averaging, iw: &[f64], iw_zero: &[i8]) -> Result<(), Refusal>
+    ensures { result ≡ answer_in iw.now iw_zero.now averaging.entry }
 {
-    if !tp_type_ok(tp_type) {
-        return questions::BAD_TP_TYPE;
+    if !tp_type_ok(averaging.tp_type) {
+        return Err(Refusal::TpType);
     }
-    if !signed_counts_ok(num_band, num_band, num_band0, 1) {
-        return questions::BAD_COUNT;
+    if !signed_counts_ok(
+        averaging.num_band,
+        averaging.num_band,
+        averaging.num_band0,
+        1,
+    ) {
+        return Err(Refusal::Counts);
     }
-    let bands = magnitude(num_band);
-    let size = magnitude(num_band0) * (bands * bands);
-    let all = channels_of(tp_type) * size;
+    let bands = magnitude(averaging.num_band);
+    let size = magnitude(averaging.num_band0) * (bands * bands);
+    let all = channels_of(averaging.tp_type) * size;
     if !((iw.len() == all) & (iw_zero.len() == size)) {
-        return questions::BAD_LENGTH;
+        return Err(Refusal::Lengths);
     }
-    if !(degenerate_ids_ok(bands, degenerate_ids1) & degenerate_ids_ok(bands, degenerate_ids2)) {
-        return questions::BAD_DEGENERATE_IDS;
+    if !(degenerate_ids_ok(bands, averaging.degenerate_ids1)
+        & degenerate_ids_ok(bands, averaging.degenerate_ids2))
+    {
+        return Err(Refusal::DegenerateIds);
     }
     if !weights_ok(iw) {
-        return questions::BAD_WEIGHT;
+        return Err(Refusal::Weights);
     }
-    0
+    Ok(())
 }
 
 // Averages the weights and the flags of one triplet in place. `iw` holds the channels one after another, each by point,
 // band at q', band at q''; `iw_zero` has the shape of one channel; `num_band0` counts the frequency points.
 pub fn average_weights_over_degenerate_sets(
+    averaging: Averaging,
     iw: &mut [f64],
     iw_zero: &mut [i8],
-    degenerate_ids1: &[i64],
-    degenerate_ids2: &[i64],
-    num_band0: i64,
-    num_band: i64,
-    tp_type: i64,
-) -> Answer
-    ensures value { result ≡ averaging_answer iw.old iw_zero.old
-        degenerate_ids1.now degenerate_ids2.now num_band0 num_band tp_type }
-    ensures iw_after { iw.new ≡ weights_after iw.old iw_zero.old
-        degenerate_ids1.now degenerate_ids2.now num_band0 num_band tp_type }
-    ensures iw_zero_after { iw_zero.new ≡ flags_after iw.old iw_zero.old
-        degenerate_ids1.now degenerate_ids2.now num_band0 num_band tp_type }
+) -> Result<(), Refusal>
+    ensures value { result ≡ answer_in iw.old iw_zero.old averaging.entry }
+    ensures iw_after { iw.new ≡ weights_in iw.old iw_zero.old averaging.entry }
+    ensures iw_zero_after { iw_zero.new ≡ flags_in iw.old iw_zero.old averaging.entry }
 {
-    let no = averaging_first_no(
-        iw,
-        iw_zero,
-        degenerate_ids1,
-        degenerate_ids2,
-        num_band0,
-        num_band,
-        tp_type,
-    );
-    if no != 0 {
-        return Answer::Refused(no);
-    }
-    let bands = magnitude(num_band);
-    let points = magnitude(num_band0);
-    let all_points = channels_of(tp_type) * points;
-    averaging_blocks::kernel::weights::average_points(
-        iw,
-        degenerate_ids1,
-        degenerate_ids2,
-        bands,
-        all_points,
-    );
-    averaging_flags::kernel::flags::average_points(
-        iw_zero,
-        degenerate_ids1,
-        degenerate_ids2,
-        bands,
-        points,
-    );
-    Answer::Done
+    ask_averaging(averaging, iw, iw_zero)?;
+    let ids1 = averaging.degenerate_ids1;
+    let ids2 = averaging.degenerate_ids2;
+    let bands = magnitude(averaging.num_band);
+    let points = magnitude(averaging.num_band0);
+    let all_points = channels_of(averaging.tp_type) * points;
+    average_points(iw, ids1, ids2, bands, all_points);
+    average_points(iw_zero, ids1, ids2, bands, points);
+    Ok(())
 }

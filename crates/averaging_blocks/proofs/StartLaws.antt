@@ -22,6 +22,7 @@ use Rattle.ieee_laws.proofs.ZeroLaws.{minus-zero-add, plus-zero-add, add-not-min
 use Rattle.question_values.specs.Averages.{are_weights}
 use Rattle.question_values.proofs.AverageLaws.{weight-plain}
 use Rattle.degenerate_sets.specs.Sets.{starts_at, block_of}
+use Rattle.degenerate_sets.specs.Averages.{averaged_by, points_by}
 use Rattle.averaging_blocks.specs.Weights.{row_sum, block_sum, mean, averaged_in, averaged_from, averaged, averaged_points}
 use Rattle.averaging_blocks.proofs.WeightLaws.{averaged-many, averaged-one}
 
@@ -83,7 +84,7 @@ module _ (m : List Float) (plain : (k : ℕ) → Plain (get_or m k nan)) where
 
   -- one matrix
   pub matrix-start : (n : ℕ) (ids1 ids2 : List ℤ) → averaged_from minus_zero n ids1 ids2 m ≡ averaged n ids1 ids2 m
-  unfolding averaged_from
+  unfolding averaged_by
   matrix-start n ids1 ids2 =
       tabulate-ext (n * n) _ _ (λ k l. entry-start n (block_of (starts_at ids1) (starts_at ids2) n (k / n) (k % n)) (k / n) (k % n))
 
@@ -107,7 +108,7 @@ part-plain start len w plain k =
 pub start-same-bits : (bands : ℕ) (ids1 ids2 : List ℤ) (points : ℕ) (w : List Float)
     → ((k : ℕ) → T (fits binary64 (get_or w k nan))) → are_weights w ≡ true
     → each_part (bands * bands) (averaged_from minus_zero bands ids1 ids2) points w ≡ averaged_points bands ids1 ids2 points w
-unfolding averaged_points
+unfolding points_by
 start-same-bits bands ids1 ids2 points w fit e =
     each-ext (bands * bands) (averaged_from minus_zero bands ids1 ids2) (averaged bands ids1 ids2) points w
     (λ k h.

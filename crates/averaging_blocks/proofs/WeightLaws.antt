@@ -9,10 +9,9 @@ use lib.ListN.{length, get_or}
 use lib.Ieee.{Float, nan, binary64, add}
 use borrow.Author.Tests.{lt-ltb, le-ltb}
 use Rattle.list_laws.specs.Matrix.{Block, entries}
-use Rattle.list_laws.proofs.FillLaws.{length-tabulate}
 use Rattle.degenerate_sets.specs.Blocks.{blocks_of}
-use Rattle.degenerate_sets.specs.Turns.{in_turn}
-use Rattle.degenerate_sets.proofs.TurnLaws.{Local, matrix-in-turn}
+use Rattle.degenerate_sets.specs.Turns.{Local, in_turn}
+use Rattle.degenerate_sets.proofs.AverageLaws.{averaged-length as keeps-length, averaged-in-turn}
 use Rattle.averaging_blocks.specs.Weights.{row_sum, block_sum, mean, averaged_in, averaged_from}
 
 module _ (z : Float) (m : List Float) (n top left wide : ℕ) where
@@ -56,7 +55,7 @@ module _ (z : Float) (m m' : List Float) where
         row-agree ((top + high) * n + left) wide (λ j g. rw add_assoc (h high j (omega arith) g)),
       )
 
-averaged-local : (z : Float) (n : ℕ) → Local nan n (averaged_in z n)
+pub averaged-local : (z : Float) (n : ℕ) → Local nan n (averaged_in z n)
 unfolding averaged_in mean
 averaged-local z n b m m' le h r c i =
     cc (
@@ -67,11 +66,9 @@ averaged-local z n b m m' le h r c i =
 
 -- a matrix keeps its length
 pub averaged-length : (z : Float) (n : ℕ) (ids1 ids2 : List ℤ) (m : List Float) → length (averaged_from z n ids1 ids2 m) ≡ n * n
-unfolding averaged_from
-averaged-length z n ids1 ids2 m = length-tabulate (n * n) _
+averaged-length z n ids1 ids2 m = keeps-length (averaged_in z) n ids1 ids2 m
 
 -- the averaging is the walk over the blocks of the two id lists, with sums begun at z
 pub weights-in-turn : (z : Float) (n : ℕ) (ids1 ids2 : List ℤ) (m : List Float) → length m ≡ n * n
     → averaged_from z n ids1 ids2 m ≡ in_turn n (averaged_in z n) (blocks_of n ids1 ids2) m
-unfolding averaged_from
-weights-in-turn z n ids1 ids2 m len = sym (matrix-in-turn nan n (averaged_in z n) (averaged-local z n) ids1 ids2 m len)
+weights-in-turn z n ids1 ids2 m len = averaged-in-turn (averaged_in z) n ids1 ids2 m nan (averaged-local z n) len

@@ -1,13 +1,12 @@
 -- What averaging makes of weights: "a block of more than one entry becomes its mean".
-use Rattle.std.specs.Prelude.{cond, List, ℕ, zero, suc, ◌+◌, ◌-◌, ◌*◌, ◌/◌, ◌%◌, ℤ, pos, get_or, Float}
+use Rattle.std.specs.Prelude.{cond, List, ℕ, zero, suc, ◌+◌, ◌-◌, ◌*◌, ℤ, pos, get_or, Float}
 use Rattle.std.specs.Float.{nan, binary64}
 use Rattle.std.specs.Float.Ieee.{add, div, of_int}
-use Rattle.list_laws.specs.Lists.{tabulate}
-use Rattle.list_laws.specs.Matrix.{Block, entries, each_part}
+use Rattle.list_laws.specs.Matrix.{Block, entries}
 use Rattle.ieee_laws.specs.Zeros.{plus_zero}
-use Rattle.degenerate_sets.specs.Sets.{starts_at, start_of, end_of, block_of}
 use Rattle.degenerate_sets.specs.Blocks.{is_larger, blocks_of}
 use Rattle.degenerate_sets.specs.Turns.{in_turn}
+use Rattle.degenerate_sets.specs.Averages.{averaged_by, points_by}
 
 -- "row sums left to right": begun at z, the sum of `wide` weights from `from` on
 unfoldable pub row_sum : Float → List Float → ℕ → ℕ → Float
@@ -33,10 +32,8 @@ unfolding mean
 averaged_in z n b m r c = cond (is_larger b) (mean z n b m) (get_or m (r * n + c) nan)
 
 -- the matrix of n bands by n bands after averaging, with sums begun at z
-unfoldable pub averaged_from : Float → ℕ → List ℤ → List ℤ → List Float → List Float
-unfolding averaged_in tabulate starts_at start_of end_of
-averaged_from z n ids1 ids2 m =
-    tabulate (n * n) (λ k. averaged_in z n (block_of (starts_at ids1) (starts_at ids2) n (k / n) (k % n)) m (k / n) (k % n))
+abbrev pub averaged_from : Float → ℕ → List ℤ → List ℤ → List Float → List Float
+averaged_from z = averaged_by (averaged_in z)
 
 -- the matrix after averaging: sums begin at 0.0
 abbrev pub averaged : ℕ → List ℤ → List ℤ → List Float → List Float
@@ -47,6 +44,5 @@ abbrev pub weights_in_turn : ℕ → List ℤ → List ℤ → List Float → Li
 weights_in_turn n ids1 ids2 m = in_turn n (averaged_in plus_zero n) (blocks_of n ids1 ids2) m
 
 -- the matrices of several frequency points, one after another, each averaged by itself
-unfoldable pub averaged_points : ℕ → List ℤ → List ℤ → ℕ → List Float → List Float
-unfolding averaged_from each_part
-averaged_points bands ids1 ids2 points w = each_part (bands * bands) (averaged bands ids1 ids2) points w
+abbrev pub averaged_points : ℕ → List ℤ → List ℤ → ℕ → List Float → List Float
+averaged_points = points_by (averaged_in plus_zero)

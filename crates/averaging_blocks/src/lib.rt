@@ -1,5 +1,3 @@
-// The weights of one triplet's matrices averaged in place, block by block, one matrix for each frequency point.
-
 #![tactic(auto)]
 
-pub mod kernel;
+// What averaging over degenerate sets makes of weights, and its laws, some of them of flags too: see specs/ and proofs/.

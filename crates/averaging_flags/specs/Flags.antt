@@ -1,11 +1,11 @@
 -- What averaging makes of flags: "a block with any flag 0 becomes all 0".
-use Rattle.std.specs.Prelude.{Bool, false, cond, ◌||◌, List, ℕ, zero, suc, ◌+◌, ◌-◌, ◌*◌, ◌/◌, ◌%◌, ℤ, pos}
-use Rattle.list_laws.specs.Lists.{at, tabulate}
-use Rattle.list_laws.specs.Matrix.{Block, each_part}
+use Rattle.std.specs.Prelude.{Bool, false, cond, ◌||◌, List, ℕ, zero, suc, ◌+◌, ◌-◌, ◌*◌, ℤ, pos}
+use Rattle.list_laws.specs.Lists.{at}
+use Rattle.list_laws.specs.Matrix.{Block}
 use Rattle.list_laws.specs.Signed.{eq_z}
-use Rattle.degenerate_sets.specs.Sets.{starts_at, start_of, end_of, block_of}
 use Rattle.degenerate_sets.specs.Blocks.{blocks_of}
 use Rattle.degenerate_sets.specs.Turns.{in_turn}
+use Rattle.degenerate_sets.specs.Averages.{averaged_by, points_by}
 
 -- whether one of `wide` flags from `from` on is 0
 unfoldable pub row_has_zero : List ℤ → ℕ → ℕ → Bool
@@ -28,16 +28,13 @@ unfolding rows_have_zero
 flag_in n b m r c = cond (has_zero n b m) (pos 0) (at m (r * n + c))
 
 -- the flags of n bands by n bands after averaging
-unfoldable pub averaged_flags : ℕ → List ℤ → List ℤ → List ℤ → List ℤ
-unfolding flag_in tabulate starts_at start_of end_of
-averaged_flags n ids1 ids2 m =
-    tabulate (n * n) (λ k. flag_in n (block_of (starts_at ids1) (starts_at ids2) n (k / n) (k % n)) m (k / n) (k % n))
+abbrev pub averaged_flags : ℕ → List ℤ → List ℤ → List ℤ → List ℤ
+averaged_flags = averaged_by flag_in
 
 -- the same, block after block: what each block of the two id lists in turn makes of the flags (`flags-in-turn`)
 abbrev pub flags_in_turn : ℕ → List ℤ → List ℤ → List ℤ → List ℤ
 flags_in_turn n ids1 ids2 m = in_turn n (flag_in n) (blocks_of n ids1 ids2) m
 
 -- the flags of several frequency points, one after another, each point's by themselves
-unfoldable pub averaged_flag_points : ℕ → List ℤ → List ℤ → ℕ → List ℤ → List ℤ
-unfolding averaged_flags each_part
-averaged_flag_points bands ids1 ids2 points flags = each_part (bands * bands) (averaged_flags bands ids1 ids2) points flags
+abbrev pub averaged_flag_points : ℕ → List ℤ → List ℤ → ℕ → List ℤ → List ℤ
+averaged_flag_points = points_by flag_in

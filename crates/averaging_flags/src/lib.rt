@@ -1,5 +1,3 @@
-// Flags averaged over degenerate sets, block by block.
-
 #![tactic(auto)]
 
-pub mod kernel;
+// What averaging over degenerate sets makes of flags, and its laws: see specs/ and proofs/.

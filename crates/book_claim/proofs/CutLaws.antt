@@ -8,14 +8,12 @@ use lib.Dec.{eqb}
 use lib.IntN.{ℤ}
 use borrow.Author.Tests.{eqb-false}
 use Rattle.triplet_study.specs.Study.{Study, sizes_of}
-use Rattle.sheet_tally.specs.declared.SheetAnswer.{SheetAnswer}
-use Rattle.sheet_tally.specs.Tallies.{sheet_answer}
 use Rattle.marks.specs.Bytes.{mark_at}
 use Rattle.marks.specs.Marks.{closed}
 use Rattle.marks.proofs.BytesLaws.{place_in}
 use Rattle.marks.proofs.MarkLaws.{carried-mark}
 use Rattle.book_claim.proofs.AcceptedLaws.{accepted}
-use Rattle.sheet_step.specs.Steps.{pieces_of, Sheet, Call, carry, verdict, effect, step, step_answer}
+use Rattle.sheet_step.specs.Steps.{Answered, answered, pieces_of, Sheet, Call, carry, verdict, effect, step, step_answer}
 use Rattle.sheet_step.proofs.StepLaws.{refused-sheet, done-sheet}
 use Rattle.book_claim.specs.Book.{Book, turn, book_no, booked, book_answers}
 use Rattle.book_claim.specs.Lists.{played, answers}
@@ -30,7 +28,7 @@ module _ (g : Study) where
 
   pub answers-cut : (s : Sheet) (first rest : List Call) → answers g s (first ++ rest) ≡ answers g s first ++ answers g (played g s first) rest
   answers-cut s [] rest = refl
-  answers-cut s (c ∷ first) rest = ap (λ (l : List SheetAnswer). step_answer g s c ∷ l) (answers-cut (step g s c) first rest)
+  answers-cut s (c ∷ first) rest = ap (λ (l : List Answered). step_answer g s c ∷ l) (answers-cut (step g s c) first rest)
 
   pub booked-cut : (start : Sheet) (b : Book) (first rest : List Call) → booked g start b (first ++ rest) ≡ booked g start (booked g start b first) rest
   booked-cut start b [] rest = refl
@@ -40,7 +38,7 @@ module _ (g : Study) where
       → book_answers g start b (first ++ rest) ≡ book_answers g start b first ++ book_answers g start (booked g start b first) rest
   book-answers-cut start b [] rest = refl
   book-answers-cut start b (c ∷ first) rest =
-      ap (λ (l : List SheetAnswer). sheet_answer (book_no g start b c) (turn g start b c).tally ∷ l) (book-answers-cut start (turn g start b c) first rest)
+      ap (λ (l : List Answered). answered (book_no g start b c) (turn g start b c).tally ∷ l) (book-answers-cut start (turn g start b c) first rest)
 
   -- ---- "a sheet on which every call is refused stays as it was"
 
@@ -48,7 +46,7 @@ module _ (g : Study) where
   all-refused s [] r = refl
   all-refused s (c ∷ calls) r = go (verdict g s c) refl r (all-refused (step g s c) calls)
     where
-      go : (n : ℕ) → verdict g s c ≡ n → AreRefused (sheet_answer n (step g s c).tally ∷ answers g (step g s c) calls)
+      go : (n : ℕ) → verdict g s c ≡ n → AreRefused (answered n (step g s c).tally ∷ answers g (step g s c) calls)
           → (AreRefused (answers g (step g s c) calls) → played g (step g s c) calls ≡ step g s c) → played g (step g s c) calls ≡ s
       go zero e r later = absurd r.0
       go (suc n) e r later = later r.1 ∙ sym (refused-sheet g s c (suc n) e (λ z. omega arith))

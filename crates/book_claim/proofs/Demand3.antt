@@ -9,9 +9,7 @@ use Rattle.book_claim.proofs.TurnLaws.{turn-long}
 use Rattle.ask.specs.Ask.{after_call}
 use Rattle.triplet_piece.specs.Layout.{piece_at}
 use Rattle.triplet_study.specs.Study.{Study, sizes_of}
-use Rattle.sheet_tally.specs.declared.SheetAnswer.{SheetAnswer}
-use Rattle.sheet_tally.specs.Tallies.{sheet_answer}
-use Rattle.sheet_step.specs.Steps.{Sheet, Call, run, carry, average, pieces_of, verdict, effect, step, step_answer}
+use Rattle.sheet_step.specs.Steps.{Answered, answered, Sheet, Call, run, carry, average, pieces_of, verdict, effect, step, step_answer}
 use Rattle.book_claim.specs.Book.{fresh, Book, marks_of, weight_by, flag_by, word_of_weight, word_of_flag, render, writes, book_no, turn, opened, booked, book_answers}
 use Rattle.book_claim.specs.Lists.{played, answers}
 use Rattle.book_claim.proofs.EntryLaws.{each_none}
@@ -35,9 +33,9 @@ module _ (g : Study) (start : Sheet) where
       go zero e = same_effect b long c (accepted g (render g start b) c e)
       go (suc n) e = refl
 
-  same_answer : (b : Book) → length b.words ≡ pieces_of (sizes_of g) → (c : Call) → step_answer g (render g start b) c ≡ sheet_answer (book_no g start b c) (turn g start b c).tally
+  same_answer : (b : Book) → length b.words ≡ pieces_of (sizes_of g) → (c : Call) → step_answer g (render g start b) c ≡ answered (book_no g start b c) (turn g start b c).tally
   unfolding book_no render
-  same_answer b long c = ap (λ (s : Sheet). sheet_answer (verdict g (render g start b) c) s.tally) (same_step b long c)
+  same_answer b long c = ap (λ (s : Sheet). answered (verdict g (render g start b) c) s.tally) (same_step b long c)
 
   -- ---- a list of calls, from any book
 
@@ -48,7 +46,7 @@ module _ (g : Study) (start : Sheet) where
   pub all-answers : (calls : List Call) (b : Book) → length b.words ≡ pieces_of (sizes_of g) → (s : Sheet) → s ≡ render g start b → answers g s calls ≡ book_answers g start b calls
   all-answers [] b long s e = refl
   all-answers (c ∷ calls) b long s e =
-      ap₂ (λ (a : SheetAnswer) (rest : List SheetAnswer). a ∷ rest) (rw e (same_answer b long c)) (all-answers calls (turn g start b c) (turn-long g start b c ∙ long) (step g s c) (rw e (same_step b long c)))
+      ap₂ (λ (a : Answered) (rest : List Answered). a ∷ rest) (rw e (same_answer b long c)) (all-answers calls (turn g start b c) (turn-long g start b c ∙ long) (step g s c) (rw e (same_step b long c)))
 
   pub opened-long : length (opened g start).words ≡ pieces_of (sizes_of g)
   unfolding opened

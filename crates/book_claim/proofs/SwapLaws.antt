@@ -8,8 +8,6 @@ use lib.IntN.{ℤ}
 use lib.ListN.{length}
 use lib.Signed.{mag}
 use Rattle.ask.specs.Ask.{Question, asks, first_no, after_call}
-use Rattle.ask.specs.Answers.{answer_of}
-use Rattle.ask.specs.declared.Answer.TheVariants.{Refused}
 use Rattle.triplet_piece.specs.Weights.{computed_weights, computed_flags}
 use Rattle.triplet_study.specs.Study.{Study, sizes_of}
 use Rattle.triplet_study.specs.Questions.{study_questions}
@@ -107,12 +105,12 @@ module _ (g : Study) where
     same_effect (average t ids1 ids2) (carry worker) d = absurd d
 
     module _ (c c' : Call) (d : SameButWorker c c')
-        (h : (answer_of (verdict g s c) ≡ Refused 20 → ⊥) × (answer_of (verdict g s c) ≡ Refused 21 → ⊥))
-        (h' : (answer_of (verdict g s' c') ≡ Refused 20 → ⊥) × (answer_of (verdict g s' c') ≡ Refused 21 → ⊥)) where
+        (h : (verdict g s c ≡ 20 → ⊥) × (verdict g s c ≡ 21 → ⊥))
+        (h' : (verdict g s' c' ≡ 20 → ⊥) × (verdict g s' c' ≡ 21 → ⊥)) where
       same-verdict : verdict g s c ≡ verdict g s' c'
       same-verdict =
-          by-content s c (λ z. h.0 (ap answer_of z)) (λ z. h.1 (ap answer_of z)) ∙ same_asked c c' d
-          ∙ sym (by-content s' c' (λ z. h'.0 (ap answer_of z)) (λ z. h'.1 (ap answer_of z)))
+          by-content s c h.0 h.1 ∙ same_asked c c' d
+          ∙ sym (by-content s' c' h'.0 h'.1)
 
       same_step : SameContent (step g s c) (step g s' c')
       unfolding step
@@ -129,7 +127,7 @@ module _ (g : Study) where
   swapped-from [] [] d s s' e h h' = (e, refl)
   swapped-from (c ∷ calls) (c' ∷ calls') d s s' e h h' =
       let rest : _ = swapped-from calls calls' d.1 (step g s c) (step g s' c') (same_step s s' e c c' d.0 h.0 h'.0) h.1 h'.1 in
-      (rest.0, λ i. answer_of (same-verdict s s' e c c' d.0 h.0 h'.0 i) ∷ rest.1 i)
+      (rest.0, λ i. same-verdict s s' e c c' d.0 h.0 h'.0 i ∷ rest.1 i)
   swapped-from [] (c' ∷ calls') d s s' e h h' = absurd d
   swapped-from (c ∷ calls) [] d s s' e h h' = absurd d
 

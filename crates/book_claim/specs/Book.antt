@@ -9,9 +9,8 @@ use Rattle.ask.specs.Ask.{after_call}
 use Rattle.triplet_piece.specs.Layout.{piece_at}
 use Rattle.triplet_piece.specs.Weights.{weight_at, flag_at}
 use Rattle.triplet_study.specs.Study.{Study, sizes_of}
-use Rattle.sheet_tally.specs.declared.SheetAnswer.{SheetAnswer}
-use Rattle.sheet_tally.specs.Tallies.{sheet_answer, with_runs}
-use Rattle.sheet_step.specs.Steps.{Sheet, sheet, Call, run, carry, average, pieces_of, verdict, piece_of, averaged_at, averaged_flag_at}
+use Rattle.sheet_tally.specs.Tallies.{with_runs}
+use Rattle.sheet_step.specs.Steps.{Answered, answered, Sheet, sheet, Call, run, carry, average, pieces_of, verdict, piece_of, averaged_at, averaged_flag_at}
 
 -- ---- what the book holds
 
@@ -143,6 +142,6 @@ booked g start b [] = b
 booked g start b (c ∷ calls) = booked g start (turn g start b c) calls
 
 -- each call's answer by the book: "refuses the call with that number", or done with the book's tally
-abbrev pub book_answers : Study → Sheet → Book → List Call → List SheetAnswer
+abbrev pub book_answers : Study → Sheet → Book → List Call → List Answered
 book_answers g start b [] = []
-book_answers g start b (c ∷ calls) = sheet_answer (book_no g start b c) (turn g start b c).tally ∷ book_answers g start (turn g start b c) calls
+book_answers g start b (c ∷ calls) = answered (book_no g start b c) (turn g start b c).tally ∷ book_answers g start (turn g start b c) calls

@@ -1,14 +1,11 @@
 -- What the readers' statements count along a list of calls: accepted runs, the runs of one piece, the averagings of one triplet, refusals.
-use Rattle.std.specs.Prelude.{Bool, true, false, ◌||◌, cond, List, [], ◌∷◌, ◌++◌, ◌≡◌, ℕ, ◌+◌, eqb, ℤ}
+use Rattle.std.specs.Prelude.{Bool, true, false, ◌||◌, cond, List, [], ◌∷◌, ◌++◌, ◌≡◌, ℕ, zero, suc, ◌+◌, eqb, ℤ}
 use Rattle.std.specs.Int.Signed.{mag}
 use Rattle.list_laws.specs.Lists.{one_if}
 use Rattle.list_laws.specs.Signed.{is_nat}
 use Rattle.ask.specs.Ask.{after_call}
 use Rattle.triplet_study.specs.Study.{Study, sizes_of}
-use Rattle.ask.specs.declared.Answer.{Answer}
-use Rattle.ask.specs.declared.Answer.TheVariants.{Done, Refused}
-use Rattle.sheet_tally.specs.declared.SheetAnswer.{SheetAnswer}
-use Rattle.sheet_step.specs.Steps.{Sheet, Call, run, carry, average, piece_of}
+use Rattle.sheet_step.specs.Steps.{Answered, Sheet, Call, run, carry, average, piece_of}
 use Rattle.book_claim.specs.Book.{word_at, Word, fresh, computed, averaged_by, Book, is_open, open_words, book_no, turn, booked}
 
 -- ---- "each of the sixteen has grown by exactly its own worker's accepted runs, repeats included"
@@ -67,12 +64,12 @@ is_averaged (averaged_by ids1 ids2) = true
 
 -- ---- "a sheet on which every call is refused"
 
--- an answer is a refusal
-abbrev pub IsRefused : Answer → Type 0
-IsRefused Done = ⊥
-IsRefused (Refused n) = Unit
+-- a call's number is a refusal's
+abbrev pub IsRefused : ℕ → Type 0
+IsRefused zero = ⊥
+IsRefused (suc n) = Unit
 
 -- every answer is
-abbrev pub AreRefused : List SheetAnswer → Type 0
+abbrev pub AreRefused : List Answered → Type 0
 AreRefused [] = Unit
-AreRefused (a ∷ rest) = IsRefused a.answer × AreRefused rest
+AreRefused (a ∷ rest) = IsRefused a.number × AreRefused rest

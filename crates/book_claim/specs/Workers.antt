@@ -1,9 +1,6 @@
 -- "from one sheet a list of calls with workers swapped, none refused by 20 or 21 either way": what the law of swapped workers takes.
-use Rattle.std.specs.Prelude.{◌≡◌, List, [], ◌∷◌, ℤ}
-use Rattle.ask.specs.declared.Answer.{Answer}
-use Rattle.ask.specs.declared.Answer.TheVariants.{Refused}
-use Rattle.sheet_tally.specs.declared.SheetAnswer.{SheetAnswer}
-use Rattle.sheet_step.specs.Steps.{Sheet, Call, run, carry, average}
+use Rattle.std.specs.Prelude.{◌≡◌, List, [], ◌∷◌, ℕ, ℤ}
+use Rattle.sheet_step.specs.Steps.{Answered, Sheet, Call, run, carry, average}
 
 -- two calls that differ in their worker only: any two workers
 abbrev pub SameButWorker : Call → Call → Type 0
@@ -31,13 +28,13 @@ renamed name (carry worker) = carry (name worker)
 renamed name (average t ids1 ids2) = average t ids1 ids2
 
 -- no answer is a refusal by 20 or by 21
-abbrev pub NoneByTally : List SheetAnswer → Type 0
+abbrev pub NoneByTally : List Answered → Type 0
 NoneByTally [] = Unit
-NoneByTally (a ∷ rest) = ((a.answer ≡ Refused 20 → ⊥) × (a.answer ≡ Refused 21 → ⊥)) × NoneByTally rest
+NoneByTally (a ∷ rest) = ((a.number ≡ 20 → ⊥) × (a.number ≡ 21 → ⊥)) × NoneByTally rest
 
--- what a call said, without the tally: done, or the number of its refusal
-abbrev pub said : SheetAnswer → Answer
-said a = a.answer
+-- what a call said, without the tally: 0 where it is done, or the number of its refusal
+abbrev pub said : Answered → ℕ
+said a = a.number
 
 -- "the same weights, flags and marks"
 pub record SameContent (s s' : Sheet) : Type 0 where

@@ -2,10 +2,12 @@
 use Rattle.std.specs.Prelude.{◌≡◌, List, [], ◌∷◌, ◌++◌, ℕ, eqb, ℤ, length}
 use Rattle.std.specs.Int.Signed.{mag}
 use Rattle.list_laws.specs.Signed.{is_below}
-use Rattle.ask.specs.declared.Answer.{Answer}
-use Rattle.ask.specs.Answers.{answer_of}
+use Rattle.std.specs.declared.result.Result.{Result}
+use Rattle.ask.specs.declared.refusal.Refusal.{Refusal}
+use Rattle.ask.specs.Refusals.{answer_of}
 use Rattle.ask.specs.Ask.{Question, asks, first_no, after_call}
 use Rattle.ask.specs.Lent.{Lent}
+use Rattle.question_grids.specs.declared.Grid.{Grid}
 use Rattle.question_grids.specs.Grids.{grid_questions, triples_in}
 use Rattle.question_grids.specs.Steps.{are_steps, are_grid_points}
 use Rattle.question_values.specs.Counts.{is_triplet_count, is_product}
@@ -39,6 +41,11 @@ abbrev pub around_in : ℤ → List ℤ → Lent ℤ → Lent ℤ → Lent ℤ �
 around_in kind diag addresses gp-map steps =
     record { kind = kind; diag = diag; addresses = addresses.entry.now; gp-map = gp-map.entry.now; steps = steps.entry.now }
 
+-- it, from a lent grid and lent steps
+abbrev pub around_of : Grid → Lent ℤ → Around
+around_of grid steps =
+    record { kind = grid.bz_grid_type; diag = grid.d_diag; addresses = grid.addresses.now; gp-map = grid.gp_map.now; steps = steps.entry.now }
+
 -- ---- one point
 
 -- The questions of `fill_neighboring_grid_points`, in their order.
@@ -56,8 +63,8 @@ found a point old =
     after_call (point_no a point old) (neighbours_of (grid_of a.kind a.diag) a.addresses a.gp-map a.steps (mag point)) old
 
 -- What a call did: its answer, and the buffer before and after it.
-abbrev pub DidFind : Around → ℤ → Answer → List ℤ → List ℤ → Type 0
-DidFind a point answer old new = (answer ≡ answer_of (point_no a point old)) × (new ≡ found a point old)
+abbrev pub DidFind : Around → ℤ → Result Unit Refusal → List ℤ → List ℤ → Type 0
+DidFind a point answer old new = (answer ≡ answer_of (point_no a point old) tt) × (new ≡ found a point old)
 
 -- ---- many points
 
@@ -76,5 +83,5 @@ all_found a points old =
     after_call (many_no a points old) (neighbours_of_all (grid_of a.kind a.diag) a.addresses a.gp-map a.steps points) old
 
 -- What a call did: its answer, and the buffer before and after it.
-abbrev pub DidFindAll : Around → List ℤ → Answer → List ℤ → List ℤ → Type 0
-DidFindAll a points answer old new = (answer ≡ answer_of (many_no a points old)) × (new ≡ all_found a points old)
+abbrev pub DidFindAll : Around → List ℤ → Result Unit Refusal → List ℤ → List ℤ → Type 0
+DidFindAll a points answer old new = (answer ≡ answer_of (many_no a points old) tt) × (new ≡ all_found a points old)

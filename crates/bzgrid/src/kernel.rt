@@ -1,89 +1,79 @@
 // The neighbours of one point and of many, and the questions of both calls after those on the grid.
 ghost use Rattle.std.specs.Prelude.{◌≡◌, true, ◌*◌, ◌<◌, length};
 ghost use Rattle.ask.specs.Ask.{first_no};
+ghost use Rattle.ask.specs.Refusals.{answer_of};
 ghost use Rattle.question_grids.specs.Grids.{are_triples, triples_in};
 ghost use Rattle.question_grids.specs.Steps.{are_grid_points};
-ghost use Rattle.bzgrid_lookup.specs.Neighbours.{SoundGrid};
 ghost use Rattle.bzgrid.specs.Lists.{neighbours_of, neighbours_of_all};
 ghost use Rattle.bzgrid.specs.Calls.{step_questions, steps_questions};
 
-use bzgrid_lookup::BzGrid;
+use ask::Refusal;
+use bzgrid_lookup::TestedGrid;
+use question_grids::kernel::steps;
+use question_values::kernel::counts;
 
 // The neighbours of point g, one for each step.
-pub fn fill_neighbours(
-    out: &mut [i64],
-    g: usize,
-    steps: &[i64],
-    grid: BzGrid,
-    addresses: &[i64],
-    gp_map: &[i64],
-)
-    requires { SoundGrid grid addresses.now gp_map.now × ((are_triples steps.now ≡ true) × ((g < triples_in addresses.now) × (length out.old ≡ triples_in steps.now))) }
-    ensures { out.new ≡ neighbours_of grid addresses.now gp_map.now steps.now g }
+pub fn fill_neighbours(out: &mut [i64], g: usize, steps: &[i64], grid: TestedGrid)
+    requires { (are_triples steps.now ≡ true) × ((g < triples_in grid.addresses.now) × (length out.old ≡ triples_in steps.now)) }
+    ensures { out.new ≡ neighbours_of grid.entry.grid grid.entry.addresses.now grid.entry.gp_map.now steps.now g }
 {
-    let mut j = 0;
-    while j < out.len() {
-        let v = bzgrid_lookup::kernel::neighbour(grid, addresses, gp_map, steps, g, j);
+    for j in 0..out.len() {
+        let v = grid.neighbour(steps, g, j);
         out[j] = v as i64;
-        j += 1;
     }
 }
 
 // The neighbours of each of the points in turn.
-pub fn fill_many(
-    out: &mut [i64],
-    grid_points: &[i64],
-    steps: &[i64],
-    grid: BzGrid,
-    addresses: &[i64],
-    gp_map: &[i64],
-)
-    requires { SoundGrid grid addresses.now gp_map.now × ((are_triples steps.now ≡ true) × ((are_grid_points (triples_in addresses.now) grid_points.now ≡ true) × (length out.old ≡ length grid_points.now * triples_in steps.now))) }
-    ensures { out.new ≡ neighbours_of_all grid addresses.now gp_map.now steps.now grid_points.now }
+pub fn fill_many(out: &mut [i64], grid_points: &[i64], steps: &[i64], grid: TestedGrid)
+    requires { (are_triples steps.now ≡ true) × ((are_grid_points (triples_in grid.addresses.now) grid_points.now ≡ true) × (length out.old ≡ length grid_points.now * triples_in steps.now)) }
+    ensures { out.new ≡ neighbours_of_all grid.entry.grid grid.entry.addresses.now grid.entry.gp_map.now steps.now grid_points.now }
 {
     let size = steps.len() / 3;
-    let mut i = 0;
     let mut start = 0;
-    while i < grid_points.len() {
+    for i in 0..grid_points.len() {
         let g = numbers::kernel::magnitude_at(grid_points, i);
         let end = start + size;
-        fill_neighbours(&mut out[start..end], g, steps, grid, addresses, gp_map);
+        fill_neighbours(&mut out[start..end], g, steps, grid);
         start = end;
-        i += 1;
     }
 }
 
-// The number of the first question of the call for one point, after those on the grid, that is answered no, or 0.
-pub fn point_first_no(grid_point: i64, steps: &[i64], p: usize, out_len: usize) -> u64
-    ensures { result ≡ first_no (step_questions steps.now grid_point p out_len) }
+// The questions of the call for one point, after those on the grid.
+pub fn ask_point(grid_point: i64, steps: &[i64], p: usize, out_len: usize) -> Result<(), Refusal>
+    ensures { result ≡ answer_of (first_no (step_questions steps.now grid_point p out_len)) tt }
 {
-    if !question_grids::kernel::steps::steps_ok(steps) {
-        return questions::BAD_TABLE;
+    if !steps::steps_ok(steps) {
+        return Err(Refusal::Table);
     }
     if !numbers::kernel::is_below(grid_point, p) {
-        return questions::BAD_GRID_POINT;
+        return Err(Refusal::GridPoints);
     }
     if out_len != steps.len() / 3 {
-        return questions::BAD_LENGTH;
+        return Err(Refusal::Lengths);
     }
-    0
+    Ok(())
 }
 
-// The number of the first question of the call for many points, after those on the grid, that is answered no, or 0.
-pub fn many_first_no(grid_points: &[i64], steps: &[i64], p: usize, out_len: usize) -> u64
-    ensures { result ≡ first_no (steps_questions steps.now grid_points.now p out_len) }
+// The questions of the call for many points, after those on the grid.
+pub fn ask_points(
+    grid_points: &[i64],
+    steps: &[i64],
+    p: usize,
+    out_len: usize,
+) -> Result<(), Refusal>
+    ensures { result ≡ answer_of (first_no (steps_questions steps.now grid_points.now p out_len)) tt }
 {
-    if !question_grids::kernel::steps::steps_ok(steps) {
-        return questions::BAD_TABLE;
+    if !steps::steps_ok(steps) {
+        return Err(Refusal::Table);
     }
-    if !question_values::kernel::counts::triplet_count_ok(grid_points.len()) {
-        return questions::BAD_COUNT;
+    if !counts::triplet_count_ok(grid_points.len()) {
+        return Err(Refusal::Counts);
     }
-    if !question_grids::kernel::steps::grid_points_ok(p, grid_points) {
-        return questions::BAD_GRID_POINT;
+    if !steps::grid_points_ok(p, grid_points) {
+        return Err(Refusal::GridPoints);
     }
-    if !question_values::kernel::counts::length_ok(grid_points.len(), steps.len() / 3, out_len) {
-        return questions::BAD_LENGTH;
+    if !counts::length_ok(grid_points.len(), steps.len() / 3, out_len) {
+        return Err(Refusal::Lengths);
     }
-    0
+    Ok(())
 }

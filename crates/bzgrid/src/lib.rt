@@ -2,9 +2,12 @@
 
 #![tactic(auto)]
 
-ghost use Rattle.bzgrid.specs.Calls.{around_in, DidFind, DidFindAll};
+ghost use Rattle.bzgrid.specs.Calls.{around_of, DidFind, DidFindAll};
 
-pub use ask::Answer;
+use ask::Refusal;
+use bzgrid_lookup::TestedGrid;
+use question_grids::Grid;
+use question_grids::kernel::grid::ask_grid;
 
 pub mod kernel;
 
@@ -13,35 +16,17 @@ pub fn fill_neighboring_grid_points(
     out: &mut [i64],
     grid_point: i64,
     relative_grid_address: &[i64],
-    bz_grid_type: i64,
-    d_diag: [i64; 3],
-    addresses: &[i64],
-    gp_map: &[i64],
-) -> Answer
-    ensures { DidFind (around_in bz_grid_type d_diag addresses gp_map relative_grid_address) grid_point result out.old out.new }
+    grid: Grid,
+) -> Result<(), Refusal>
+    ensures { DidFind (around_of grid.entry relative_grid_address) grid_point result out.old out.new }
 {
-    let grid_first_no = question_grids::kernel::grid::grid_first_no(
-        bz_grid_type,
-        d_diag,
-        addresses,
-        gp_map,
-    );
-    if grid_first_no != 0 {
-        return Answer::Refused(grid_first_no);
-    }
-    let no = kernel::point_first_no(
-        grid_point,
-        relative_grid_address,
-        addresses.len() / 3,
-        out.len(),
-    );
-    if no != 0 {
-        return Answer::Refused(no);
-    }
+    ask_grid(grid)?;
+    let p = grid.addresses.len() / 3;
+    kernel::ask_point(grid_point, relative_grid_address, p, out.len())?;
+    let tested = TestedGrid::new(grid);
     let g = numbers::kernel::magnitude(grid_point);
-    let grid = bzgrid_lookup::kernel::grid_of(bz_grid_type, d_diag);
-    kernel::fill_neighbours(out, g, relative_grid_address, grid, addresses, gp_map);
-    Answer::Done
+    kernel::fill_neighbours(out, g, relative_grid_address, tested);
+    Ok(())
 }
 
 // The neighbours of many grid points: those of each in turn. Questions 3, 4, 5, 6, 7, 9, 10, 12.
@@ -49,39 +34,14 @@ pub fn neighboring_grid_points_many(
     out: &mut [i64],
     grid_points: &[i64],
     relative_grid_address: &[i64],
-    bz_grid_type: i64,
-    d_diag: [i64; 3],
-    addresses: &[i64],
-    gp_map: &[i64],
-) -> Answer
-    ensures { DidFindAll (around_in bz_grid_type d_diag addresses gp_map relative_grid_address) grid_points.now result out.old out.new }
+    grid: Grid,
+) -> Result<(), Refusal>
+    ensures { DidFindAll (around_of grid.entry relative_grid_address) grid_points.now result out.old out.new }
 {
-    let grid_first_no = question_grids::kernel::grid::grid_first_no(
-        bz_grid_type,
-        d_diag,
-        addresses,
-        gp_map,
-    );
-    if grid_first_no != 0 {
-        return Answer::Refused(grid_first_no);
-    }
-    let no = kernel::many_first_no(
-        grid_points,
-        relative_grid_address,
-        addresses.len() / 3,
-        out.len(),
-    );
-    if no != 0 {
-        return Answer::Refused(no);
-    }
-    let grid = bzgrid_lookup::kernel::grid_of(bz_grid_type, d_diag);
-    kernel::fill_many(
-        out,
-        grid_points,
-        relative_grid_address,
-        grid,
-        addresses,
-        gp_map,
-    );
-    Answer::Done
+    ask_grid(grid)?;
+    let p = grid.addresses.len() / 3;
+    kernel::ask_points(grid_points, relative_grid_address, p, out.len())?;
+    let tested = TestedGrid::new(grid);
+    kernel::fill_many(out, grid_points, relative_grid_address, tested);
+    Ok(())
 }

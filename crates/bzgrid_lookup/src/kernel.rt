@@ -8,6 +8,9 @@ ghost use Rattle.bzgrid_lookup.specs.Neighbours.{grid_of, kind_of, is_address, s
 use crate::{BzGrid, GridKind};
 use numbers::{Address, Mesh};
 
+pub mod tested;
+
+// The kind that a tested number names; a `TryFrom` would add a refusal that cannot come.
 fn kind_of(bz_grid_type: i64) -> GridKind
     ensures { result ≡ kind_of bz_grid_type }
 {
@@ -33,9 +36,7 @@ fn same_address(addresses: &[i64], j: usize, w: Address) -> bool
     requires { 3 * j + 2 < length addresses.now }
     ensures { result ≡ is_address addresses.now w j }
 {
-    numbers::kernel::equal_at(addresses, 3 * j, w.x)
-        & numbers::kernel::equal_at(addresses, 3 * j + 1, w.y)
-        & numbers::kernel::equal_at(addresses, 3 * j + 2, w.z)
+    (addresses[3 * j] == w.x) & (addresses[3 * j + 1] == w.y) & (addresses[3 * j + 2] == w.z)
 }
 
 // The first address from lo up to hi that is the wanted one, else lo.
@@ -43,16 +44,13 @@ fn first_address(addresses: &[i64], lo: usize, hi: usize, w: Address) -> usize
     requires { 3 * hi ≤ length addresses.now }
     ensures { result ≡ first_at (is_address addresses.now w) lo (hi - lo) lo }
 {
-    let mut k = lo;
-    let found = loop {
-        if hi <= k {
-            break lo;
-        }
+    let mut found = lo;
+    for k in lo..hi {
         if same_address(addresses, k, w) {
-            break k;
+            found = k;
+            break;
         }
-        k += 1;
-    };
+    }
     found
 }
 

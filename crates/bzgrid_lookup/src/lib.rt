@@ -4,6 +4,8 @@
 
 pub mod kernel;
 
+pub use kernel::tested::TestedGrid;
+
 // The kind of a grid, tested: 1 is sparse (the map indexes the doubled mesh), 2 is dense (the map holds where each group starts).
 #[derive(Clone, Copy)]
 pub enum GridKind {

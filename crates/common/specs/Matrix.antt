@@ -2,13 +2,13 @@
 use Rattle.std.specs.Prelude.{Bool, ◌&&◌, List, [], ◌∷◌, ℕ, ℤ, get_or, Float}
 use Rattle.std.specs.Float.{nan, binary64}
 use Rattle.std.specs.Float.Ieee.{of_bits, of_int, le, add, mul}
-use Rattle.ask.specs.Ask.{Question, asks, first_no, after_call}
-use Rattle.ask.specs.Answers.{answer_of}
-use Rattle.ieee_laws.specs.Zeros.{zero_f}
+use Rattle.std.specs.declared.result.Result.{Result}
+use Rattle.ask.specs.Ask.{Question, asks, first_no}
+use Rattle.ask.specs.Refusals.{answer_of}
+use Rattle.ask.specs.declared.refusal.Refusal.{Refusal}
 use Rattle.list_laws.specs.Lists.{at}
 use Rattle.list_laws.specs.Signed.{within}
 use Rattle.ieee_laws.specs.Magnitude.{absolute}
-use Rattle.common.specs.declared.MatvecAnswer.{MatvecAnswer}
 
 -- 2^30
 abbrev pub lattice_limit : Float
@@ -49,9 +49,6 @@ matvec_of a b = row_times (row_at a 0) b ∷ row_times (row_at a 1) b ∷ row_ti
 abbrev pub matvec_questions : List (List Float) → List ℤ → List Question
 matvec_questions a b = asks 2 (is_lattice a) ∷ asks 7 (is_vector b) ∷ []
 
--- The answer of `matvec_di` with the product, or with zeros.
-unfoldable pub matvec_answer : List (List Float) → List ℤ → MatvecAnswer
-matvec_answer a b = record {
-  answer = answer_of (first_no (matvec_questions a b));
-  vector = after_call (first_no (matvec_questions a b)) (matvec_of a b) (zero_f ∷ zero_f ∷ zero_f ∷ []);
-}
+-- The answer of `matvec_di`: the product, or the refusal.
+unfoldable pub matvec_answer : List (List Float) → List ℤ → Result (List Float) Refusal
+matvec_answer a b = answer_of (first_no (matvec_questions a b)) (matvec_of a b)

@@ -8,12 +8,14 @@ ghost use Rattle.common.specs.Matrix.{is_lattice_entry, is_lattice_row, is_latti
 use numbers::kernel::{abs, is_within};
 
 // Finite, and of magnitude at most 2^30.
+#[tactic(auto, unfolding(crate::specs::Matrix::is_lattice_entry))]
 fn lattice_entry_ok(x: f64) -> bool
     ensures { result ≡ is_lattice_entry x }
 {
     abs(x) <= 1073741824.0
 }
 
+#[tactic(auto, unfolding(crate::specs::Matrix::is_lattice_row))]
 fn lattice_row_ok(row: [f64; 3]) -> bool
     ensures { result ≡ is_lattice_row row }
 {
@@ -21,6 +23,7 @@ fn lattice_row_ok(row: [f64; 3]) -> bool
 }
 
 // Question 2.
+#[tactic(auto, unfolding(crate::specs::Matrix::is_lattice))]
 pub fn lattice_ok(a: [[f64; 3]; 3]) -> bool
     ensures { result ≡ is_lattice a }
 {
@@ -43,6 +46,7 @@ fn component(b: [i64; 3], i: usize) -> f64
 }
 
 // One row of the lattice times the vector.
+#[tactic(auto, unfolding(crate::specs::Matrix::row_times))]
 fn row_times(row: [f64; 3], b: [i64; 3]) -> f64
     requires { is_vector b ≡ true }
     ensures { result ≡ row_times row b }
@@ -51,6 +55,7 @@ fn row_times(row: [f64; 3], b: [i64; 3]) -> f64
 }
 
 // Float matrix times a tested integer vector.
+#[tactic(auto, unfolding(crate::specs::Matrix::matvec_of))]
 pub fn matvec(a: [[f64; 3]; 3], b: [i64; 3]) -> [f64; 3]
     requires { is_vector b ≡ true }
     ensures { result ≡ matvec_of a b }

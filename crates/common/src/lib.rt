@@ -5,35 +5,20 @@
 ghost use Rattle.std.specs.Prelude.{◌≡◌};
 ghost use Rattle.common.specs.Matrix.{matvec_answer};
 
-pub use ask::Answer;
+pub use ask::Refusal;
 
 pub mod kernel;
 
-// The answer, and the product beside it, zeros beside a refusal.
-#[derive(Clone, Copy)]
-pub struct MatvecAnswer {
-    pub answer: Answer,
-    pub vector: [f64; 3],
-}
-
-// Float matrix times integer vector.
-pub fn matvec_di(a: [[f64; 3]; 3], b: [i64; 3]) -> MatvecAnswer
+// Float matrix times integer vector. Questions 2, 7.
+#[tactic(auto, unfolding(crate::specs::Matrix::matvec_answer, ask::specs::Ask::first_no))]
+pub fn matvec_di(a: [[f64; 3]; 3], b: [i64; 3]) -> Result<[f64; 3], Refusal>
     ensures { result ≡ matvec_answer a b }
 {
     if !kernel::lattice_ok(a) {
-        return MatvecAnswer {
-            answer: Answer::Refused(numbers::BAD_LATTICE),
-            vector: [0.0, 0.0, 0.0],
-        };
+        return Err(Refusal::Lattice);
     }
     if !kernel::vector_ok(b) {
-        return MatvecAnswer {
-            answer: Answer::Refused(numbers::BAD_TABLE),
-            vector: [0.0, 0.0, 0.0],
-        };
+        return Err(Refusal::Table);
     }
-    MatvecAnswer {
-        answer: Answer::Done,
-        vector: kernel::matvec(a, b),
-    }
+    Ok(kernel::matvec(a, b))
 }

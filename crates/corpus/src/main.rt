@@ -5,7 +5,7 @@
 ghost use Rattle.std.specs.Prelude.{◌≡◌, length};
 
 use replay_input::kernel as input;
-use replay_input::kernel::Cursor;
+use replay_input::reader::Reader;
 
 fn answer_buffer() -> [u8; 118617]
     ensures { 118617 ≡ length result }
@@ -20,9 +20,9 @@ fn next_text() -> bool {
     if got < 7 {
         return false;
     }
-    let size = input::next_count(&head, Cursor { at: 0 });
+    let size = Reader::new(&head).next_count();
     let mut text = io::large_buffer();
-    let n = input::read_part(&mut text, size.value as usize);
+    let n = input::read_part(&mut text, size as usize);
     let mut out = answer_buffer();
     let k = answer::answer(&text[..n], &mut out);
     io::write_all(1, &out[..k]);
@@ -30,11 +30,9 @@ fn next_text() -> bool {
 }
 
 fn main() {
-    let mut texts: u64 = 10000;
-    while 0 < texts {
+    for _ in 0..10000 {
         if !next_text() {
             return;
         }
-        texts -= 1;
     }
 }

@@ -7,3 +7,5 @@ pub mod WalkLaws
 pub mod IdLaws
 pub mod SizeLaws
 pub mod Example
+pub mod AverageLaws
+pub mod SingleLaws

@@ -20,16 +20,10 @@ use Rattle.list_laws.proofs.PatchLaws.{length-patch, get_or-patch}
 use Rattle.list_laws.proofs.ProductLaws.{digit_lt}
 use Rattle.degenerate_sets.specs.Sets.{starts_at, start_of, end_of, block_of}
 use Rattle.degenerate_sets.specs.Blocks.{degenerate_set, blocks_of}
-use Rattle.degenerate_sets.specs.Turns.{on_block, in_turn}
+use Rattle.degenerate_sets.specs.Turns.{Local, on_block, in_turn}
 use Rattle.degenerate_sets.proofs.SetLaws.{ends, start-le, start-start, end-start}
 use Rattle.degenerate_sets.proofs.CoverLaws.{IsSet, set_own}
 use Rattle.degenerate_sets.proofs.BlockLaws.{blocks-cover, blocks-own}
-
--- the rule looks at no entry outside its block: two matrices that agree in the block give the same
-abbrev pub Local : {A : Type 0} → A → ℕ → (Block → List A → ℕ → ℕ → A) → Type 0
-Local d n rule =
-    (b : Block) (m m' : List _) → b.right ≤ n → ((r c : ℕ) → c < n → InBlock b r c → get_or m (r * n + c) d ≡ get_or m' (r * n + c) d)
-    → (r c : ℕ) → InBlock b r c → rule b m r c ≡ rule b m' r c
 
 module _ {A : Type 0} (n : ℕ) (rule : Block → List A → ℕ → ℕ → A) where
   block-length : (m : List A) (b : Block) → length (on_block n rule m b) ≡ length m

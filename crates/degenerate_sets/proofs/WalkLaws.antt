@@ -4,6 +4,8 @@ use mathlib.Core.Logic.{⊎_elim}
 use mathlib.Core.Bool.{Bool, true}
 use mathlib.Core.List.{List, [], ◌∷◌, map, map-append, foldl-append}
 use Prim.Native.Nat.{ℕ, ◌*◌, ◌/◌, ◌%◌, ◌<◌}
+use lib.IntN.{ℤ}
+use Rattle.std.specs.declared.ops.Range.{Range}
 use native.Mathlib.Nat.{div-add-mod', mod-lt}
 use native.Mathlib.Omega.{arith}
 use lib.ListN.{length, get_or}
@@ -12,7 +14,9 @@ use Rattle.list_laws.specs.Matrix.{Block, InBlock, Replaced, has_entry}
 use Rattle.list_laws.proofs.BoolLaws.{clash, true-or-false}
 use Rattle.list_laws.proofs.MatrixLaws.{square-pos, has_in, in-has}
 use Rattle.list_laws.proofs.PatchLaws.{patch-is}
-use Rattle.degenerate_sets.specs.Sets.{end_of}
+use Rattle.degenerate_sets.specs.declared.kernel.sets.Sets.{Sets}
+use Rattle.degenerate_sets.specs.Sets.{starts_at, end_of}
+use Rattle.degenerate_sets.specs.Walks.{IsNext}
 use Rattle.degenerate_sets.specs.Blocks.{DegenerateSet, degenerate_set, is_first, sets_below, product, products}
 use Rattle.degenerate_sets.specs.Turns.{on_block, in_turn}
 use Rattle.degenerate_sets.proofs.CoverLaws.{sets-next}
@@ -37,6 +41,14 @@ block-turn d n rule b m m' len R =
     ∙ R.outside (k / n) (k % n) (mod-lt k some) (λ i. clash (sym t ∙ in-has (k / n) (k % n) b i))
     ∙ ap (λ (j : ℕ). get_or m j d) place))
     (true-or-false (has_entry (k / n) (k % n) b)))
+
+-- ---- a step of the walk
+
+-- of the walk over these ids
+pub next-of : (ids : List ℤ) (s t : Sets) (set : Range ℕ) → s.ids.now ≡ ids → IsNext s t set
+    → (s.start < length ids) × (set.start ≡ s.start) × (set.end ≡ end_of (starts_at ids) (length ids) s.start) × (t.start ≡ set.end) × (t.ids.now ≡ ids)
+next-of ids s t set e h =
+    let h' = rw e at h in (h'.0, h'.1, h'.2, h'.3, h.4 ∙ e)
 
 module _ {A : Type 0} (n : ℕ) (rule : Block → List A → ℕ → ℕ → A) where
   -- ---- the blocks of one set of rows

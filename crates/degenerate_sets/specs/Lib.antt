@@ -2,3 +2,5 @@
 pub mod Sets
 pub mod Blocks
 pub mod Turns
+pub mod Walks
+pub mod Averages

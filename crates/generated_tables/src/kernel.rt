@@ -47,9 +47,7 @@ pub fn fill_tables(out: &mut [i64])
     requires { length out.old ≡ 1152 }
     ensures { out.new ≡ generated_tables }
 {
-    let mut i = 0;
-    while i < 1152 {
+    for i in 0..1152 {
         out[i] = number(i);
-        i += 1;
     }
 }

@@ -1,13 +1,15 @@
 -- The grid index of an address.
-use Rattle.std.specs.Prelude.{cond, List, ℕ, ◌+◌, ◌*◌, ℤ, pos}
+use Rattle.std.specs.Prelude.{List, [], ◌∷◌, ℕ, ◌+◌, ◌*◌, ℤ, pos}
+use Rattle.std.specs.declared.result.Result.{Result}
 use Rattle.list_laws.specs.Lists.{at}
 use Rattle.list_laws.specs.Signed.{rem_euclid}
 use Rattle.numbers.specs.declared.Address.{Address}
 use Rattle.numbers.specs.declared.Mesh.{Mesh}
 use Rattle.numbers.specs.Mesh.{mesh_of}
+use Rattle.ask.specs.Ask.{asks, first_no}
+use Rattle.ask.specs.Refusals.{answer_of}
+use Rattle.ask.specs.declared.refusal.Refusal.{Refusal}
 use Rattle.question_grids.specs.Grids.{is_mesh}
-use Rattle.grgrid.specs.declared.IndexAnswer.{IndexAnswer}
-use Rattle.grgrid.specs.declared.IndexAnswer.TheVariants.{Index, Refused}
 
 -- the address of three components
 unfoldable pub address_of : List ℤ → Address
@@ -18,5 +20,5 @@ unfoldable pub grid_index : Address → Mesh → ℕ
 grid_index a m = rem_euclid a.z m.d2 * (m.d0 * m.d1) + rem_euclid a.y m.d1 * m.d0 + rem_euclid a.x m.d0
 
 -- The answer: refused with 4 where a mesh number is not from 1 to 256, otherwise the index.
-unfoldable pub index_answer : List ℤ → List ℤ → IndexAnswer
-index_answer address diag = cond (is_mesh 256 diag) (Index (pos (grid_index (address_of address) (mesh_of diag)))) (Refused 4)
+abbrev pub index_answer : List ℤ → List ℤ → Result ℤ Refusal
+index_answer address diag = answer_of (first_no (asks 4 (is_mesh 256 diag) ∷ [])) (pos (grid_index (address_of address) (mesh_of diag)))

@@ -1,18 +1,17 @@
 // The grid index, for mesh numbers that are tested.
-ghost use Rattle.std.specs.Prelude.{◌≡◌};
+ghost use Rattle.std.specs.Prelude.{◌≡◌, ◌≤◌};
+ghost use Rattle.list_laws.specs.Signed.{rem_euclid};
 ghost use Rattle.numbers.specs.Mesh.{MeshWithin};
-ghost use Rattle.grgrid.specs.Index.{address_of, grid_index};
+ghost use Rattle.grgrid.specs.Index.{grid_index};
 
 use numbers::{Address, Mesh};
 
-pub fn address_of(a: [i64; 3]) -> Address
-    ensures { result ≡ address_of a }
+// The remainder of a component by a mesh number, never negative.
+fn remainder(z: i64, d: usize) -> usize
+    requires { (1 ≤ d) × (d ≤ 256) }
+    ensures { result ≡ rem_euclid z d }
 {
-    Address {
-        x: a[0],
-        y: a[1],
-        z: a[2],
-    }
+    z.rem_euclid(d as i64) as usize
 }
 
 // The grid index of an address.
@@ -20,10 +19,8 @@ pub fn grid_index(a: Address, m: Mesh) -> usize
     requires { MeshWithin 256 m }
     ensures { result ≡ grid_index a m }
 {
-    let d0 = m.d0;
-    let d1 = m.d1;
-    let r0 = numbers::kernel::rem_euclid(a.x, d0);
-    let r1 = numbers::kernel::rem_euclid(a.y, d1);
-    let r2 = numbers::kernel::rem_euclid(a.z, m.d2);
-    r2 * (d0 * d1) + r1 * d0 + r0
+    let r0 = remainder(a.x, m.d0);
+    let r1 = remainder(a.y, m.d1);
+    let r2 = remainder(a.z, m.d2);
+    r2 * (m.d0 * m.d1) + r1 * m.d0 + r0
 }

@@ -18,11 +18,7 @@ use Rattle.question_grids.proofs.TableLaws.{corners-whole}
 use Rattle.bzgrid_lookup.specs.Neighbours.{wanted_address}
 use Rattle.bzgrid_lookup.proofs.NeighbourLaws.{neighbour-lt}
 use Rattle.tetrahedron_method.proofs.SortedLaws.{weight-same}
-use Rattle.grid_point_weights.specs.Weights.{GridStudy, Sound, corner_of, vertex_frequency, vertex_frequencies, grid_point_weight, weights_of, corner_frequency, corner_weight, Held}
-
--- the irreducible points of all corners around grid point gp, in a work area
-abbrev pub corners_of : GridStudy → ℕ → List ℕ
-corners_of s gp = area 384 (triples_in s.table) (corner_of s.grid s.addresses s.gp-map s.table s.irreducible gp) 0
+use Rattle.grid_point_weights.specs.Weights.{GridStudy, Sound, corner_of, corners_of, vertex_frequency, vertex_frequencies, grid_point_weight, weights_of, corner_frequency, corner_weight, Held}
 
 module _ (s : GridStudy) (h : Sound s) (gp : ℕ) where
   corner : ℕ → ℕ

@@ -1,8 +1,9 @@
 -- The questions of the weights at grid points, and what a call did.
 use Rattle.std.specs.Prelude.{◌≡◌, ◌&&◌, List, [], ◌∷◌, ◌++◌, ℕ, ◌*◌, ℤ, pos, Float, length}
 use Rattle.std.specs.Int.Signed.{mag}
-use Rattle.ask.specs.declared.Answer.{Answer}
-use Rattle.ask.specs.Answers.{answer_of}
+use Rattle.std.specs.declared.result.Result.{Result}
+use Rattle.ask.specs.declared.refusal.Refusal.{Refusal}
+use Rattle.ask.specs.Refusals.{answer_of}
 use Rattle.ask.specs.Ask.{Question, asks, first_no, after_call}
 use Rattle.ask.specs.Lent.{Lent}
 use Rattle.question_grids.specs.Grids.{grid_questions, triples_in}
@@ -13,6 +14,8 @@ use Rattle.questions.specs.Irreducible.{are_irreducible}
 use Rattle.question_values.specs.Frequencies.{are_points}
 use Rattle.bzgrid_lookup.specs.Neighbours.{grid_of}
 use Rattle.tetrahedron_method.specs.declared.WeightFunction.{WeightFunction}
+use Rattle.grid_point_weights.specs.declared.GridPointStudy.{GridPointStudy}
+use Rattle.grid_point_weights.specs.declared.TestedStudy.{TestedStudy}
 use Rattle.grid_point_weights.specs.Weights.{GridStudy, study, weights_of_all}
 
 -- what the call takes, any numbers: grid kind, mesh, addresses and map; the table; the count of bands; the points; the grid points; R, the
@@ -49,6 +52,30 @@ call_in points table grid-points frequencies bands num-ir kind diag addresses gp
       function = function;
     }
 
+-- it, of a lent study and the grid points
+abbrev pub call_of : GridPointStudy → List ℤ → GridPointCall
+call_of s grid-points =
+    record {
+      kind = s.grid.bz_grid_type;
+      diag = s.grid.d_diag;
+      addresses = s.grid.addresses.now;
+      gp-map = s.grid.gp_map.now;
+      table = s.relative_grid_address.now;
+      bands = s.num_band;
+      points = s.frequency_points.now;
+      grid-points = grid-points;
+      num-ir = s.num_ir;
+      frequencies = s.frequencies.now;
+      irreducible = s.gp2irgp_map.now;
+      function = s.function;
+    }
+
+-- what the weights of a tested study are made from
+abbrev pub tested_study : TestedStudy → GridStudy
+tested_study t =
+    study t.grid t.lent.grid.addresses.now t.lent.grid.gp_map.now t.lent.relative_grid_address.now t.lent.gp2irgp_map.now t.lent.frequencies.now t.bands
+    t.lent.frequency_points.now t.lent.function
+
 -- what its weights are made from
 abbrev pub study_of : GridPointCall → GridStudy
 study_of g =
@@ -68,11 +95,13 @@ abbrev pub weights_questions : List ℤ → ℤ → List Float → List ℤ → 
 weights_questions table bands points gridPoints p r frequencies irreducible iw =
     asks 7 (is_table table) ∷ points_questions bands points gridPoints p r frequencies irreducible iw
 
+-- the same of a call
+abbrev pub points_asked : GridPointCall → ℕ → List Question
+points_asked g iw = weights_questions g.table g.bands g.points g.grid-points (triples_in g.addresses) g.num-ir g.frequencies g.irreducible iw
+
 -- The questions of `integration_weights_at_grid_points`, in their order.
 abbrev pub grid_point_questions : GridPointCall → ℕ → List Question
-grid_point_questions g iw =
-    grid_questions g.kind g.diag g.addresses g.gp-map
-    ++ weights_questions g.table g.bands g.points g.grid-points (triples_in g.addresses) g.num-ir g.frequencies g.irreducible iw
+grid_point_questions g iw = grid_questions g.kind g.diag g.addresses g.gp-map ++ points_asked g iw
 
 -- the number of the first no, by the buffer
 abbrev pub grid_point_no : GridPointCall → List Float → ℕ
@@ -83,5 +112,5 @@ abbrev pub weighed : GridPointCall → List Float → List Float
 weighed g old = after_call (grid_point_no g old) (weights_of_all (study_of g) g.grid-points) old
 
 -- What a call did: its answer, and the buffer before and after it.
-abbrev pub DidWeigh : GridPointCall → Answer → List Float → List Float → Type 0
-DidWeigh g answer old new = (answer ≡ answer_of (grid_point_no g old)) × (new ≡ weighed g old)
+abbrev pub DidWeigh : GridPointCall → Result (Unit {0}) Refusal → List Float → List Float → Type 0
+DidWeigh g answer old new = (answer ≡ answer_of (grid_point_no g old) tt) × (new ≡ weighed g old)

@@ -42,6 +42,10 @@ study grid addresses gp-map table irreducible frequencies bands points function 
 abbrev pub corner_of : BzGrid → List ℤ → List ℤ → List ℤ → List ℤ → ℕ → ℕ → ℕ
 corner_of grid addresses gp-map table irreducible gp j = mag (at irreducible (neighbour_of grid addresses gp-map (wanted_address addresses table gp j)))
 
+-- the irreducible points of all corners around grid point gp, in a work area
+abbrev pub corners_of : GridStudy → ℕ → List ℕ
+corners_of s gp = area 384 (triples_in s.table) (corner_of s.grid s.addresses s.gp-map s.table s.irreducible gp) 0
+
 -- the frequency of a band at corner j around grid point gp
 abbrev pub vertex_frequency : GridStudy → ℕ → ℕ → ℕ → Float
 vertex_frequency s gp band j =

@@ -7,20 +7,21 @@ ghost use Rattle.list_laws.specs.Columns.{InColumn};
 ghost use Rattle.list_laws.specs.Matrix.{Replaced};
 ghost use Rattle.grid_point_weights.specs.Weights.{corner_frequency, Held, corner_weight};
 
-use tetrahedron_method::WeightFunction;
+use crate::TestedStudy;
 use tetrahedron_method::kernel::sorted;
 
 // The frequencies of a band at n corners, at the start of a work area.
 fn vertex_frequencies(
+    study: &TestedStudy,
     corners: &[usize; 384],
     n: usize,
-    frequencies: &[f64],
-    bands: usize,
     band: usize,
 ) -> [f64; 384]
-    requires { (n ≤ 384) × Held corners.now n (length frequencies.now) bands band }
-    ensures { result ≡ area 384 n (corner_frequency corners.now frequencies.now bands band) (of_bits binary64 0) }
+    requires { (n ≤ 384) × Held corners.now n (length study.now.lent.frequencies.now) study.now.bands band }
+    ensures { result ≡ area 384 n (corner_frequency corners.now study.now.lent.frequencies.now study.now.bands band) (of_bits binary64 0) }
 {
+    let frequencies = study.lent.frequencies;
+    let bands = study.bands;
     let mut vertices = [0.0; 384];
     for j in 0..n {
         vertices[j] = frequencies[corners[j] * bands + band];
@@ -30,25 +31,23 @@ fn vertex_frequencies(
 
 // The weights of a band at every frequency point: its column of the rows of bands.
 pub fn fill_band(
-    iw: &mut [f64],
+    study: &TestedStudy,
     corners: &[usize; 384],
     rows: usize,
-    frequencies: &[f64],
-    bands: usize,
     band: usize,
-    points: &[f64],
-    function: WeightFunction,
+    iw: &mut [f64],
 )
-    requires { (rows ≤ 96) × ((band < bands) × (Held corners.now (rows * 4) (length frequencies.now) bands band × (length iw.old ≡ length points.now * bands))) }
-    ensures { Replaced nan bands (InColumn (length points.now) band) (λ x b. corner_weight corners.now rows frequencies.now bands points.now function x b) iw.old iw.new }
+    requires { (rows ≤ 96) × ((band < study.now.bands) × (Held corners.now (rows * 4) (length study.now.lent.frequencies.now) study.now.bands band × (length iw.old ≡ length study.now.lent.frequency_points.now * study.now.bands))) }
+    ensures { Replaced nan study.now.bands (InColumn (length study.now.lent.frequency_points.now) band) (λ x b. corner_weight corners.now rows study.now.lent.frequencies.now study.now.bands study.now.lent.frequency_points.now study.now.lent.function x b) iw.old iw.new }
 {
-    let mut vertices = vertex_frequencies(corners, rows * 4, frequencies, bands, band);
+    let mut vertices = vertex_frequencies(study, corners, rows * 4, band);
     let mut places = [0usize; 96];
     sorted::sort_rows(&mut vertices, &mut places, rows);
-    let mut x = 0;
-    while x < points.len() {
+    let points = study.lent.frequency_points;
+    let function = study.lent.function;
+    let bands = study.bands;
+    for x in 0..points.len() {
         let w = sorted::sorted_weight(function, points[x], &vertices, &places, rows);
         iw[x * bands + band] = w;
-        x += 1;
     }
 }

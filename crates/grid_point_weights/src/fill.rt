@@ -2,83 +2,33 @@
 ghost use Rattle.std.specs.Prelude.{◌≡◌, true, ◌*◌, ◌<◌, length};
 ghost use Rattle.question_grids.specs.Grids.{triples_in};
 ghost use Rattle.question_grids.specs.Steps.{are_grid_points};
-ghost use Rattle.grid_point_weights.specs.Weights.{study, weights_of, weights_of_all, Sound};
+ghost use Rattle.grid_point_weights.specs.Weights.{weights_of, weights_of_all, Sound};
+ghost use Rattle.grid_point_weights.specs.Calls.{tested_study};
 
-use bzgrid_lookup::BzGrid;
-use tetrahedron_method::WeightFunction;
+use crate::TestedStudy;
 
 // The weights of every band at every frequency point, around the grid point gp.
-fn fill_point(
-    iw: &mut [f64],
-    gp: usize,
-    grid: BzGrid,
-    addresses: &[i64],
-    gp_map: &[i64],
-    table: &[i64],
-    gp2irgp_map: &[i64],
-    frequencies: &[f64],
-    bands: usize,
-    points: &[f64],
-    function: WeightFunction,
-)
-    requires { Sound (study grid addresses.now gp_map.now table.now gp2irgp_map.now frequencies.now bands points.now function) × ((gp < triples_in addresses.now) × (length iw.old ≡ length points.now * bands)) }
-    ensures { iw.new ≡ weights_of (study grid addresses.now gp_map.now table.now gp2irgp_map.now frequencies.now bands points.now function) gp }
+fn fill_point(study: &TestedStudy, gp: usize, iw: &mut [f64])
+    requires { Sound (tested_study study.now) × ((gp < triples_in study.now.lent.grid.addresses.now) × (length iw.old ≡ length study.now.lent.frequency_points.now * study.now.bands)) }
+    ensures { iw.new ≡ weights_of (tested_study study.now) gp }
 {
-    let corners = crate::corners::corner_points(grid, addresses, gp_map, table, gp2irgp_map, gp);
-    let rows = table.len() / 12;
-    let mut band = 0;
-    while band < bands {
-        crate::band::fill_band(
-            iw,
-            &corners,
-            rows,
-            frequencies,
-            bands,
-            band,
-            points,
-            function,
-        );
-        band += 1;
+    let corners = crate::corners::corner_points(study, gp);
+    let rows = study.lent.relative_grid_address.len() / 12;
+    let bands = study.bands;
+    for band in 0..bands {
+        crate::band::fill_band(study, &corners, rows, band, iw);
     }
 }
 
 // The weights of each of the grid points in turn.
-pub fn fill_all(
-    iw: &mut [f64],
-    grid_points: &[i64],
-    grid: BzGrid,
-    addresses: &[i64],
-    gp_map: &[i64],
-    table: &[i64],
-    gp2irgp_map: &[i64],
-    frequencies: &[f64],
-    bands: usize,
-    points: &[f64],
-    function: WeightFunction,
-)
-    requires { Sound (study grid addresses.now gp_map.now table.now gp2irgp_map.now frequencies.now bands points.now function) × ((are_grid_points (triples_in addresses.now) grid_points.now ≡ true) × (length iw.old ≡ length grid_points.now * (length points.now * bands))) }
-    ensures { iw.new ≡ weights_of_all (study grid addresses.now gp_map.now table.now gp2irgp_map.now frequencies.now bands points.now function) grid_points.now }
+pub fn fill_all(study: &TestedStudy, grid_points: &[i64], iw: &mut [f64])
+    requires { Sound (tested_study study.now) × ((are_grid_points (triples_in study.now.lent.grid.addresses.now) grid_points.now ≡ true) × (length iw.old ≡ length grid_points.now * (length study.now.lent.frequency_points.now * study.now.bands))) }
+    ensures { iw.new ≡ weights_of_all (tested_study study.now) grid_points.now }
 {
-    let size = points.len() * bands;
-    let mut i = 0;
-    let mut start = 0;
-    while i < grid_points.len() {
+    let size = study.lent.frequency_points.len() * study.bands;
+    for i in 0..grid_points.len() {
         let gp = numbers::kernel::magnitude_at(grid_points, i);
-        let end = start + size;
-        fill_point(
-            &mut iw[start..end],
-            gp,
-            grid,
-            addresses,
-            gp_map,
-            table,
-            gp2irgp_map,
-            frequencies,
-            bands,
-            points,
-            function,
-        );
-        start = end;
-        i += 1;
+        let start = i * size;
+        fill_point(study, gp, &mut iw[start..start + size]);
     }
 }

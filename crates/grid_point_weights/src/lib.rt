@@ -2,73 +2,54 @@
 
 #![tactic(auto)]
 
-ghost use Rattle.grid_point_weights.specs.Calls.{call_in, DidWeigh};
+ghost use Rattle.grid_point_weights.specs.Calls.{call_of, DidWeigh};
 
-pub use ask::Answer;
+pub use ask::Refusal;
+use bzgrid_lookup::BzGrid;
+pub use question_grids::Grid;
 use tetrahedron_method::WeightFunction;
 
+mod asks;
 mod band;
 mod corners;
 mod fill;
-mod questioned;
 
-// The integration weights of each band at each frequency point, for each of the grid points in turn; num_ir is R, the count of
-// irreducible points. Questions 3, 4, 5, 6, 7, 9, 10, 11, 12.
+// What the weights at grid points are made from, as a caller lends it; num_ir is R, the count of irreducible points.
+#[derive(Clone, Copy)]
+pub struct GridPointStudy<'a> {
+    pub grid: Grid<'a>,
+    pub relative_grid_address: &'a [i64],
+    pub gp2irgp_map: &'a [i64],
+    pub num_ir: i64,
+    pub num_band: i64,
+    pub frequencies: &'a [f64],
+    pub frequency_points: &'a [f64],
+    pub function: WeightFunction,
+}
+
+// A study that has passed its questions, with its grid and its count of bands.
+#[derive(Clone, Copy)]
+struct TestedStudy<'a> {
+    lent: GridPointStudy<'a>,
+    grid: BzGrid,
+    bands: usize,
+}
+
+// The integration weights of each band at each frequency point, for each of the grid points in turn. Questions 3, 4, 5, 6, 7, 9, 10, 11, 12.
 pub fn integration_weights_at_grid_points(
-    iw: &mut [f64],
-    frequency_points: &[f64],
-    relative_grid_address: &[i64],
+    study: GridPointStudy,
     grid_points: &[i64],
-    frequencies: &[f64],
-    num_band: i64,
-    num_ir: i64,
-    bz_grid_type: i64,
-    d_diag: [i64; 3],
-    addresses: &[i64],
-    gp_map: &[i64],
-    gp2irgp_map: &[i64],
-    function: WeightFunction,
-) -> Answer
-    ensures { DidWeigh (call_in frequency_points relative_grid_address grid_points frequencies num_band num_ir
-        bz_grid_type d_diag addresses gp_map gp2irgp_map function) result iw.old iw.new }
+    iw: &mut [f64],
+) -> Result<(), Refusal>
+    ensures { DidWeigh (call_of study.entry grid_points.now) result iw.old iw.new }
 {
-    let grid_first_no = question_grids::kernel::grid::grid_first_no(
-        bz_grid_type,
-        d_diag,
-        addresses,
-        gp_map,
-    );
-    if grid_first_no != 0 {
-        return Answer::Refused(grid_first_no);
-    }
-    let no = questioned::weights_first_no(
-        relative_grid_address,
-        num_band,
-        frequency_points,
-        grid_points,
-        addresses.len() / 3,
-        num_ir,
-        frequencies,
-        gp2irgp_map,
-        iw.len(),
-    );
-    if no != 0 {
-        return Answer::Refused(no);
-    }
-    let grid = bzgrid_lookup::kernel::grid_of(bz_grid_type, d_diag);
-    let bands = numbers::kernel::magnitude(num_band);
-    fill::fill_all(
-        iw,
-        grid_points,
-        grid,
-        addresses,
-        gp_map,
-        relative_grid_address,
-        gp2irgp_map,
-        frequencies,
-        bands,
-        frequency_points,
-        function,
-    );
-    Answer::Done
+    asks::ask_weights(study, grid_points, iw.len())?;
+    let d_diag = study.grid.d_diag;
+    let tested = TestedStudy {
+        lent: study,
+        grid: bzgrid_lookup::kernel::grid_of(study.grid.bz_grid_type, d_diag),
+        bands: numbers::kernel::magnitude(study.num_band),
+    };
+    fill::fill_all(&tested, grid_points, iw);
+    Ok(())
 }

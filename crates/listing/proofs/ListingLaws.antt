@@ -1,7 +1,7 @@
 -- Lines and weights written one after another. Assumes nothing.
 use Prim.Native.Nat.{ℕ, zero, suc, ◌+◌, ◌*◌, ◌/◌, ◌%◌, ◌≤◌, ◌<◌}
 use mathlib.Core.Path.{◌≡◌}
-use mathlib.Core.List.{List, [], ◌++◌}
+use mathlib.Core.List.{List, ◌++◌}
 use mathlib.Core.Logic.{◌⊎◌, inl, inr}
 use native.Mathlib.Nat.{eq-or-lt_of_le, mul-le-mul_right, suc-mul}
 use native.Mathlib.Numerals.{add-one}
@@ -11,8 +11,9 @@ use lib.Ieee.{Float}
 use lib.IntN.{ℤ}
 use Rattle.list_laws.specs.Lists.{rows}
 use Rattle.listing.specs.Listings.{header, number, front_of, weights_of, flag_at, line_of, lines_of, listing_of, refusal_of}
-use Rattle.writing.specs.Written.{written}
-use Rattle.writing.proofs.WrittenLaws.{written_none, wrote-both}
+use Rattle.writing.specs.Written.{HasRoom, Wrote}
+use Rattle.writing.specs.declared.kernel.Writer.{Writer}
+use Rattle.writing.proofs.WrittenLaws.{room-first, room-next, wrote-both, wrote_none}
 
 -- pieces one after another have room where all of them have
 pub rows-room : (f : ℕ → List ℕ) (n i : ℕ) → i < n → length (rows i f ++ f i) ≤ length (rows n f)
@@ -25,45 +26,71 @@ rows-room f (suc n) i h = go (eq-or-lt_of_le {n = i} {m = n} (omega arith)) (row
     go (inr l) r = omega (arith, r l, length-append (rows n f) (f n))
 
 -- one turn of a loop that writes the pieces f 0, f 1, ..
-module _ (f : ℕ → List ℕ) (at : ℕ) (o₀ o₁ o₂ : List ℕ) (i n r s : ℕ) where
-  pub piece-room : i < n → r ≡ at + length (rows i f) → length o₁ ≡ length o₀ → at + length (rows n f) ≤ length o₀ → r + length (f i) ≤ length o₁
-  piece-room h p l room = omega (arith, p, l, room, rows-room f n i h, length-append (rows i f) (f i))
-
-  pub piece-next : i < n → r ≡ at + length (rows i f) → o₁ ≡ written at (rows i f) o₀ → s ≡ r + length (f i) → o₂ ≡ written r (f i) o₁ → at + length (rows n f) ≤ length o₀
-      → (s ≡ at + length (rows (i + 1) f)) × (o₂ ≡ written at (rows (i + 1) f) o₀)
+module _ (f : ℕ → List ℕ) (n : ℕ) (u : Writer) (room : HasRoom (rows n f) u) where
+  pub pieces-none : Wrote (rows 0 f) u u
   unfolding rows
-  piece-next h p e q g room = rw add-one (wrote-both at (rows i f) (f i) o₀ o₁ o₂ r s p e q g (omega (arith, room, rows-room f n i h)))
+  pieces-none = wrote_none u (omega (arith, room))
 
-pub none_written : (f : ℕ → List ℕ) (at : ℕ) (o : List ℕ) → at ≤ length o → (at ≡ at + length (rows 0 f)) × (o ≡ written at (rows 0 f) o)
-unfolding rows
-none_written f at o h = (omega arith, written_none at o h)
+  module _ (i : ℕ) (h : i < n) {v : Writer} (r : Wrote (rows i f) u v) where
+    so-far : HasRoom (rows i f ++ f i) u
+    so-far = omega (arith, room, rows-room f n i h)
+
+    pub piece-room : HasRoom (f i) v
+    piece-room = room-next (rows i f) (f i) u so-far r
+
+    pub piece-next : {w : Writer} → Wrote (f i) v w → Wrote (rows (i + 1) f) u w
+    unfolding rows
+    piece-next q = rw add-one (wrote-both (rows i f) (f i) u so-far r q)
+
+-- and all of them
+pub pieces_all : (f : ℕ → List ℕ) {i n : ℕ} {u v : Writer} → i ≡ n → Wrote (rows i f) u v → Wrote (rows n f) u v
+pieces_all f {u} {v} e r = rw (← e) r
 
 -- where an entry's weight lies
 pub weight-below : (c channels total e : ℕ) → c < channels → e < total → c * total + e < channels * total
 weight-below c channels total e h k = omega (arith, k, suc-mul c total, mul-le-mul_right {m = suc c} {n = channels} total h)
 
 -- five pieces, one behind the other
-module _ (at : ℕ) (a b c d e o₀ : List ℕ) where
-  pub five-lengths : length (a ++ b ++ c ++ d ++ e) ≡ length a + length b + length c + length d + length e
-  five-lengths = rw (length-append (a ++ b ++ c ++ d) e, length-append (a ++ b ++ c) d, length-append (a ++ b) c, length-append a b)
+module _ (a b c d e : List ℕ) (u : Writer) (room : HasRoom (a ++ b ++ c ++ d ++ e) u) where
+  four : HasRoom (a ++ b ++ c ++ d) u
+  four = room-first (a ++ b ++ c ++ d) e u room
 
-  module _ (room : at + length (a ++ b ++ c ++ d ++ e) ≤ length o₀) (o₁ o₂ o₃ o₄ o₅ : List ℕ) (r₁ r₂ r₃ r₄ r₅ : ℕ)
-      (p₁ : r₁ ≡ at + length a) (e₁ : o₁ ≡ written at a o₀) (p₂ : r₂ ≡ r₁ + length b) (e₂ : o₂ ≡ written r₁ b o₁) (p₃ : r₃ ≡ r₂ + length c) (e₃ : o₃ ≡ written r₂ c o₂)
-      (p₄ : r₄ ≡ r₃ + length d) (e₄ : o₄ ≡ written r₃ d o₃) (p₅ : r₅ ≡ r₄ + length e) (e₅ : o₅ ≡ written r₄ e o₄) where
-    pub wrote-five : (r₅ ≡ at + length (a ++ b ++ c ++ d ++ e)) × (o₅ ≡ written at (a ++ b ++ c ++ d ++ e) o₀)
-    wrote-five =
-        let l₂ : length (a ++ b) ≡ length a + length b = length-append a b in
-        let l₃ : length (a ++ b ++ c) ≡ length (a ++ b) + length c = length-append (a ++ b) c in
-        let l₄ : length (a ++ b ++ c ++ d) ≡ length (a ++ b ++ c) + length d = length-append (a ++ b ++ c) d in
-        let l₅ : length (a ++ b ++ c ++ d ++ e) ≡ length (a ++ b ++ c ++ d) + length e = length-append (a ++ b ++ c ++ d) e in
-        let w₂ : _ = wrote-both at a b o₀ o₁ o₂ r₁ r₂ p₁ e₁ p₂ e₂ (omega (arith, room, l₃, l₄, l₅)) in
-        let w₃ : _ = wrote-both at (a ++ b) c o₀ o₂ o₃ r₂ r₃ w₂.0 w₂.1 p₃ e₃ (omega (arith, room, l₄, l₅)) in
-        let w₄ : _ = wrote-both at (a ++ b ++ c) d o₀ o₃ o₄ r₃ r₄ w₃.0 w₃.1 p₄ e₄ (omega (arith, room, l₅)) in
-        wrote-both at (a ++ b ++ c ++ d) e o₀ o₄ o₅ r₄ r₅ w₄.0 w₄.1 p₅ e₅ room
+  three : HasRoom (a ++ b ++ c) u
+  three = room-first (a ++ b ++ c) d u four
+
+  two : HasRoom (a ++ b) u
+  two = room-first (a ++ b) c u three
+
+  pub first-of-five : HasRoom a u
+  first-of-five = room-first a b u two
+
+  module _ {v : Writer} (p : Wrote a u v) where
+    pub second-of-five : HasRoom b v
+    second-of-five = room-next a b u two p
+
+    module _ {w : Writer} (q : Wrote b v w) where
+      pub third-of-five : HasRoom c w
+      third-of-five = room-next (a ++ b) c u three (wrote-both a b u two p q)
+
+      module _ {x : Writer} (r : Wrote c w x) where
+        wrote-three : Wrote (a ++ b ++ c) u x
+        wrote-three = wrote-both (a ++ b) c u three (wrote-both a b u two p q) r
+
+        pub fourth-of-five : HasRoom d x
+        fourth-of-five = room-next (a ++ b ++ c) d u four wrote-three
+
+        module _ {y : Writer} (s : Wrote d x y) where
+          pub fifth-of-five : HasRoom e y
+          fifth-of-five = room-next (a ++ b ++ c ++ d) e u room (wrote-both (a ++ b ++ c) d u four wrote-three s)
+
+          pub wrote-five : {z : Writer} → Wrote e y z → Wrote (a ++ b ++ c ++ d ++ e) u z
+          wrote-five t = wrote-both (a ++ b ++ c ++ d) e u room (wrote-both (a ++ b ++ c) d u four wrote-three s) t
 
 pub front-lengths : (t p b1 b2 flag : ℕ) → length (front_of t p b1 b2 flag) ≡ length (number t 9) + length (number p 9) + length (number b1 9) + length (number b2 9) + length (number flag 9)
 unfolding front_of
-front-lengths t p b1 b2 flag = five-lengths 0 (number t 9) (number p 9) (number b1 9) (number b2 9) (number flag 9) []
+front-lengths t p b1 b2 flag =
+    let n : ℕ → List ℕ = λ m. number m 9 in
+    rw (length-append (n t ++ n p ++ n b1 ++ n b2) (n flag), length-append (n t ++ n p ++ n b1) (n b2), length-append (n t ++ n p) (n b1), length-append (n t) (n p))
 
 pub refusal-length : (n : ℕ) → length (refusal_of n) ≡ 8 + length (number n 10)
 unfolding refusal_of

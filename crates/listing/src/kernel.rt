@@ -1,7 +1,21 @@
-// Each function writes at an index and answers the next one. It needs room for exactly what it writes, and keeps every other byte.
-ghost use Rattle.std.specs.Prelude.{◌+◌, ◌*◌, ◌<◌, ◌≤◌, ◌≡◌, length};
-ghost use Rattle.listing.specs.Listings.{flag_at, front_of, line_of, lines_of, listing_of, refusal_of, weight_end, weights_of};
-ghost use Rattle.writing.specs.Written.{written};
+// The writers need room for exactly what they write, and keep every other byte.
+ghost use Rattle.std.specs.Prelude.{◌+◌, ◌<◌, ◌≤◌, ◌≡◌, length};
+ghost use Rattle.listing.specs.Listings.{flag_at, front_of, refusal_of, weight_end};
+ghost use Rattle.listing.specs.Sheets.{IsListable, line_in, lines_in, sheet_listing, weights_in};
+ghost use Rattle.writing.specs.Written.{HasRoom, Wrote, written};
+
+use writing::kernel::Writer;
+
+// A sheet as it is listed: its counts, its weights, by channel and then as the flags, and its flags.
+#[derive(Clone, Copy)]
+pub struct Sheet<'a> {
+    pub points: usize,
+    pub bands1: usize,
+    pub bands2: usize,
+    pub channels: usize,
+    pub weights: &'a [f64],
+    pub flags: &'a [i8],
+}
 
 // A flag as the listing writes it: 0, or 1 for any other.
 fn flag_at(flags: &[i8], e: usize) -> u64
@@ -12,15 +26,15 @@ fn flag_at(flags: &[i8], e: usize) -> u64
 }
 
 // Writes the front of an entry's line: triplet, point, bands and flag, a tab after each.
-fn put_front(out: &mut [u8], at: usize, t: u64, p: u64, b1: u64, b2: u64, flag: u64) -> usize
-    requires { at + length (front_of t p b1 b2 flag) ≤ length out.old }
-    ensures { (result ≡ at + length (front_of t p b1 b2 flag)) × (out.new ≡ written at (front_of t p b1 b2 flag) out.old) }
+fn put_front(writer: &mut Writer<'_>, t: u64, p: u64, b1: u64, b2: u64, flag: u64)
+    requires { HasRoom (front_of t p b1 b2 flag) writer.old }
+    ensures { Wrote (front_of t p b1 b2 flag) writer.old writer.new }
 {
-    let a = writing::kernel::put_decimal(out, at, t, 9);
-    let b = writing::kernel::put_decimal(out, a, p, 9);
-    let c = writing::kernel::put_decimal(out, b, b1, 9);
-    let d = writing::kernel::put_decimal(out, c, b2, 9);
-    writing::kernel::put_decimal(out, d, flag, 9)
+    writer.put_decimal(t, 9);
+    writer.put_decimal(p, 9);
+    writer.put_decimal(b1, 9);
+    writer.put_decimal(b2, 9);
+    writer.put_decimal(flag, 9);
 }
 
 // The byte after the weight of channel c.
@@ -31,109 +45,81 @@ pub fn weight_end(channels: usize, c: usize) -> u8
     if c + 1 == channels { 10 } else { 9 }
 }
 
-// Writes the weights of entry number e of `total`, channel after channel: a tab after each but the last, a newline after that.
-fn put_weights(
-    out: &mut [u8],
-    at: usize,
-    weights: &[f64],
-    total: usize,
-    e: usize,
-    channels: usize,
-) -> usize
-    requires { (e < total) × (length weights.now ≡ channels * total) × (at + length (weights_of weights.now total e channels) ≤ length out.old) }
-    ensures { (result ≡ at + length (weights_of weights.now total e channels)) × (out.new ≡ written at (weights_of weights.now total e channels) out.old) }
+// Writes the weights of entry number e, channel after channel: a tab after each but the last, a newline after that.
+fn put_weights(writer: &mut Writer<'_>, sheet: &Sheet<'_>, e: usize)
+    requires entry { IsListable sheet.now × (e < length sheet.now.flags.now) }
+    requires room { HasRoom (weights_in sheet.now e) writer.old }
+    ensures { Wrote (weights_in sheet.now e) writer.old writer.new }
 {
-    let mut p = at;
-    let mut c = 0;
-    while c < channels {
-        let bits = text::kernel::bits_of(weights[c * total + e]);
-        let end = weight_end(channels, c);
-        p = writing::kernel::put_bits(out, p, bits, end);
-        c += 1;
+    let total = sheet.flags.len();
+    for c in 0..sheet.channels {
+        let bits = text::kernel::bits_of(sheet.weights[c * total + e]);
+        writer.put_bits(bits, weight_end(sheet.channels, c));
     }
-    p
 }
 
 // Writes the line of entry number e.
-fn put_line(
-    out: &mut [u8],
-    at: usize,
-    points: usize,
-    bands1: usize,
-    bands2: usize,
-    channels: usize,
-    weights: &[f64],
-    flags: &[i8],
-    e: usize,
-) -> usize
-    requires points_nonzero { (0 < points) × (0 < bands1) × (0 < bands2) × (e < length flags.now) × (length weights.now ≡ channels * length flags.now) }
-    requires e_in_bounds { at + length (line_of points bands1 bands2 channels weights.now flags.now e) ≤ length out.old }
-    ensures { (result ≡ at + length (line_of points bands1 bands2 channels weights.now flags.now e)) × (out.new ≡ written at (line_of points bands1 bands2 channels weights.now flags.now e) out.old) }
+fn put_line(writer: &mut Writer<'_>, sheet: &Sheet<'_>, e: usize)
+    requires entry { IsListable sheet.now × (e < length sheet.now.flags.now) }
+    requires room { HasRoom (line_in sheet.now e) writer.old }
+    ensures { Wrote (line_in sheet.now e) writer.old writer.new }
 {
-    let b2 = e % bands2;
-    let b1 = e / bands2 % bands1;
-    let p = e / bands2 / bands1 % points;
-    let t = e / bands2 / bands1 / points;
-    let a = put_front(
-        out,
-        at,
-        t as u64,
-        p as u64,
-        b1 as u64,
-        b2 as u64,
-        flag_at(flags, e),
-    );
-    put_weights(out, a, weights, flags.len(), e, channels)
+    let b2 = e % sheet.bands2;
+    let b1 = e / sheet.bands2 % sheet.bands1;
+    let p = e / sheet.bands2 / sheet.bands1 % sheet.points;
+    let t = e / sheet.bands2 / sheet.bands1 / sheet.points;
+    let flag = flag_at(sheet.flags, e);
+    put_front(writer, t as u64, p as u64, b1 as u64, b2 as u64, flag);
+    put_weights(writer, sheet, e);
 }
 
 // Writes the lines of all entries, in the order of the flags.
-fn put_lines(
-    out: &mut [u8],
-    at: usize,
-    points: usize,
-    bands1: usize,
-    bands2: usize,
-    channels: usize,
-    weights: &[f64],
-    flags: &[i8],
-) -> usize
-    requires points_nonzero { (0 < points) × (0 < bands1) × (0 < bands2) × (length weights.now ≡ channels * length flags.now) }
-    requires flags_in_bounds { at + length (lines_of points bands1 bands2 channels weights.now flags.now) ≤ length out.old }
-    ensures { (result ≡ at + length (lines_of points bands1 bands2 channels weights.now flags.now)) × (out.new ≡ written at (lines_of points bands1 bands2 channels weights.now flags.now) out.old) }
+fn put_lines(writer: &mut Writer<'_>, sheet: &Sheet<'_>)
+    requires counts { IsListable sheet.now }
+    requires room { HasRoom (lines_in sheet.now) writer.old }
+    ensures { Wrote (lines_in sheet.now) writer.old writer.new }
 {
-    let mut p = at;
-    let mut e = 0;
-    while e < flags.len() {
-        p = put_line(out, p, points, bands1, bands2, channels, weights, flags, e);
-        e += 1;
+    for e in 0..sheet.flags.len() {
+        put_line(writer, sheet, e);
     }
-    p
 }
 
 // Writes the listing of a sheet.
-pub fn put_listing(
-    out: &mut [u8],
-    at: usize,
-    points: usize,
-    bands1: usize,
-    bands2: usize,
-    channels: usize,
-    weights: &[f64],
-    flags: &[i8],
-) -> usize
-    requires points_nonzero { (0 < points) × (0 < bands1) × (0 < bands2) × (length weights.now ≡ channels * length flags.now) }
-    requires flags_in_bounds { at + length (listing_of points bands1 bands2 channels weights.now flags.now) ≤ length out.old }
-    ensures { (result ≡ at + length (listing_of points bands1 bands2 channels weights.now flags.now)) × (out.new ≡ written at (listing_of points bands1 bands2 channels weights.now flags.now) out.old) }
+fn put_sheet(writer: &mut Writer<'_>, sheet: &Sheet<'_>)
+    requires counts { IsListable sheet.now }
+    requires room { HasRoom (sheet_listing sheet.now) writer.old }
+    ensures { Wrote (sheet_listing sheet.now) writer.old writer.new }
 {
-    let a = writing::kernel::put_slice(out, at, b"triplet\tpoint\tb1\tb2\tflag\tw\n");
-    put_lines(out, a, points, bands1, bands2, channels, weights, flags)
+    writer.put_slice(b"triplet\tpoint\tb1\tb2\tflag\tw\n");
+    put_lines(writer, sheet);
+}
+
+// Writes the listing of a sheet from an index on, and answers the one behind it.
+pub fn put_listing(out: &mut [u8], at: usize, sheet: &Sheet<'_>) -> usize
+    requires counts { IsListable sheet.now }
+    requires room { at + length (sheet_listing sheet.now) ≤ length out.old }
+    ensures { (result ≡ at + length (sheet_listing sheet.now)) × (out.new ≡ written at (sheet_listing sheet.now) out.old) }
+{
+    let mut writer = Writer::new(out, at);
+    put_sheet(&mut writer, sheet);
+    writer.len
 }
 
 // Writes the line of a refusal.
+fn put_refused(writer: &mut Writer<'_>, number: u64)
+    requires { HasRoom (refusal_of number) writer.old }
+    ensures { Wrote (refusal_of number) writer.old writer.new }
+{
+    writer.put_slice(b"refused\t");
+    writer.put_decimal(number, 10);
+}
+
+// Writes it from an index on, and answers the one behind it.
 pub fn put_refusal(out: &mut [u8], at: usize, number: u64) -> usize
     requires { at + length (refusal_of number) ≤ length out.old }
     ensures { (result ≡ at + length (refusal_of number)) × (out.new ≡ written at (refusal_of number) out.old) }
 {
-    let a = writing::kernel::put_slice(out, at, b"refused\t");
-    writing::kernel::put_decimal(out, a, number, 10)
+    let mut writer = Writer::new(out, at);
+    put_refused(&mut writer, number);
+    writer.len
 }

@@ -19,8 +19,8 @@ use Rattle.list_laws.proofs.MatrixLaws.{replaced-same}
 use Rattle.list_laws.proofs.ProductLaws.{digit_lt}
 use Rattle.text.specs.Fields.{bits}
 use Rattle.text.specs.Spelled.{hexadecimal}
-use Rattle.text.specs.declared.Magnitude.{Magnitude}
-use Rattle.text.specs.declared.Magnitude.TheVariants as M
+use Rattle.std.specs.declared.option.Option.{Option}
+use Rattle.std.specs.declared.option.Option.TheVariants.{None, Some}
 use Rattle.text.proofs.PieceLaws.{same-yes}
 use Rattle.listing.specs.Listings.{header, number, weight_end, weight_text, weight_of, weights_of, flag_at, line_of, lines_of, listing_of}
 use Rattle.reading.proofs.PassedLaws.{Stand, stand-first, stand-second, stand-byte}
@@ -120,10 +120,10 @@ flag_is text at = go (eqb (get_or text at 0) 48)
     go true = inl refl
     go false = inr refl
 
-double-of : (m : Magnitude) → IsDouble (float_of m)
+double-of : (m : Option ℕ) → IsDouble (float_of m)
 unfolding fits
-double-of (M.Is n) = of_bits-fits binary64 n
-double-of M.Bad = tt
+double-of (Some n) = of_bits-fits binary64 n
+double-of None = tt
 
 weight-double : (text : List ℕ) (at : ℕ) → IsDouble (weight_here text at)
 unfolding weight_here

@@ -14,10 +14,9 @@ use Rattle.list_laws.specs.Lists.{rows}
 use Rattle.list_laws.proofs.BoolLaws.{clash, eqb_same}
 use Rattle.list_laws.proofs.FillLaws.{length-rows}
 use Rattle.ieee_laws.proofs.PatternLaws.{nan-of-pattern, no-nan-pattern}
+use Rattle.std.specs.Prelude.{Option, Some, None}
 use Rattle.text.specs.Fields.{bits}
 use Rattle.text.specs.Spelled.{places, decimal, hexadecimal}
-use Rattle.text.specs.declared.Magnitude.{Magnitude}
-use Rattle.text.specs.declared.Magnitude.TheVariants as M
 use Rattle.text.proofs.RoundTrip.{bits-read, bits-only}
 use Rattle.text.proofs.SpelledLaws.{length-hexadecimal}
 use Rattle.listing.specs.Listings.{number, weight_end, weight_text}
@@ -94,9 +93,9 @@ module _ (pattern : ℕ) (h : pattern < 2 ^ 64) where
   high-printed l = rw (nan-of-pattern pattern l, nan-bits) (eqb_same pattern 9221120237041090560 9221120237041090560 pattern sym sym)
 
 -- every weight that stands in a text has a pattern of 64 bits
-pattern-of : (m : Magnitude) → to_bits binary64 (float_of m) < 2 ^ 64
-pattern-of (M.Is n) = to_bits-lt binary64 (of_bits binary64 n) (of_bits-fits binary64 n)
-pattern-of M.Bad = rw nan-bits (lit< tt)
+pattern-of : (m : Option ℕ) → to_bits binary64 (float_of m) < 2 ^ 64
+pattern-of (Some n) = to_bits-lt binary64 (of_bits binary64 n) (of_bits-fits binary64 n)
+pattern-of None = rw nan-bits (lit< tt)
 
 -- ---- a weight
 
@@ -104,11 +103,11 @@ pub weight-length : (x : Float) (end : ℕ) → length (weight_text x end) ≡ 1
 weight-length x end = length-append (hexadecimal (to_bits binary64 x)) (end ∷ []) ∙ omega (arith, length-hexadecimal (to_bits binary64 x))
 
 -- the digits of 64 bits are read as those bits
-pub spelled-read : (n : ℕ) → n < 2 ^ 64 → bits (hexadecimal n) ≡ M.Is n
+pub spelled-read : (n : ℕ) → n < 2 ^ 64 → bits (hexadecimal n) ≡ Some n
 unfolding hexadecimal
 spelled-read n h = bits-read n h
 
-pub spelled-only : (s : List ℕ) (n : ℕ) → bits s ≡ M.Is n → s ≡ hexadecimal n
+pub spelled-only : (s : List ℕ) (n : ℕ) → bits s ≡ Some n → s ≡ hexadecimal n
 unfolding hexadecimal
 spelled-only s n e = bits-only s n e
 
@@ -116,25 +115,25 @@ spelled-only s n e = bits-only s n e
 pub sixteen : (n at : ℕ) (text : List ℕ) → Stand (hexadecimal n) at text → take 16 (drop at text) ≡ hexadecimal n
 sixteen n at text s = ap (λ (k : ℕ). take k (drop at text)) (sym (length-hexadecimal n)) ∙ s
 
-module _ (text : List ℕ) (at end : ℕ) (m : Magnitude) (e : m ≡ bits (take 16 (drop at text))) where
+module _ (text : List ℕ) (at end : ℕ) (m : Option ℕ) (e : m ≡ bits (take 16 (drop at text))) where
   pub weight_is : float_of m ≡ weight_here text at
   unfolding weight_here
   weight_is = ap float_of e
 
   -- what stands there, if it does, was read
-  stood : Stand (weight_text (weight_here text at) end) at text → m ≡ M.Is (to_bits binary64 (weight_here text at))
+  stood : Stand (weight_text (weight_here text at) end) at text → m ≡ Some (to_bits binary64 (weight_here text at))
   stood s =
       e
       ∙ (ap bits (sixteen (to_bits binary64 (weight_here text at)) at text (stand-first (hexadecimal (to_bits binary64 (weight_here text at))) (end ∷ []) at text s))
       ∙ spelled-read (to_bits binary64 (weight_here text at)) (rw (sym weight_is) (pattern-of m)))
 
-  pub weight-bad : m ≡ M.Bad → length text + 1 ≡ passed (weight_text (weight_here text at) end) at text
+  pub weight-bad : m ≡ None → length text + 1 ≡ passed (weight_text (weight_here text at) end) at text
   weight-bad b = passed-no (weight_text (weight_here text at) end) at text (λ s. absurd (let z : ◌≡◌ {A = ℕ} 0 1 = unlike (sym b ∙ stood s) in omega (arith, z)))
     where
-      unlike : {n : ℕ} → M.Bad ≡ M.Is n → ◌≡◌ {A = ℕ} 0 1
+      unlike : {n : ℕ} → None ≡ Some n → ◌≡◌ {A = ℕ} 0 1
       unlike q = cc
 
-  module _ (pattern : ℕ) (i : m ≡ M.Is pattern) where
+  module _ (pattern : ℕ) (i : m ≡ Some pattern) where
     here-is : weight_here text at ≡ of_bits binary64 pattern
     here-is = sym weight_is ∙ ap float_of i
 
@@ -145,7 +144,7 @@ module _ (text : List ℕ) (at end : ℕ) (m : Magnitude) (e : m ≡ bits (take 
         let q : to_bits binary64 (of_bits binary64 pattern) ≡ pattern = ap (to_bits binary64) (sym here-is) ∙ same-pattern (sym (stood s) ∙ i) in
         clash (p ∙ eq-eqb (to_bits binary64 (of_bits binary64 pattern)) pattern q))
       where
-        same-pattern : {a b : ℕ} → M.Is a ≡ M.Is b → a ≡ b
+        same-pattern : {a b : ℕ} → Some a ≡ Some b → a ≡ b
         same-pattern q = cc
 
     pub weight-printed : to_bits binary64 (of_bits binary64 pattern) ≡ pattern → passed (end ∷ []) (at + 16) text ≡ passed (weight_text (weight_here text at) end) at text

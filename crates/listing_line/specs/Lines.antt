@@ -1,10 +1,8 @@
 -- What stands in a line of a listing, and the line that the writer prints for it.
-use Rattle.std.specs.Prelude.{cond, List, ◌++◌, ℕ, ◌+◌, ◌*◌, eqb, Float, length, get_or, take, drop}
+use Rattle.std.specs.Prelude.{Option, Some, None, cond, List, ◌++◌, ℕ, ◌+◌, ◌*◌, eqb, Float, length, get_or, take, drop}
 use Rattle.std.specs.Float.{nan, binary64}
 use Rattle.std.specs.Float.Ieee.{of_bits}
 use Rattle.list_laws.specs.Lists.{rows}
-use Rattle.text.specs.declared.Magnitude.{Magnitude}
-use Rattle.text.specs.declared.Magnitude.TheVariants as M
 use Rattle.text.specs.Fields.{bits}
 use Rattle.listing.specs.Listings.{number, weight_end, weight_text}
 use Rattle.listing_line.specs.declared.Place.{Place}
@@ -18,9 +16,9 @@ unfoldable pub flag_here : List ℕ → ℕ → ℕ
 flag_here text at = cond (eqb (get_or text at 0) 48) 0 1
 
 -- the float of a bit pattern; a NaN where there is none
-abbrev pub float_of : Magnitude → Float
-float_of (M.Is pattern) = of_bits binary64 pattern
-float_of M.Bad = nan
+abbrev pub float_of : Option ℕ → Float
+float_of (Some pattern) = of_bits binary64 pattern
+float_of None = nan
 
 -- the weight at an index: the float whose bits the sixteen digits spell
 unfoldable pub weight_here : List ℕ → ℕ → Float

@@ -10,7 +10,6 @@ ghost use Rattle.listing_line.specs.Lines.{numbers_of, flag_here, weight_here, w
 use crate::Place;
 use listing::kernel::weight_end;
 use reading::kernel::{pass_byte, pass_decimal};
-use text::Magnitude;
 use text::kernel::{float_of, parse_bits};
 
 // Passes over the numbers of a place, a tab after each.
@@ -67,8 +66,8 @@ pub fn weight_at(text: &[u8], at: usize) -> f64
     ensures { result ≡ weight_here text.now at }
 {
     match parse_bits(&text[at..at + 16]) {
-        Magnitude::Is(pattern) => float_of(pattern),
-        Magnitude::Bad => 0.0 / 0.0,
+        Some(pattern) => float_of(pattern),
+        None => 0.0 / 0.0,
     }
 }
 
@@ -86,13 +85,13 @@ fn pass_weight(text: &[u8], at: usize, end: u8) -> usize
         return lost;
     }
     match parse_bits(&text[at..at + 16]) {
-        Magnitude::Is(pattern) => {
+        Some(pattern) => {
             if is_printed(pattern) {
                 return pass_byte(text, at + 16, end);
             }
             lost
         }
-        Magnitude::Bad => lost,
+        None => lost,
     }
 }
 
@@ -103,10 +102,8 @@ fn pass_weights(text: &[u8], at: usize, channels: usize) -> usize
     ensures upper_bound { result ≤ length text.now + 1 }
 {
     let mut p = at;
-    let mut c = 0;
-    while c < channels {
+    for c in 0..channels {
         p = pass_weight(text, p, weight_end(channels, c));
-        c += 1;
     }
     p
 }

@@ -1,3 +1,4 @@
 -- The definitions that the contracts cite.
 pub mod Restored
 pub mod Reading
+pub mod Forms

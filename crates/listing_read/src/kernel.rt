@@ -2,52 +2,61 @@
 pub mod restore;
 
 ghost use Rattle.std.specs.Prelude.{◌+◌, ◌<◌, ◌≡◌};
+ghost use Rattle.ask.specs.Refusals.{answer_of};
+ghost use Rattle.listing_read.specs.Forms.{IsForm, form_of};
 ghost use Rattle.listing_read.specs.Restored.{next_place, is_listing};
 ghost use Rattle.listing_read.specs.Reading.{read_no};
 
+use crate::Form;
+use ask::Refusal;
 use listing_line::Place;
 use listing_line::kernel::pass_line;
 use numbers::kernel::magnitude;
 use question_values::kernel::tp_type::channels_of;
 use reading::kernel::pass_slice;
 use sheet_counts::Counts;
-use sheet_counts::kernel::{cells_of, counts_first_no};
+use sheet_counts::kernel::{ask_counts, cells_of};
+
+// The form of the listing of a type and counts.
+pub fn form_of(tp_type: i64, counts: Counts) -> Form
+    ensures { result ≡ form_of tp_type counts }
+{
+    Form {
+        points: magnitude(counts.num_band0),
+        bands1: magnitude(counts.num_band1),
+        bands2: magnitude(counts.num_band2),
+        channels: channels_of(tp_type),
+    }
+}
 
 // The place after a place: b2 goes first, then b1, the point, the triplet.
-pub fn next_place(place: Place, points: usize, bands1: usize, bands2: usize) -> Place
-    requires { (place.triplet < 1099511627776) × (place.point < points) × (place.b1 < bands1) × (place.b2 < bands2) }
-    ensures { result ≡ next_place points bands1 bands2 place }
+pub fn next_place(place: Place, form: Form) -> Place
+    requires { (place.triplet < 1099511627776) × (place.point < form.points) × (place.b1 < form.bands1) × (place.b2 < form.bands2) }
+    ensures { result ≡ next_place form.points form.bands1 form.bands2 place }
 {
-    let triplet = place.triplet;
-    let point = place.point;
-    let b1 = place.b1;
-    let b2 = place.b2;
-    if b2 + 1 < bands2 {
+    if place.b2 + 1 < form.bands2 {
         return Place {
-            triplet,
-            point,
-            b1,
-            b2: b2 + 1,
+            b2: place.b2 + 1,
+            ..place
         };
     }
-    if b1 + 1 < bands1 {
+    if place.b1 + 1 < form.bands1 {
         return Place {
-            triplet,
-            point,
-            b1: b1 + 1,
+            b1: place.b1 + 1,
             b2: 0,
+            ..place
         };
     }
-    if point + 1 < points {
+    if place.point + 1 < form.points {
         return Place {
-            triplet,
-            point: point + 1,
+            triplet: place.triplet,
+            point: place.point + 1,
             b1: 0,
             b2: 0,
         };
     }
     Place {
-        triplet: triplet + 1,
+        triplet: place.triplet + 1,
         point: 0,
         b1: 0,
         b2: 0,
@@ -55,16 +64,9 @@ pub fn next_place(place: Place, points: usize, bands1: usize, bands2: usize) -> 
 }
 
 // Question 22: whether the text is the listing of `cells` entries.
-fn is_listing(
-    text: &[u8],
-    points: usize,
-    bands1: usize,
-    bands2: usize,
-    channels: usize,
-    cells: usize,
-) -> bool
-    requires { (0 < points) × (0 < bands1) × (0 < bands2) × (cells < 1099511627776) }
-    ensures { result ≡ is_listing points bands1 bands2 channels cells text.now }
+fn is_listing(text: &[u8], form: Form, cells: usize) -> bool
+    requires { IsForm form × (cells < 1099511627776) }
+    ensures { result ≡ is_listing form.points form.bands1 form.bands2 form.channels cells text.now }
 {
     let mut at = pass_slice(text, 0, b"triplet\tpoint\tb1\tb2\tflag\tw\n");
     let mut place = Place {
@@ -73,45 +75,37 @@ fn is_listing(
         b1: 0,
         b2: 0,
     };
-    let mut e = 0;
-    while e < cells {
+    for _entry in 0..cells {
         if text.len() < at {
             return false;
         }
-        at = pass_line(text, at, place, channels);
-        place = next_place(place, points, bands1, bands2);
-        e += 1;
+        at = pass_line(text, at, place, form.channels);
+        place = next_place(place, form);
     }
     at == text.len()
 }
 
-// The number of the first question that is answered no, or 0.
-pub fn read_first_no(
+// Questions 8, 9, 12 and 22 of a listing and two buffers for its record.
+pub fn ask_listing(
     listing: &[u8],
     tp_type: i64,
     counts: Counts,
     num_weights: usize,
     num_flags: usize,
-) -> u64
-    ensures { result ≡ read_no listing.now tp_type counts num_weights num_flags }
+) -> Result<(), Refusal>
+    ensures { result ≡ answer_of (read_no listing.now tp_type counts num_weights num_flags) tt }
 {
-    let no = counts_first_no(tp_type, counts);
-    if no != 0 {
-        return no;
-    }
-    let channels = channels_of(tp_type);
+    ask_counts(tp_type, counts)?;
+    let form = form_of(tp_type, counts);
     let cells = cells_of(counts);
-    if num_weights != channels * cells {
-        return questions::BAD_LENGTH;
+    if num_weights != form.channels * cells {
+        return Err(Refusal::Lengths);
     }
     if num_flags != cells {
-        return questions::BAD_LENGTH;
+        return Err(Refusal::Lengths);
     }
-    let points = magnitude(counts.num_band0);
-    let bands1 = magnitude(counts.num_band1);
-    let bands2 = magnitude(counts.num_band2);
-    if !is_listing(listing, points, bands1, bands2, channels, cells) {
-        return questions::BAD_LISTING;
+    if !is_listing(listing, form, cells) {
+        return Err(Refusal::Listing);
     }
-    0
+    Ok(())
 }

@@ -3,16 +3,23 @@
 #![tactic(auto)]
 
 ghost use Rattle.std.specs.Prelude.{◌≡◌, length};
-ghost use Rattle.ask.specs.Answers.{answer_of};
 ghost use Rattle.ask.specs.Lent.{Leaves};
+ghost use Rattle.ask.specs.Refusals.{answer_of};
 ghost use Rattle.listing_read.specs.Reading.{read_no, listed_weights, listed_flags};
 
-use ask::Answer;
-use numbers::kernel::magnitude;
-use question_values::kernel::tp_type::channels_of;
+use ask::Refusal;
 use sheet_counts::Counts;
 
 pub mod kernel;
+
+// The counts of a listing's lines: frequency points, bands of the second phonon and of the third, channels.
+#[derive(Clone, Copy)]
+pub struct Form {
+    pub points: usize,
+    pub bands1: usize,
+    pub bands2: usize,
+    pub channels: usize,
+}
 
 // Restores the weights and flags that the writer printed. Accepted is exactly what it prints for the restored record. Questions 8, 9, 12, 22.
 pub fn read_listing(
@@ -21,21 +28,15 @@ pub fn read_listing(
     counts: Counts,
     weights: &mut [f64],
     flags: &mut [i8],
-) -> Answer
-    ensures value { result ≡ answer_of (read_no listing.now tp_type counts (length weights.old) (length flags.old)) }
+) -> Result<(), Refusal>
+    ensures value { result ≡ answer_of (read_no listing.now tp_type counts (length weights.old) (length flags.old)) tt }
     ensures leaves { Leaves (read_no listing.now tp_type counts (length weights.old) (length flags.old))
         (listed_weights listing.now tp_type counts) weights }
     ensures leaves_2 { Leaves (read_no listing.now tp_type counts (length weights.old) (length flags.old))
         (listed_flags listing.now tp_type counts) flags }
 {
-    let no = kernel::read_first_no(listing, tp_type, counts, weights.len(), flags.len());
-    if no != 0 {
-        return Answer::Refused(no);
-    }
-    let channels = channels_of(tp_type);
-    let points = magnitude(counts.num_band0);
-    let bands1 = magnitude(counts.num_band1);
-    let bands2 = magnitude(counts.num_band2);
-    kernel::restore::restore(listing, points, bands1, bands2, channels, weights, flags);
-    Answer::Done
+    kernel::ask_listing(listing, tp_type, counts, weights.len(), flags.len())?;
+    let form = kernel::form_of(tp_type, counts);
+    kernel::restore::restore(listing, form, weights, flags);
+    Ok(())
 }

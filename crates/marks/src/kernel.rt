@@ -1,9 +1,9 @@
-// Marks, read through one accessor and written through one setter.
+// Marks, read and written.
 ghost use Rattle.std.specs.Prelude.{◌≡◌, ◌+◌, ◌*◌, ◌≤◌, ◌<◌, eqb};
 ghost use Rattle.marks.specs.Bytes.{mark_at, patch_marks, places_in, bytes_for, IsMark, FewPieces, Few, Holds};
 ghost use Rattle.marks.specs.Marks.{is_mark, are_marks, is_not_averaged, are_computed, open_pieces, averaged_marks};
 
-use numbers::kernel::one_if;
+// Numbers and no enum: marks lie in a lent sheet of bytes, which other languages read and write.
 
 // The mark of an open piece.
 pub const OPEN: u8 = 0;
@@ -55,10 +55,8 @@ pub fn marks_ok(pairs: usize, pieces: usize, marks: &[u8]) -> bool
     ensures { result ≡ are_marks pairs pieces marks.now }
 {
     let mut ok = true;
-    let mut q = 0;
-    while q < pieces {
+    for q in 0..pieces {
         ok = ok & mark_ok(pairs, marks, q);
-        q += 1;
     }
     ok
 }
@@ -77,13 +75,9 @@ pub fn all_computed(pairs: usize, marks: &[u8], t: usize) -> bool
     ensures { result ≡ are_computed pairs marks.now t }
 {
     let base = t * pairs;
-    let mut ok = true;
-    let mut k = 0;
-    while k < pairs {
-        ok = ok & (mark_at(marks, base + k) == COMPUTED);
-        k += 1;
-    }
-    ok
+    marks[base..base + pairs]
+        .iter()
+        .all(|mark| *mark == COMPUTED)
 }
 
 // How many pieces are open.
@@ -91,13 +85,7 @@ pub fn open_pieces(pieces: usize, marks: &[u8]) -> u64
     requires { Holds pieces marks.now }
     ensures { result ≡ open_pieces pieces marks.now }
 {
-    let mut count: u64 = 0;
-    let mut q = 0;
-    while q < pieces {
-        count = count + one_if(mark_at(marks, q) == OPEN);
-        q += 1;
-    }
-    count
+    marks[..pieces].iter().filter(|mark| **mark == OPEN).count() as u64
 }
 
 // A triplet's marks become 2.
@@ -106,9 +94,7 @@ pub fn average_marks(pairs: usize, marks: &mut [u8], t: usize)
     ensures { marks.new ≡ averaged_marks pairs t marks.old }
 {
     let base = t * pairs;
-    let mut k = 0;
-    while k < pairs {
+    for k in 0..pairs {
         set_mark(marks, base + k, AVERAGED);
-        k += 1;
     }
 }

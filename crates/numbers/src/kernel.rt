@@ -1,8 +1,8 @@
 // Helpers for the crates above.
-ghost use Rattle.std.specs.Prelude.{◌≡◌, ◌+◌, ◌<◌, length};
-ghost use Rattle.std.specs.Int.Signed.{non_neg, mag, lt_z};
+ghost use Rattle.std.specs.Prelude.{◌≡◌, ◌<◌, length};
+ghost use Rattle.std.specs.Int.Signed.{non_neg, mag};
 ghost use Rattle.list_laws.specs.Lists.{at, one_if};
-ghost use Rattle.list_laws.specs.Signed.{eq_z, is_nat, is_below, is_between, within, rem_euclid};
+ghost use Rattle.list_laws.specs.Signed.{eq_z, is_nat, is_below, is_between, within};
 ghost use Rattle.ieee_laws.specs.Magnitude.{absolute};
 ghost use Rattle.numbers.specs.Mesh.{mesh_of, count_of, MeshWithin};
 
@@ -10,25 +10,7 @@ use crate::Mesh;
 
 // ---- signed numbers
 
-pub fn nonneg(z: i64) -> bool
-    ensures { result ≡ non_neg z }
-{
-    0 <= z
-}
-
-pub fn is_less(a: i64, b: i64) -> bool
-    ensures { result ≡ lt_z a b }
-{
-    a < b
-}
-
-pub fn is_equal(a: i64, b: i64) -> bool
-    ensures { result ≡ eq_z a b }
-{
-    a == b
-}
-
-// The magnitude of `z` where it is not negative, and one less than its magnitude where it is.
+// The magnitude of `z` where it is not negative, and one less than its magnitude where it is: what the definitions call `mag`, so not std's `unsigned_abs`.
 pub fn magnitude(z: i64) -> usize
     ensures { result ≡ mag z }
 {
@@ -43,37 +25,27 @@ pub fn is_nat(z: i64, n: usize) -> bool
     ensures { result ≡ is_nat z n }
 {
     let k = magnitude(z);
-    nonneg(z) & (k == n)
+    (0 <= z) & (k == n)
 }
 
 pub fn is_below(z: i64, n: usize) -> bool
     ensures { result ≡ is_below z n }
 {
     let k = magnitude(z);
-    nonneg(z) & (k < n)
+    (0 <= z) & (k < n)
 }
 
 pub fn is_between(low: usize, high: usize, z: i64) -> bool
     ensures { result ≡ is_between low high z }
 {
     let k = magnitude(z);
-    nonneg(z) & (low <= k) & (k <= high)
+    (0 <= z) & (low <= k) & (k <= high)
 }
 
 pub fn is_within(n: usize, z: i64) -> bool
     ensures { result ≡ within n z }
 {
-    let k = magnitude(z);
-    if nonneg(z) { k <= n } else { k < n }
-}
-
-// The remainder of `a` by `m` that is never negative.
-pub fn rem_euclid(a: i64, m: usize) -> usize
-    requires { 0 < m }
-    ensures { result ≡ rem_euclid a m }
-{
-    let k = magnitude(a);
-    if nonneg(a) { k % m } else { (m - 1) - k % m }
+    z.unsigned_abs() <= n as u64
 }
 
 // ---- a test
@@ -94,6 +66,20 @@ pub fn magnitude_at(xs: &[i64], k: usize) -> usize
     magnitude(xs[k])
 }
 
+// ---- for the callers that still name them
+
+pub fn nonneg(z: i64) -> bool
+    ensures { result ≡ non_neg z }
+{
+    0 <= z
+}
+
+fn is_equal(a: i64, b: i64) -> bool
+    ensures { result ≡ eq_z a b }
+{
+    a == b
+}
+
 pub fn equal_at(xs: &[i64], k: usize, z: i64) -> bool
     requires { k < length xs.now }
     ensures { result ≡ eq_z (at xs.now k) z }
@@ -101,52 +87,16 @@ pub fn equal_at(xs: &[i64], k: usize, z: i64) -> bool
     is_equal(xs[k], z)
 }
 
-pub fn nat_at(xs: &[i64], k: usize, n: usize) -> bool
-    requires { k < length xs.now }
-    ensures { result ≡ is_nat (at xs.now k) n }
-{
-    is_nat(xs[k], n)
-}
-
-pub fn below_at(xs: &[i64], k: usize, n: usize) -> bool
-    requires { k < length xs.now }
-    ensures { result ≡ is_below (at xs.now k) n }
-{
-    is_below(xs[k], n)
-}
-
-pub fn within_at(n: usize, xs: &[i64], k: usize) -> bool
-    requires { k < length xs.now }
-    ensures { result ≡ within n (at xs.now k) }
-{
-    is_within(n, xs[k])
-}
-
-pub fn less_at(xs: &[i64], k: usize) -> bool
-    requires { k + 1 < length xs.now }
-    ensures { result ≡ lt_z (at xs.now k) (at xs.now (k + 1)) }
-{
-    is_less(xs[k], xs[k + 1])
-}
-
 // ---- the mesh numbers
-
-// The mesh number of place `i`, as an unsigned number.
-fn mesh_number(d_diag: [i64; 3], i: usize) -> usize
-    requires { i < 3 }
-    ensures { result ≡ mag (at d_diag i) }
-{
-    magnitude(d_diag[i])
-}
 
 // The mesh numbers as unsigned numbers.
 pub fn mesh_of(d_diag: [i64; 3]) -> Mesh
     ensures { result ≡ mesh_of d_diag }
 {
     Mesh {
-        d0: mesh_number(d_diag, 0),
-        d1: mesh_number(d_diag, 1),
-        d2: mesh_number(d_diag, 2),
+        d0: magnitude(d_diag[0]),
+        d1: magnitude(d_diag[1]),
+        d2: magnitude(d_diag[2]),
     }
 }
 

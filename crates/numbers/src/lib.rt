@@ -2,13 +2,10 @@
 
 #![tactic(auto)]
 
+ghost use Rattle.std.specs.Prelude.{◌≡◌};
+ghost use Rattle.list_laws.specs.Lists.{at};
+
 pub mod kernel;
-
-// Question 2 of document 01: a lattice entry that is not finite, or over 2^30 in magnitude.
-pub const BAD_LATTICE: u64 = 2;
-
-// Question 7 of document 01: a table or a vector with a component outside ±4,096.
-pub const BAD_TABLE: u64 = 7;
 
 // Three mesh numbers, tested.
 #[derive(Clone, Copy)]
@@ -24,4 +21,16 @@ pub struct Address {
     pub x: i64,
     pub y: i64,
     pub z: i64,
+}
+
+impl From<[i64; 3]> for Address {
+    ghost from_gives = { λ a address. (address.x ≡ at a 0) × ((address.y ≡ at a 1) × (address.z ≡ at a 2)) };
+
+    fn from(components: [i64; 3]) -> Self {
+        Address {
+            x: components[0],
+            y: components[1],
+            z: components[2],
+        }
+    }
 }

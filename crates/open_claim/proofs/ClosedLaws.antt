@@ -17,8 +17,7 @@ use Rattle.list_laws.specs.Signed.{eq_z}
 use Rattle.open_count.specs.OpenCount.{is_nonzero, is_open, open_from}
 use Rattle.triplet_channels.specs.Channels.{outputs_at}
 use Rattle.triplet_iw.specs.Whole.{all_weights}
-use Rattle.triplet_outputs.specs.declared.Channel.{Channel}
-use Rattle.triplet_outputs.specs.declared.Channel.TheVariants.{Closed, Open}
+use Rattle.std.proofs.Common.{Option, Some, None}
 use Rattle.triplet_outputs.specs.Outputs.{flag_of, outputs_by}
 use Rattle.triplet_piece.specs.Layout.{channel_of}
 use Rattle.triplet_piece.specs.Weights.{weight_at, flag_at, outputs_at_cell, outputs_of, outputs_of_corners}
@@ -33,13 +32,13 @@ one_of_three false true a b c p q r = q
 one_of_three false false a b c p q r = r
 
 -- of three closed channels every output of every type is zero
-closed-outputs : (tp : TpType) (k : ℕ) → is_nonzero (channel_of (outputs_by tp Closed Closed Closed) k) ≡ false
+closed-outputs : (tp : TpType) (k : ℕ) → is_nonzero (channel_of (outputs_by tp None None None) k) ≡ false
 unfolding outputs_by channel_of is_nonzero ne eq of_bits add sub
 closed-outputs Type2 k = one_of_three (eqb k 0) (eqb k 1) _ _ _ refl refl refl
 closed-outputs Type3 k = one_of_three (eqb k 0) (eqb k 1) _ _ _ refl refl refl
 closed-outputs Type4 k = one_of_three (eqb k 0) (eqb k 1) _ _ _ refl refl refl
 
-flag_is : (tp : TpType) (a b c : Channel) → (outputs_by tp a b c).flag ≡ flag_of a b c
+flag_is : (tp : TpType) (a b c : Option Float) → (outputs_by tp a b c).flag ≡ flag_of a b c
 unfolding outputs_by
 flag_is Type2 a b c = refl
 flag_is Type3 a b c = refl
@@ -49,12 +48,12 @@ open-zero : {X : Type 0} → ◌≡◌ {A = ℤ} (pos 0) (pos 1) → X
 open-zero e = let z : ◌≡◌ {A = ℕ} 0 1 = cc in absurd (let f : ⊥ = omega arith in f)
 
 -- flag 1 says that they are closed
-by_flag : (tp : TpType) (a b c : Channel) → flag_of a b c ≡ pos 1 → (k : ℕ) → is_nonzero (channel_of (outputs_by tp a b c) k) ≡ false
+by_flag : (tp : TpType) (a b c : Option Float) → flag_of a b c ≡ pos 1 → (k : ℕ) → is_nonzero (channel_of (outputs_by tp a b c) k) ≡ false
 unfolding flag_of
-by_flag tp Closed Closed Closed e k = closed-outputs tp k
-by_flag tp (Open x) b c e k = open-zero e
-by_flag tp Closed (Open x) c e k = open-zero e
-by_flag tp Closed Closed (Open x) e k = open-zero e
+by_flag tp None None None e k = closed-outputs tp k
+by_flag tp (Some x) b c e k = open-zero e
+by_flag tp None (Some x) c e k = open-zero e
+by_flag tp None None (Some x) e k = open-zero e
 
 -- the outputs at a cell are those of three channels
 pub cell-closed : (s : Study) (j : ℕ) → flag_at s j ≡ pos 1 → (k : ℕ) → is_nonzero (channel_of (outputs_at_cell s (sizes_of s) j) k) ≡ false
@@ -73,12 +72,12 @@ closed-not-open s j h e =
     ∙ cell-closed s j e k)
 
 -- a flag that is not 1 is 0
-other-flag : (tp : TpType) (a b c : Channel) → ((outputs_by tp a b c).flag ≡ pos 1 → ⊥) → (outputs_by tp a b c).flag ≡ pos 0
+other-flag : (tp : TpType) (a b c : Option Float) → ((outputs_by tp a b c).flag ≡ pos 1 → ⊥) → (outputs_by tp a b c).flag ≡ pos 0
 unfolding flag_of
-other-flag tp Closed Closed Closed h = absurd (h (flag_is tp Closed Closed Closed))
-other-flag tp (Open x) b c h = flag_is tp (Open x) b c
-other-flag tp Closed (Open x) c h = flag_is tp Closed (Open x) c
-other-flag tp Closed Closed (Open x) h = flag_is tp Closed Closed (Open x)
+other-flag tp None None None h = absurd (h (flag_is tp None None None))
+other-flag tp (Some x) b c h = flag_is tp (Some x) b c
+other-flag tp None (Some x) c h = flag_is tp None (Some x) c
+other-flag tp None None (Some x) h = flag_is tp None None (Some x)
 
 -- of a computed sheet, what is open has flag 0
 pub open-flag : (s : Study) (j : ℕ) → j < (sizes_of s).cells → is_open (sizes_of s).channels (sizes_of s).cells (all_weights s) j ≡ true → flag_at s j ≡ pos 0

@@ -14,7 +14,7 @@ use Rattle.bzgrid_lookup.specs.Neighbours.{grid_of, kind_of, neighbour_of, wante
 use Rattle.grgrid.specs.Index.{grid_index}
 use Rattle.numbers.specs.Mesh.{mesh_of, count_of}
 use Rattle.open_count.specs.OpenCount.{is_nonzero, is_open, open_from, open_count_answer}
-use Rattle.open_count.specs.declared.OpenAnswer.TheVariants.{Open}
+use Rattle.std.specs.declared.result.Result.TheVariants.{Ok}
 use Rattle.question_grids.specs.Grids.{is_grid_kind, is_mesh, are_triples, are_addresses, is_map, is_dense_map}
 use Rattle.question_grids.specs.Steps.{are_grid_points}
 use Rattle.question_grids.specs.Tables.{is_table}
@@ -79,7 +79,7 @@ unfolding all_weights channel_of weight_of sum_of row_weight share_of or_zero br
 weights = refl
 
 -- two flags are 0, and one entry is open
-pub counted : open_count_answer (pos 2) counts (all_weights edge) (pos 0) ≡ Open 1
+pub counted : open_count_answer (pos 2) counts (all_weights edge) (pos 0) ≡ Ok 1
 unfolding first_no is_tp_type are_sheet_counts are_counts is_band_count is_between is_below cells_per_triplet channels_of is_nat open_from count_below is_open some_below is_nonzero ne eq of_bits
 counted = rw weights refl
 

@@ -1,7 +1,7 @@
--- What an accepted open count goes by, and its answer by the number of the first no. Assumes nothing.
+-- What an accepted open count goes by. Assumes nothing.
 use mathlib.Core.Path.{◌≡◌, refl}
 use mathlib.Core.Bool.{true}
-use Prim.Native.Nat.{ℕ, zero, suc, ◌+◌, ◌*◌, ◌≤◌}
+use Prim.Native.Nat.{ℕ, ◌+◌, ◌*◌, ◌≤◌}
 use native.Mathlib.Omega.{arith}
 use lib.IntN.{ℤ}
 use lib.Signed.{mag}
@@ -12,8 +12,7 @@ use Rattle.ask.specs.Ask.{AllYes, first_no}
 use Rattle.ask.proofs.AskLaws.{all_yes}
 use Rattle.sheet_counts.specs.declared.Counts.{Counts}
 use Rattle.sheet_counts.specs.SheetCounts.{are_sheet_counts, cells_per_triplet, cells_of, weight_count_of}
-use Rattle.open_count.specs.OpenCount.{open_questions, open_answer}
-use Rattle.open_count.specs.declared.OpenAnswer.TheVariants.{Refused}
+use Rattle.open_count.specs.OpenCount.{open_questions}
 
 -- what 8, 9, 12 and 14 told of a call
 pub record Accepted (type : ℤ) (c : Counts) (weights : ℕ) (triplet : ℤ) : Type 0 where
@@ -30,7 +29,3 @@ accepted type c weights triplet e =
       weighed = eqb-true weights (weight_count_of type c) y.1.1.0;
       room = row_room (mag triplet) (mag c.num_triplets) (cells_per_triplet c) (mag triplet * cells_per_triplet c) (cells_of c) (below-lt triplet (mag c.num_triplets) y.1.1.1.0) refl refl;
     }
-
-pub open-refused : (n m : ℕ) → (n ≡ 0 → ⊥) → Refused n ≡ open_answer n m
-open-refused zero m h = absurd (h refl)
-open-refused (suc n) m h = refl

@@ -1,17 +1,18 @@
 -- The open count of a triplet. Weights lie by channel, then by triplet, point, b1, b2: entry e of `cells` has its weight of channel c at c·cells + e.
-use Rattle.std.specs.Prelude.{Bool, List, [], ◌∷◌, ◌++◌, ℕ, zero, suc, ◌+◌, ◌*◌, eqb, Float, ℤ, length, get_or}
+use Rattle.std.specs.Prelude.{Bool, List, [], ◌∷◌, ◌++◌, ℕ, ◌+◌, ◌*◌, eqb, Float, ℤ, length, get_or}
 use Rattle.std.specs.Float.{nan}
 use Rattle.std.specs.Float.Ieee.{ne}
 use Rattle.std.specs.Int.Signed.{mag}
 use Rattle.list_laws.specs.Lists.{some_below, count_below}
 use Rattle.list_laws.specs.Signed.{is_below}
 use Rattle.ieee_laws.specs.Zeros.{zero_f}
+use Rattle.std.specs.declared.result.Result.{Result}
 use Rattle.ask.specs.Ask.{Question, asks, first_no}
+use Rattle.ask.specs.Refusals.{answer_of}
+use Rattle.ask.specs.declared.refusal.Refusal.{Refusal}
 use Rattle.question_values.specs.TpTypes.{channels_of}
 use Rattle.sheet_counts.specs.declared.Counts.{Counts}
 use Rattle.sheet_counts.specs.SheetCounts.{count_questions, cells_per_triplet, cells_of, weight_count_of}
-use Rattle.open_count.specs.declared.OpenAnswer.{OpenAnswer}
-use Rattle.open_count.specs.declared.OpenAnswer.TheVariants.{Open, Refused}
 
 -- "different from zero; either sign of zero is zero, a NaN is not": by IEEE comparison
 unfoldable pub is_nonzero : Float → Bool
@@ -39,11 +40,6 @@ open_questions type c weights triplet =
 abbrev pub open_no : ℤ → Counts → List Float → ℤ → ℕ
 open_no type c weights triplet = first_no (open_questions type c (length weights) triplet)
 
--- by that number: 0 gives the count
-abbrev pub open_answer : ℕ → ℕ → OpenAnswer
-open_answer zero n = Open n
-open_answer (suc k) n = Refused (suc k)
-
 -- the answer of a call
-abbrev pub open_count_answer : ℤ → Counts → List Float → ℤ → OpenAnswer
-open_count_answer type c weights triplet = open_answer (open_no type c weights triplet) (open_entries type c weights triplet)
+abbrev pub open_count_answer : ℤ → Counts → List Float → ℤ → Result ℕ Refusal
+open_count_answer type c weights triplet = answer_of (open_no type c weights triplet) (open_entries type c weights triplet)

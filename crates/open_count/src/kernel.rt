@@ -1,28 +1,32 @@
 // The questions of the open count, and the count over the entries of one triplet.
 ghost use Rattle.std.specs.Prelude.{◌≡◌, ◌+◌, ◌*◌, ◌≤◌, ◌<◌, length};
 ghost use Rattle.ask.specs.Ask.{first_no};
+ghost use Rattle.ask.specs.Refusals.{answer_of};
 ghost use Rattle.open_count.specs.OpenCount.{open_questions, is_nonzero, is_open, open_from};
 
+use ask::Refusal;
 use numbers::kernel::{is_below, magnitude, one_if};
 use question_values::kernel::tp_type::channels_of;
 use sheet_counts::Counts;
-use sheet_counts::kernel::{cells_of, counts_first_no};
+use sheet_counts::kernel::{ask_counts, cells_of};
 
-// The number of the first question that is answered no, or 0.
-pub fn open_first_no(tp_type: i64, counts: Counts, num_weights: usize, triplet: i64) -> u64
-    ensures { result ≡ first_no (open_questions tp_type counts num_weights triplet) }
+// Questions 8, 9, 12 and 14.
+pub fn ask_open(
+    tp_type: i64,
+    counts: Counts,
+    num_weights: usize,
+    triplet: i64,
+) -> Result<(), Refusal>
+    ensures { result ≡ answer_of (first_no (open_questions tp_type counts num_weights triplet)) tt }
 {
-    let no = counts_first_no(tp_type, counts);
-    if no != 0 {
-        return no;
-    }
+    ask_counts(tp_type, counts)?;
     if num_weights != channels_of(tp_type) * cells_of(counts) {
-        return questions::BAD_LENGTH;
+        return Err(Refusal::Lengths);
     }
     if !is_below(triplet, magnitude(counts.num_triplets)) {
-        return questions::NOT_ON_SHEET;
+        return Err(Refusal::NotOnSheet);
     }
-    0
+    Ok(())
 }
 
 // Whether a weight is other than zero: either zero is zero, a NaN is not.
@@ -37,12 +41,10 @@ fn is_open(weights: &[f64], channels: usize, cells: usize, e: usize) -> bool
     requires { (e < cells) × (length weights.now ≡ channels * cells) }
     ensures { result ≡ is_open channels cells weights.now e }
 {
-    let mut c = 0;
-    while c < channels {
+    for c in 0..channels {
         if is_nonzero(weights[c * cells + e]) {
             return true;
         }
-        c += 1;
     }
     false
 }
@@ -53,10 +55,8 @@ pub fn open_from(weights: &[f64], channels: usize, cells: usize, start: usize, n
     ensures { result ≡ open_from channels cells weights.now start n }
 {
     let mut count: u64 = 0;
-    let mut i = 0;
-    while i < n {
+    for i in 0..n {
         count = count + one_if(is_open(weights, channels, cells, start + i));
-        i += 1;
     }
     count
 }

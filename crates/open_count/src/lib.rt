@@ -5,6 +5,7 @@
 ghost use Rattle.std.specs.Prelude.{◌≡◌};
 ghost use Rattle.open_count.specs.OpenCount.{open_count_answer};
 
+use ask::Refusal;
 use numbers::kernel::magnitude;
 use question_values::kernel::tp_type::channels_of;
 use sheet_counts::Counts;
@@ -12,25 +13,20 @@ use sheet_counts::kernel::{cells_of, cells_per_triplet};
 
 pub mod kernel;
 
-// The open count, or the number of the first question that is answered no.
-#[derive(Clone, Copy)]
-pub enum OpenAnswer {
-    Open(u64),
-    Refused(u64),
-}
-
 // The open count of a triplet: its entries (point, b1, b2) with a weight other than zero in some output of the type. Either zero is zero, a
 // NaN is not. Questions 8, 9, 12, 14.
-pub fn open_count(tp_type: i64, counts: Counts, weights: &[f64], triplet: i64) -> OpenAnswer
+pub fn open_count(
+    tp_type: i64,
+    counts: Counts,
+    weights: &[f64],
+    triplet: i64,
+) -> Result<u64, Refusal>
     ensures { result ≡ open_count_answer tp_type counts weights.now triplet }
 {
-    let no = kernel::open_first_no(tp_type, counts, weights.len(), triplet);
-    if no != 0 {
-        return OpenAnswer::Refused(no);
-    }
+    kernel::ask_open(tp_type, counts, weights.len(), triplet)?;
     let channels = channels_of(tp_type);
     let cells = cells_of(counts);
     let size = cells_per_triplet(counts);
     let start = magnitude(triplet) * size;
-    OpenAnswer::Open(kernel::open_from(weights, channels, cells, start, size))
+    Ok(kernel::open_from(weights, channels, cells, start, size))
 }

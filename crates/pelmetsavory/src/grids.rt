@@ -6,10 +6,23 @@ ghost use Rattle.grgrid.specs.Index.{address_of, grid_index};
 ghost use Rattle.ask.specs.Ask.{first_no, after_call};
 ghost use Rattle.bzgrid.specs.Calls.{around_in};
 ghost use Rattle.statuses.specs.Statuses.{index_questions};
-ghost use Rattle.pelmetsavory.specs.Calls.{CalledFind, CalledFindAll};
+ghost use Rattle.pelmetsavory.specs.Calls.{lent_grid, CalledFind, CalledFindAll};
 
 use crate::{Grid, Triple};
-use ask::kernel::number_of;
+use ask::kernel::status_of;
+
+// A grid as the calls below take it.
+fn lent<'a>(grid: Grid, addresses: &'a [i64], gp_map: &'a [i64]) -> question_grids::Grid<'a>
+    ensures { result ≡ lent_grid grid addresses.entry gp_map.entry }
+{
+    let d_diag = grid.d_diag;
+    question_grids::Grid {
+        bz_grid_type: grid.bz_grid_type,
+        d_diag,
+        addresses,
+        gp_map,
+    }
+}
 
 // The neighbours of one grid point. Questions 3 to 7, 10, 12.
 #[unsafe(no_mangle)]
@@ -23,18 +36,8 @@ pub extern "C" fn pelmetsavory_fill_neighboring_grid_points(
 ) -> u64
     ensures { CalledFind (around_in grid.bz_grid_type grid.d_diag addresses gp_map relative_grid_address) grid_point result out.old out.new }
 {
-    let bz_grid_type = grid.bz_grid_type;
-    let d_diag = grid.d_diag;
-    let answer = bzgrid::fill_neighboring_grid_points(
-        out,
-        grid_point,
-        relative_grid_address,
-        bz_grid_type,
-        d_diag,
-        addresses,
-        gp_map,
-    );
-    number_of(answer)
+    let grid = lent(grid, addresses, gp_map);
+    status_of(bzgrid::fill_neighboring_grid_points(out, grid_point, relative_grid_address, grid))
 }
 
 // The neighbours of many grid points, those of each in turn. Questions 3 to 7, 9, 10, 12.
@@ -49,18 +52,8 @@ pub extern "C" fn pelmetsavory_neighboring_grid_points_many(
 ) -> u64
     ensures { CalledFindAll (around_in grid.bz_grid_type grid.d_diag addresses gp_map relative_grid_address) grid_points.now result out.old out.new }
 {
-    let bz_grid_type = grid.bz_grid_type;
-    let d_diag = grid.d_diag;
-    let answer = bzgrid::neighboring_grid_points_many(
-        out,
-        grid_points,
-        relative_grid_address,
-        bz_grid_type,
-        d_diag,
-        addresses,
-        gp_map,
-    );
-    number_of(answer)
+    let grid = lent(grid, addresses, gp_map);
+    status_of(bzgrid::neighboring_grid_points_many(out, grid_points, relative_grid_address, grid))
 }
 
 // The grid index of an address, behind `index`. Question 4, with mesh numbers from 1 to 256.

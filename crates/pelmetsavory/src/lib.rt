@@ -1,5 +1,6 @@
 // What programs in other languages call: each public entry under its C name. A status is 0, or the number of the first question
 // that is answered no; a refused call leaves every buffer as it was. `pelmetsavory_answer` alone has no status: its refusal is text.
+// Parameters lie side by side and answers are numbers, as C has them.
 
 #![tactic(auto)]
 

@@ -7,8 +7,8 @@ ghost use Rattle.sheet_play.specs.Outcomes.{outcome};
 ghost use Rattle.sheet_list.specs.Play.{list_no};
 ghost use Rattle.pelmetsavory.specs.Sheets.{CalledPlay};
 
-use ask::kernel::number_of;
-use sheet_list::{Shape, Tally};
+use sheet::Answered;
+use sheet_list::{Shape, Study, Tally};
 
 // Plays a list of calls, six numbers a call, on a sheet with any marks, and counts the runs behind `tally`. Each call's status goes to its
 // place in `answers`, the sixteen counts after it to their places in `tallies`. The status is 0, or 12: has the list six numbers, and
@@ -38,7 +38,7 @@ pub extern "C" fn pelmetsavory_play(
 {
     let runs = *tally;
     let before = Tally { runs };
-    let done = sheet_list::play(
+    let study = Study {
         shape,
         addresses,
         gp_map,
@@ -47,18 +47,12 @@ pub extern "C" fn pelmetsavory_play(
         frequencies2,
         frequency_points,
         triplets,
-        weights,
-        flags,
-        marks,
-        before,
-        list,
-        ids,
-        answers,
-        tallies,
+    };
+    let done = sheet_list::play(
+        study, weights, flags, marks, before, list, ids, answers, tallies,
     );
-    let after = done.tally;
-    let counts = after.runs;
+    let said = Answered::new(done, before);
+    let counts = said.tally.runs;
     *tally = counts;
-    let answer = done.answer;
-    number_of(answer)
+    said.number
 }

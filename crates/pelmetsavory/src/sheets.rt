@@ -8,8 +8,7 @@ ghost use Rattle.sheet_tally.specs.Tallies.{tally_questions, with_runs};
 ghost use Rattle.open_count.specs.OpenCount.{open_no, open_entries};
 
 use crate::Piece;
-use ask::kernel::number_of;
-use sheet::{Counts, Shape, Tally};
+use sheet::{Answered, Counts, NamedPiece, Shape, Study, Tally};
 
 // Runs one piece, and counts it behind `tally` for its worker, 0 to 15. Questions 3 to 15, 21, 20.
 #[unsafe(no_mangle)]
@@ -34,10 +33,12 @@ pub extern "C" fn pelmetsavory_run_piece(
 {
     let runs = *tally;
     let before = Tally { runs };
-    let triplet = piece.triplet;
-    let b1 = piece.b1;
-    let b2 = piece.b2;
-    let done = sheet::run_piece(
+    let named = NamedPiece {
+        triplet: piece.triplet,
+        b1: piece.b1,
+        b2: piece.b2,
+    };
+    let study = Study {
         shape,
         addresses,
         gp_map,
@@ -46,20 +47,12 @@ pub extern "C" fn pelmetsavory_run_piece(
         frequencies2,
         frequency_points,
         triplets,
-        weights,
-        flags,
-        marks,
-        before,
-        worker,
-        triplet,
-        b1,
-        b2,
-    );
-    let after = done.tally;
-    let counts = after.runs;
+    };
+    let done = sheet::run_piece(study, weights, flags, marks, before, worker, named);
+    let said = Answered::new(done, before);
+    let counts = said.tally.runs;
     *tally = counts;
-    let answer = done.answer;
-    number_of(answer)
+    said.number
 }
 
 // Runs all pieces marked 0, in ascending order, and counts them behind `tally` for their worker, 0 to 15.
@@ -85,7 +78,7 @@ pub extern "C" fn pelmetsavory_carry_on(
 {
     let runs = *tally;
     let before = Tally { runs };
-    let done = sheet::carry_on(
+    let study = Study {
         shape,
         addresses,
         gp_map,
@@ -94,17 +87,12 @@ pub extern "C" fn pelmetsavory_carry_on(
         frequencies2,
         frequency_points,
         triplets,
-        weights,
-        flags,
-        marks,
-        before,
-        worker,
-    );
-    let after_all = done.tally;
-    let counts = after_all.runs;
+    };
+    let done = sheet::carry_on(study, weights, flags, marks, before, worker);
+    let said = Answered::new(done, before);
+    let counts = said.tally.runs;
     *tally = counts;
-    let answer = done.answer;
-    number_of(answer)
+    said.number
 }
 
 // Averages a triplet over the degenerate sets of two id lists; all counts stay, and it names no worker. Questions 3 to 19.
@@ -131,7 +119,7 @@ pub extern "C" fn pelmetsavory_average_triplet(
 {
     let runs = *tally;
     let before = Tally { runs };
-    let done = sheet::average_triplet(
+    let study = Study {
         shape,
         addresses,
         gp_map,
@@ -140,6 +128,9 @@ pub extern "C" fn pelmetsavory_average_triplet(
         frequencies2,
         frequency_points,
         triplets,
+    };
+    let done = sheet::average_triplet(
+        study,
         weights,
         flags,
         marks,
@@ -148,11 +139,10 @@ pub extern "C" fn pelmetsavory_average_triplet(
         degenerate_ids1,
         degenerate_ids2,
     );
-    let same = done.tally;
-    let counts = same.runs;
+    let said = Answered::new(done, before);
+    let counts = said.tally.runs;
     *tally = counts;
-    let answer = done.answer;
-    number_of(answer)
+    said.number
 }
 
 // The open count of a triplet, behind `count`: its entries (point, b1, b2) with a weight other than zero in some output of the type. Either

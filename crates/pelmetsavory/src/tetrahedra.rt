@@ -11,7 +11,8 @@ ghost use Rattle.statuses.specs.Statuses.{function_of};
 ghost use Rattle.pelmetsavory.specs.Calls.{CalledWeigh};
 
 use crate::Grid;
-use ask::kernel::number_of;
+use grid_point_weights::GridPointStudy;
+use question_grids::Grid as LentGrid;
 
 // The weights of each band at each frequency point, for each grid point; `letter` 'I' (73) asks for the density's weight, any other byte for
 // that of the number of states, J. Questions 3 to 7, 9 to 12.
@@ -33,25 +34,27 @@ pub extern "C" fn pelmetsavory_integration_weights_at_grid_points(
     ensures { CalledWeigh (call_in frequency_points relative_grid_address grid_points frequencies num_band num_ir
         grid.bz_grid_type grid.d_diag addresses gp_map gp2irgp_map (function_of letter)) result iw.old iw.new }
 {
-    let bz_grid_type = grid.bz_grid_type;
     let d_diag = grid.d_diag;
-    let function = statuses::choice::function_of(letter);
-    let answer = grid_point_weights::integration_weights_at_grid_points(
-        iw,
-        frequency_points,
-        relative_grid_address,
-        grid_points,
-        frequencies,
-        num_band,
-        num_ir,
-        bz_grid_type,
+    let lent = LentGrid {
+        bz_grid_type: grid.bz_grid_type,
         d_diag,
         addresses,
         gp_map,
+    };
+    let study = GridPointStudy {
+        grid: lent,
+        relative_grid_address,
         gp2irgp_map,
-        function,
-    );
-    number_of(answer)
+        num_ir,
+        num_band,
+        frequencies,
+        frequency_points,
+        function: statuses::choice::function_of(letter),
+    };
+    match grid_point_weights::integration_weights_at_grid_points(study, grid_points, iw) {
+        Ok(()) => 0,
+        Err(why) => why.number(),
+    }
 }
 
 // The table whose main diagonal is shortest, the first on a tie, and its number behind `index`. The columns of `rec_lattice` are the edges of

@@ -1,17 +1,32 @@
 // What the Rust has in triplet.rs and triplet_iw.rs.
 ghost use Rattle.std.specs.Prelude.{◌≡◌, length};
-ghost use Rattle.triplet_types.specs.Types.{tp_type_of, channel_count};
+ghost use Rattle.triplet_types.specs.Types.{type_questions, tp_type_of, channel_count};
 ghost use Rattle.ask.specs.Ask.{first_no, after_call};
-ghost use Rattle.triplet_study.specs.Lent.{study_in, study_of_one};
+ghost use Rattle.triplet_study.specs.Lent.{study_in, study_of, study_of_one, with_triplet};
 ghost use Rattle.averaging.specs.Answers.{averaging_no, weights_after, flags_after};
 ghost use Rattle.triplet_addresses.specs.Normal.{is_n_questions, is_normal};
 ghost use Rattle.triplet_addresses.specs.Copies.{copy_questions, both_copies};
-ghost use Rattle.statuses.specs.Statuses.{one_of, type_questions};
+ghost use Rattle.statuses.specs.Statuses.{one_of};
 ghost use Rattle.pelmetsavory.specs.Calls.{CalledFill};
 
 use crate::Triple;
-use ask::kernel::number_of;
-use triplet_study::Shape;
+use ask::kernel::status_of;
+use averaging::{Averaging, average_weights_over_degenerate_sets};
+use triplet_study::{Shape, Study};
+
+// The status of the weights of all triplets.
+fn status_of_weights(study: Study, weights: &mut [f64], flags: &mut [i8]) -> u64
+    ensures { CalledFill (study_of study.entry) weights flags result }
+{
+    status_of(triplet::integration_weight(study, weights, flags))
+}
+
+// The status of the weights of one triplet.
+fn status_of_triplet(study: Study, triplet: [i64; 3], weights: &mut [f64], flags: &mut [i8]) -> u64
+    ensures { CalledFill (with_triplet study.entry triplet) weights flags result }
+{
+    status_of(triplet_iw::integration_weight_per_triplet(study, triplet, weights, flags))
+}
 
 // The weights and flags of all triplets. Questions 3 to 12.
 #[unsafe(no_mangle)]
@@ -30,7 +45,7 @@ pub extern "C" fn pelmetsavory_integration_weight(
     ensures { CalledFill (study_in shape addresses gp_map relative_grid_address frequencies1 frequencies2 frequency_points triplets)
         weights flags result }
 {
-    let answer = triplet::integration_weight(
+    let study = Study {
         shape,
         addresses,
         gp_map,
@@ -39,10 +54,8 @@ pub extern "C" fn pelmetsavory_integration_weight(
         frequencies2,
         frequency_points,
         triplets,
-        weights,
-        flags,
-    );
-    number_of(answer)
+    };
+    status_of_weights(study, weights, flags)
 }
 
 // The weights and flags of one triplet. Questions 3 to 12.
@@ -63,7 +76,7 @@ pub extern "C" fn pelmetsavory_integration_weight_per_triplet(
         weights flags result }
 {
     let triplet = triplet.numbers;
-    let answer = triplet_iw::integration_weight_per_triplet(
+    let study = Study {
         shape,
         addresses,
         gp_map,
@@ -71,11 +84,9 @@ pub extern "C" fn pelmetsavory_integration_weight_per_triplet(
         frequencies1,
         frequencies2,
         frequency_points,
-        triplet,
-        weights,
-        flags,
-    );
-    number_of(answer)
+        triplets: &[],
+    };
+    status_of_triplet(study, triplet, weights, flags)
 }
 
 // Averages the weights and the flags of one triplet in place. Questions 8, 9, 12, 17, 19.
@@ -96,16 +107,14 @@ pub extern "C" fn pelmetsavory_average_weights_over_degenerate_sets(
     ensures iw_zero_after { iw_zero.new ≡ flags_after iw.old iw_zero.old
         degenerate_ids1.now degenerate_ids2.now num_band0 num_band tp_type }
 {
-    let answer = averaging::average_weights_over_degenerate_sets(
-        iw,
-        iw_zero,
+    let averaging = Averaging {
         degenerate_ids1,
         degenerate_ids2,
         num_band0,
         num_band,
         tp_type,
-    );
-    number_of(answer)
+    };
+    status_of(average_weights_over_degenerate_sets(averaging, iw, iw_zero))
 }
 
 // Whether the three addresses of a triplet add to zero: 1 or 0, behind `normal`. Questions 5 (without the count) and 10.
@@ -135,7 +144,7 @@ pub extern "C" fn pelmetsavory_set_relative_grid_address(
         (both_copies tp_type relative_grid_address.now) out.old }
 {
     let answer = triplet_addresses::set_relative_grid_address(out, relative_grid_address, tp_type);
-    number_of(answer)
+    status_of(answer)
 }
 
 // How many weights a triplet of a type has at a point of a band pair, behind `channels`. Question 8.

@@ -2,20 +2,18 @@
 use Rattle.std.specs.Prelude.{ℕ, zero, suc, ◌≡◌, List, [], ◌∷◌, ◌++◌, ℤ, pos, negsuc, length, Float}
 use Rattle.std.specs.Float.{binary64}
 use Rattle.std.specs.Float.Ieee.{of_bits}
+use Rattle.std.specs.declared.result.Result.TheVariants.{Ok}
 use Rattle.ieee_laws.specs.Zeros.{zero_f}
 use Rattle.ask.specs.Ask.{first_no}
-use Rattle.ask.specs.Answers.{answer_of}
-use Rattle.ask.specs.declared.Answer.TheVariants.{Done}
+use Rattle.ask.specs.Refusals.{answer_of}
 use Rattle.bzgrid_lookup.specs.Neighbours.{grid_of}
 use Rattle.bzgrid.specs.Calls.{many_questions}
 use Rattle.bzgrid.specs.Lists.{neighbours_of_all}
-use Rattle.relative_grid_address.specs.Answer.{table_answer}
-use Rattle.tetrahedron_tables.specs.Tables.{table_of, flat}
+use Rattle.relative_grid_address.specs.Answer.{table_answer, numbered_table}
 use Rattle.averaging.specs.Answers.{averaging_answer, weights_after, flags_after}
 use Rattle.tetrahedron_fractions.specs.Binary64.{one, three, four}
 use Rattle.tetrahedron_fractions.specs.Branch.{values}
 use Rattle.tetrahedron_method.specs.Answer.{integration_weight_answer}
-use Rattle.tetrahedron_method.specs.declared.WeightAnswer.TheVariants.{Weight}
 use Rattle.tetrahedron_method.specs.declared.WeightFunction.{WeightFunction}
 use Rattle.tetrahedron_method.specs.declared.WeightFunction.TheVariants.{I, J}
 use Rattle.tetrahedron_sort.specs.Sort.{sort_of}
@@ -72,14 +70,14 @@ pub data Point : Type 0 where
 
 -- what a point claims
 abbrev pub Claim : Point → Type 0
-Claim (weighs u r w x) = integration_weight_answer w (equal_rows r 24) u ≡ Weight x
+Claim (weighs u r w x) = integration_weight_answer w (equal_rows r 24) u ≡ Ok x
 Claim (stands r p) = (sort_of r).place ≡ p
-Claim (picks l n) = table_answer l ≡ record { answer = Done; index = n; table = flat (table_of n) }
+Claim (picks l n) = table_answer l ≡ Ok (numbered_table n)
 Claim (leads kind mesh addresses gp-map steps from to) =
-    (answer_of (first_no (many_questions (record { kind = kind; diag = mesh; addresses = addresses; gp-map = gp-map; steps = steps }) from (length to))) ≡ Done)
+    (answer_of (first_no (many_questions (record { kind = kind; diag = mesh; addresses = addresses; gp-map = gp-map; steps = steps }) from (length to))) (tt {0}) ≡ Ok (tt {0}))
     × (neighbours_of_all (grid_of kind mesh) addresses gp-map steps from ≡ to)
 Claim (averages bands ids1 ids2 w w' z z') =
-    (averaging_answer w z ids1 ids2 (pos 1) bands (pos 4) ≡ Done)
+    (averaging_answer w z ids1 ids2 (pos 1) bands (pos 4) ≡ Ok tt)
     × ((weights_after w z ids1 ids2 (pos 1) bands (pos 4) ≡ w') × (flags_after w z ids1 ids2 (pos 1) bands (pos 4) ≡ z'))
 
 -- all points of a list hold

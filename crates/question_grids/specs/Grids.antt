@@ -5,6 +5,7 @@ use Rattle.list_laws.specs.Lists.{all_below, at}
 use Rattle.list_laws.specs.Signed.{is_nat, is_below, is_between, within}
 use Rattle.numbers.specs.Mesh.{count_of, mesh_of}
 use Rattle.ask.specs.Ask.{Question, asks}
+use Rattle.question_grids.specs.declared.Grid.{Grid}
 
 -- Question 3: "Is the grid kind 1 or 2?"
 unfoldable pub is_grid_kind : ℤ → Bool
@@ -55,3 +56,7 @@ place_questions kind diag addresses gp-map =
 -- The questions that every call on a grid asks first.
 abbrev pub grid_questions : ℤ → List ℤ → List ℤ → List ℤ → List Question
 grid_questions kind diag addresses gp-map = mesh_questions kind diag ++ place_questions kind diag addresses gp-map
+
+-- The same of a lent grid.
+abbrev pub questions_on : Grid → List Question
+questions_on grid = grid_questions grid.bz_grid_type grid.d_diag grid.addresses.now grid.gp_map.now

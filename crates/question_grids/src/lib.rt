@@ -4,10 +4,11 @@
 
 pub mod kernel;
 
-pub const BAD_GRID_TYPE: u64 = 3;
-
-pub const BAD_MESH: u64 = 4;
-
-pub const BAD_ADDRESSES: u64 = 5;
-
-pub const BAD_MAP: u64 = 6;
+// A grid as it is lent: its kind, its mesh numbers, its addresses and the map from mesh points to them.
+#[derive(Clone, Copy)]
+pub struct Grid<'a> {
+    pub bz_grid_type: i64,
+    pub d_diag: [i64; 3],
+    pub addresses: &'a [i64],
+    pub gp_map: &'a [i64],
+}

@@ -18,14 +18,12 @@ pub fn pass_slice(text: &[u8], at: usize, src: &[u8]) -> usize
     if text.len() - at < src.len() {
         return lost;
     }
-    let mut i = 0;
-    while i < src.len() {
+    for i in 0..src.len() {
         if text[at + i] != src[i] {
             return lost;
         }
-        i += 1;
     }
-    at + i
+    at + src.len()
 }
 
 // Passes over one byte.
@@ -43,7 +41,7 @@ pub fn pass_byte(text: &[u8], at: usize, b: u8) -> usize
     text.len() + 1
 }
 
-// How many decimal digits a number has.
+// How many decimal digits a number has. The loop counts no index: it ends when the number does.
 fn places_of(n: u64) -> usize
     ensures { result ≡ places 19 n }
 {
@@ -70,9 +68,7 @@ fn pass_digits(text: &[u8], at: usize, n: u64, k: usize) -> usize
         return lost;
     }
     let mut m = n;
-    let mut i = k;
-    while 0 < i {
-        i -= 1;
+    for i in (0..k).rev() {
         if text[at + i] != (48 + m % 10) as u8 {
             return lost;
         }

@@ -17,10 +17,10 @@ use Rattle.list_laws.proofs.SizeLaws.{size-sum, size-product}
 use Rattle.ieee_laws.specs.Whole.{Whole}
 use Rattle.ieee_laws.proofs.WholeLaws.{whole_of, whole-minus-zero, whole-mul, whole-add, whole-lt, whole-square, nat-add, whole-magnitude}
 use Rattle.ask.specs.Ask.{first_no}
-use Rattle.ask.specs.declared.Answer.TheVariants.{Done}
+use Rattle.std.specs.declared.result.Result.TheVariants.{Ok}
 use Rattle.common.specs.Matrix.{row_at, row_times, matvec_of, is_lattice, is_lattice_row, is_lattice_entry}
 use Rattle.relative_grid_address.specs.Diagonal.{main_diagonals, norm_squared, length_of, least_up_to, main_diagonal_of}
-use Rattle.relative_grid_address.specs.Answer.{table_answer}
+use Rattle.relative_grid_address.specs.Answer.{table_answer, numbered_table}
 use Rattle.relative_grid_address.specs.Whole.{UpTo20, IsWhole, IsLatticeOf, component, squared_length, square, FirstShortest}
 
 three : (x y z : ℤ) → nat_abs x ≡ 1 → nat_abs y ≡ 1 → nat_abs z ≡ 1 → (j : ℕ) → j < 3 → nat_abs (at (x ∷ y ∷ z ∷ []) j) ≡ 1
@@ -169,6 +169,6 @@ module _ (a : List (List Float)) (l : ℕ → ℕ → ℤ) (entries : IsLatticeO
       row i h = and_both (and_both (entry-accepted i 0 h (omega arith)) (entry-accepted i 1 h (omega arith))) (entry-accepted i 2 h (omega arith))
 
   -- what the entry answers for it
-  pub whole-answer : ((table_answer a).answer ≡ Done) × FirstShortest 4 (squared_length l) (table_answer a).index
+  pub whole-answer : (table_answer a ≡ Ok (numbered_table (main_diagonal_of a))) × FirstShortest 4 (squared_length l) (main_diagonal_of a)
   unfolding table_answer first_no
   whole-answer = rw whole-accepted (refl, shortest-picked)

@@ -5,6 +5,7 @@ ghost use Rattle.relative_grid_address.specs.Diagonal.{main_diagonals, norm_squa
 
 const MAIN_DIAGONALS: [[i64; 3]; 4] = [[1, 1, 1], [-1, 1, 1], [1, -1, 1], [1, 1, -1]];
 
+#[tactic(auto, unfolding(crate::specs::Diagonal::main_diagonals))]
 pub fn main_diagonal(i: usize) -> [i64; 3]
     requires { i < 4 }
     ensures { result ≡ get_or main_diagonals i [] }
@@ -12,6 +13,7 @@ pub fn main_diagonal(i: usize) -> [i64; 3]
     MAIN_DIAGONALS[i]
 }
 
+#[tactic(auto, unfolding(crate::specs::Diagonal::norm_squared))]
 fn norm_squared(a: [f64; 3]) -> f64
     ensures { result ≡ norm_squared a }
 {
@@ -47,12 +49,8 @@ pub fn copy_all(out: &mut [i64])
     requires { length out.old ≡ 1152 }
     ensures { out.new ≡ all_tables }
 {
-    let mut t = 0;
-    let mut start = 0;
-    while t < 4 {
-        let end = start + 288;
-        tetrahedron_tables::kernel::copy_table(t, &mut out[start..end]);
-        start = end;
-        t += 1;
+    for t in 0..4 {
+        let start = t * 288;
+        tetrahedron_tables::kernel::copy_table(t, &mut out[start..start + 288]);
     }
 }

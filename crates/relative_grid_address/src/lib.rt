@@ -5,38 +5,29 @@
 ghost use Rattle.std.specs.Prelude.{◌≡◌};
 ghost use Rattle.relative_grid_address.specs.Answer.{table_answer, all_tables};
 
-pub use ask::Answer;
+pub use ask::Refusal;
 
 mod diagonal;
 pub mod kernel;
 
-// The answer, and beside it the table's number and its 288 numbers, zeros beside a refusal.
+// A neighbour table: its number among the four, and its 288 numbers.
 #[derive(Clone, Copy)]
-pub struct TableAnswer {
-    pub answer: Answer,
+pub struct NeighbourTable {
     pub index: usize,
-    pub table: [i64; 288],
+    pub numbers: [i64; 288],
 }
 
-// The table whose main diagonal is shortest.
-pub fn relative_grid_address(rec_lattice: [[f64; 3]; 3]) -> TableAnswer
+// The table whose main diagonal is shortest. Question 2.
+pub fn relative_grid_address(rec_lattice: [[f64; 3]; 3]) -> Result<NeighbourTable, Refusal>
     ensures { result ≡ table_answer rec_lattice }
 {
-    let mut table = [0i64; 288];
     if !common::kernel::lattice_ok(rec_lattice) {
-        return TableAnswer {
-            answer: Answer::Refused(numbers::BAD_LATTICE),
-            index: 0,
-            table,
-        };
+        return Err(Refusal::Lattice);
     }
     let index = diagonal::get_main_diagonal(rec_lattice);
-    tetrahedron_tables::kernel::copy_table(index, &mut table);
-    TableAnswer {
-        answer: Answer::Done,
-        index,
-        table,
-    }
+    let mut numbers = [0i64; 288];
+    tetrahedron_tables::kernel::copy_table(index, &mut numbers);
+    Ok(NeighbourTable { index, numbers })
 }
 
 // All four tables, one after the other.

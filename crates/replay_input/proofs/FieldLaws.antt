@@ -1,18 +1,19 @@
 -- Digits and fields followed byte by byte, as a loop over the text does. Assumes nothing.
-use Prim.Native.Nat.{ℕ, zero, suc, ◌+◌, ◌-◌, ◌*◌, ◌%◌, ◌^◌, ◌≤◌, ◌<◌}
+use Prim.Native.Nat.{ℕ, zero, suc, ◌+◌, ◌-◌, ◌*◌, ◌%◌, ◌^◌, ◌≤◌, ◌<◌, min}
 use mathlib.Core.Path.{◌≡◌, refl, ap, ◌∙◌}
-use mathlib.Core.List.{List, [], ◌∷◌}
+use mathlib.Core.List.{List, [], ◌∷◌, ◌++◌}
 use native.Mathlib.Numerals.{add-one}
+use native.Mathlib.Nat.{mul-le-mul_right, suc-mul}
 use native.Mathlib.Omega.{arith}
 use lib.IntN.{ℤ, pos, negsuc, ◌-ℤ◌}
 use lib.Ieee.{Float, binary64, of_bits}
-use lib.ListN.{length, get_or, drop, set, length-drop}
-use lib.Seq.{drop-cons}
+use lib.ListN.{length, get_or, take, drop, set, length-drop}
+use lib.Seq.{drop-cons, length-take-le}
 use borrow.Author.Tests.{lt-ltb, le-ltb, eq-eqb, ne_eqb}
 use mir.Syntax.{w64}
 use mir.Val.{to_z, of_z, SFits}
 use mir.Facts.{to_z_pos, to_z-of_z}
-use Rattle.replay_input.specs.Fields.{spelled, passed, count_at, after_count, bits_at, after_bits, negated, plain, whole_at, after_whole, field_place, whole_from, real_from}
+use Rattle.replay_input.specs.Fields.{spelled, passed, count_at, after_count, bits_at, after_bits, negated, plain, whole_at, after_whole, field_place, whole_from, real_at, real_from, value_from, ListRead, WholesRead, RealsRead}
 use Rattle.list_laws.specs.Lists.{fronted, tabulate}
 use Rattle.text.specs.Fields.{digit_of}
 use Rattle.list_laws.proofs.FillLaws.{front-next}
@@ -85,7 +86,7 @@ module _ (n : ℕ) where
 
 -- ---- a whole number
 
-get_d_past : (s : List ℕ) (i : ℕ) → length s ≤ i → get_or s i 0 ≡ 0
+pub get_d_past : (s : List ℕ) (i : ℕ) → length s ≤ i → get_or s i 0 ≡ 0
 get_d_past [] i h = refl
 get_d_past (b ∷ s) zero h = absurd (omega arith)
 get_d_past (b ∷ s) (suc i) h = get_d_past s i (omega arith)
@@ -137,3 +138,25 @@ pub three-wholes : (text : List ℕ) (at : ℕ) {p q s : ℕ} {x y z : ℤ} → 
     → (x ∷ y ∷ z ∷ [] ≡ tabulate 3 (whole_from text at)) × (s ≡ field_place (after_whole text) at 3)
 unfolding tabulate whole_from field_place
 three-wholes text at a b c d e f = (cc, cc)
+
+-- a digit more fits 64 bits
+pub room-next : (base room q d : ℕ) → q < room → d < base → room * base ≤ 2 ^ 64 → q * base + d < 2 ^ 64
+room-next base room q d h l e = omega (arith, e, suc-mul q base, mul-le-mul_right {m = suc q} {n = room} base h)
+
+-- a list read is one of whole numbers, or of floats
+pub wholes-read : (text : List ℕ) (at : ℕ) (a b : List ℤ) (n next : ℕ) → ListRead whole_at after_whole text at a b n next → WholesRead text at a b n next
+unfolding ListRead WholesRead value_from whole_from
+wholes-read text at a b n next h = h
+
+pub reals-read : (text : List ℕ) (at : ℕ) (a b : List Float) (n next : ℕ) → ListRead real_at after_bits text at a b n next → RealsRead text at a b n next
+unfolding ListRead RealsRead value_from real_at real_from
+reals-read text at a b n next h = h
+
+module _ {A : Type 0} (value : List ℕ → ℕ → A) (after : List ℕ → ℕ → ℕ) (text : List ℕ) (at : ℕ) (old : List A) where
+  -- a list read: its count, and then as many numbers to the front of the buffer
+  pub list-read : {given count front : ℕ} {new : List A} → given ≡ count_at text at → count ≡ min given (length old) → front ≡ after_count text at
+      → new ≡ tabulate (length (take count old)) (value_from value after text front) → ListRead value after text at old (new ++ drop count old) count (field_place (after text) front (length (take count old)))
+  unfolding ListRead fronted
+  list-read {given} {count} {front} e w f h =
+      let n : length (take count old) ≡ count = length-take-le count old (omega (arith, w)) in
+      (w ∙ ap (λ (k : ℕ). min k (length old)) e, rw (n, f), rw (h, n, f))

@@ -1,2 +1,3 @@
 -- The laws.
 pub mod FieldLaws
+pub mod ReaderLaws

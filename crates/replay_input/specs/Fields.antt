@@ -60,6 +60,20 @@ whole_from text at k = whole_at text (field_place (after_whole text) at k)
 unfoldable pub real_from : List ℕ → ℕ → ℕ → Float
 real_from text at k = of_bits binary64 (bits_at text (field_place (after_bits text) at k))
 
+-- the float at a place of the text, by its bits
+unfoldable pub real_at : List ℕ → ℕ → Float
+real_at text at = of_bits binary64 (bits_at text at)
+
+-- number k from a place on, where `value` gives the number of a field and `after` the place after it
+unfoldable pub value_from : {A : Type 0} → (List ℕ → ℕ → A) → (List ℕ → ℕ → ℕ) → List ℕ → ℕ → ℕ → A
+value_from value after text at k = value text (field_place (after text) at k)
+
+-- a list read into a buffer: its count, cut to the buffer's length; the place after it; and its numbers at the front of the buffer
+unfoldable pub ListRead : {A : Type 0} → (List ℕ → ℕ → A) → (List ℕ → ℕ → ℕ) → List ℕ → ℕ → List A → List A → ℕ → ℕ → Type 0
+ListRead value after text at old new count next =
+    (count ≡ min (count_at text at) (length old)) × (next ≡ field_place (after text) (after_count text at) count)
+    × (new ≡ fronted count (value_from value after text (after_count text at)) old)
+
 -- a list of whole numbers read into a buffer: its count, cut to the buffer's length; the place after it; and its numbers at the front of the buffer
 unfoldable pub WholesRead : List ℕ → ℕ → List ℤ → List ℤ → ℕ → ℕ → Type 0
 WholesRead text at before after count next =

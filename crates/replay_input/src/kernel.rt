@@ -7,6 +7,8 @@ ghost use Rattle.std.specs.Float.Ieee.{of_bits};
 ghost use Rattle.replay_input.specs.Fields.{count_at, after_count, bits_at, after_bits, negated, plain, whole_at, after_whole, field_place, whole_from, WholesRead, RealsRead};
 ghost use Rattle.list_laws.specs.Lists.{tabulate};
 
+use crate::reader::Reader;
+
 // Where the next field starts.
 #[derive(Clone, Copy)]
 pub struct Cursor {
@@ -48,31 +50,16 @@ pub struct Listed {
     pub next: Cursor,
 }
 
-// One case: the number it was to be refused with, 0 where it was to be accepted, and whether the answer agrees.
-#[derive(Clone, Copy)]
-pub struct Judged {
-    pub refusal: u64,
-    pub agrees: bool,
-    pub next: Cursor,
-}
-
 // A decimal number with no sign: what the digits spell up to the first byte that is none, which is passed too.
 pub fn next_count(text: &[u8], c: Cursor) -> Bits
     ensures { (result.value ≡ count_at text.now c.at) × (result.next.at ≡ after_count text.now c.at) }
 {
-    let mut n: u64 = 0;
-    let mut i = c.at;
-    while i < text.len() {
-        let d = text::kernel::digit_of(text[i]);
-        i += 1;
-        if 10 <= d {
-            break;
-        }
-        n = n % 1844674407370955161 * 10 + d;
-    }
+    let mut reader = Reader::new(text).from(c.at);
+    let value = reader.next_count();
+    let at = reader.at;
     Bits {
-        value: n,
-        next: Cursor { at: i },
+        value,
+        next: Cursor { at },
     }
 }
 
@@ -80,31 +67,24 @@ pub fn next_count(text: &[u8], c: Cursor) -> Bits
 pub fn next_bits(text: &[u8], c: Cursor) -> Bits
     ensures { (result.value ≡ bits_at text.now c.at) × (result.next.at ≡ after_bits text.now c.at) }
 {
-    let mut n: u64 = 0;
-    let mut i = c.at;
-    while i < text.len() {
-        let d = text::kernel::digit_of(text[i]);
-        i += 1;
-        if 16 <= d {
-            break;
-        }
-        n = n % 1152921504606846976 * 16 + d;
-    }
+    let mut reader = Reader::new(text).from(c.at);
+    let value = reader.next_bits();
+    let at = reader.at;
     Bits {
-        value: n,
-        next: Cursor { at: i },
+        value,
+        next: Cursor { at },
     }
 }
 
 // A magnitude with no sign, kept to 63 bits.
-fn positive(n: u64) -> i64
+pub(crate) fn positive(n: u64) -> i64
     ensures { result ≡ plain n }
 {
     (n % 9223372036854775808) as i64
 }
 
 // A magnitude with a minus sign.
-fn negative(n: u64) -> i64
+pub(crate) fn negative(n: u64) -> i64
     ensures { result ≡ negated n }
 {
     if n == 0 {
@@ -200,13 +180,11 @@ pub fn fill_wholes(text: &[u8], c: Cursor, out: &mut [i64]) -> Listed
     let head = next_count(text, c);
     let count = at_most(head.value, out.len());
     let mut next = head.next;
-    let mut i = 0;
-    while i < count {
+    for i in 0..count {
         let w = next_whole(text, next);
         let value = w.value;
         out[i] = value;
         next = w.next;
-        i += 1;
     }
     Listed { count, next }
 }
@@ -219,13 +197,11 @@ pub fn fill_reals(text: &[u8], c: Cursor, out: &mut [f64]) -> Listed
     let head = next_count(text, c);
     let count = at_most(head.value, out.len());
     let mut next = head.next;
-    let mut i = 0;
-    while i < count {
+    for i in 0..count {
         let w = next_real(text, next);
         let value = w.value;
         out[i] = value;
         next = w.next;
-        i += 1;
     }
     Listed { count, next }
 }

@@ -7,3 +7,4 @@
 #![tactic(auto)]
 
 pub mod kernel;
+pub mod reader;

@@ -1,5 +1,17 @@
 -- What a replay counts.
-use Rattle.std.specs.Prelude.{ℕ, ◌+◌, ◌&&◌, cond, List, ltb, get_or, set}
+use Rattle.std.specs.Prelude.{ℕ, suc, zero, ◌+◌, ◌&&◌, cond, List, ltb, get_or, set}
+use Rattle.std.specs.declared.result.Result.{Result}
+use Rattle.std.specs.declared.result.Result.TheVariants.{Ok, Err}
+
+-- the answer that a stored refusal, 0 for none, and a stored value stand for
+abbrev pub stored_answer : {A : Type 0} → ℕ → A → Result A ℕ
+stored_answer zero given = Ok given
+stored_answer (suc n) given = Err (suc n)
+
+-- what a buffer is to hold after a call whose stored refusal is a number, 0 for none: the stored content, or what it held before
+abbrev pub stored_content : {A : Type 0} → ℕ → A → A → A
+stored_content zero given before = given
+stored_content (suc n) given before = before
 
 -- one more, up to the largest number of 64 bits
 unfoldable pub one_more : ℕ → ℕ

@@ -2,4 +2,4 @@
 
 #![tactic(auto)]
 
-pub mod kernel;
+pub mod cases;

@@ -93,13 +93,11 @@ fn read_weights(text: &[u8], c: Cursor, out: &mut [f64]) -> Cursor
     ensures { (out.new ≡ tabulate (length out.old) (real_from text.now c.at)) × (result.at ≡ field_place (after_bits text.now) c.at (length out.old)) }
 {
     let mut next = c;
-    let mut i = 0;
-    while i < out.len() {
+    for i in 0..out.len() {
         let v = input::next_real(text, next);
         let value = v.value;
         out[i] = value;
         next = v.next;
-        i += 1;
     }
     next
 }
@@ -108,13 +106,11 @@ pub fn read_flags(text: &[u8], c: Cursor, out: &mut [i8]) -> Cursor
     ensures { (out.new ≡ tabulate (length out.old) (flag_from text.now c.at)) × (result.at ≡ field_place (after_whole text.now) c.at (length out.old)) }
 {
     let mut next = c;
-    let mut i = 0;
-    while i < out.len() {
+    for i in 0..out.len() {
         let v = input::next_whole(text, next);
         let value = flag_of(v.value);
         out[i] = value;
         next = v.next;
-        i += 1;
     }
     next
 }
@@ -123,13 +119,11 @@ fn read_marks(text: &[u8], c: Cursor, out: &mut [u8]) -> Cursor
     ensures { (out.new ≡ tabulate (length out.old) (mark_from text.now c.at)) × (result.at ≡ field_place (after_count text.now) c.at (length out.old)) }
 {
     let mut next = c;
-    let mut i = 0;
-    while i < out.len() {
+    for i in 0..out.len() {
         let v = input::next_count(text, next);
         let value = mark_of(v.value);
         out[i] = value;
         next = v.next;
-        i += 1;
     }
     next
 }
@@ -161,12 +155,10 @@ fn same_weights(text: &[u8], c: Cursor, weights: &[f64]) -> Agreed
 {
     let mut next = c;
     let mut agrees = true;
-    let mut i = 0;
-    while i < weights.len() {
+    for i in 0..weights.len() {
         let v = input::next_real(text, next);
         agrees = agrees & compare::same_bits(weights[i], v.value);
         next = v.next;
-        i += 1;
     }
     Agreed { agrees, next }
 }
@@ -176,12 +168,10 @@ fn same_flags(text: &[u8], c: Cursor, flags: &[i8]) -> Agreed
 {
     let mut next = c;
     let mut agrees = true;
-    let mut i = 0;
-    while i < flags.len() {
+    for i in 0..flags.len() {
         let v = input::next_whole(text, next);
         agrees = agrees & (flags[i] == flag_of(v.value));
         next = v.next;
-        i += 1;
     }
     Agreed { agrees, next }
 }
@@ -191,12 +181,10 @@ fn same_marks(text: &[u8], c: Cursor, marks: &[u8]) -> Agreed
 {
     let mut next = c;
     let mut agrees = true;
-    let mut i = 0;
-    while i < marks.len() {
+    for i in 0..marks.len() {
         let v = input::next_count(text, next);
         agrees = agrees & (marks[i] == mark_of(v.value));
         next = v.next;
-        i += 1;
     }
     Agreed { agrees, next }
 }
@@ -206,12 +194,10 @@ pub fn same_answers(text: &[u8], c: Cursor, answers: &[u64]) -> Agreed
 {
     let mut next = c;
     let mut agrees = true;
-    let mut i = 0;
-    while i < answers.len() {
+    for i in 0..answers.len() {
         let v = input::next_bits(text, next);
         agrees = agrees & (answers[i] == v.value);
         next = v.next;
-        i += 1;
     }
     Agreed { agrees, next }
 }

@@ -1,7 +1,7 @@
 -- The records of a grid and of a study's values: what each list holds, and where the next one starts.
 use Rattle.std.specs.Prelude.{ℕ, min, ◌≡◌, List, ℤ, length, Float}
 use Rattle.list_laws.specs.Lists.{tabulate}
-use Rattle.replay_input.specs.Fields.{count_at, after_count, after_bits, whole_at, after_whole, field_place, whole_from, WholesRead, RealsRead}
+use Rattle.replay_input.specs.Fields.{count_at, after_count, after_bits, whole_at, real_at, after_whole, field_place, whole_from, value_from, WholesRead, RealsRead}
 
 -- the place after a list at a place of the text, cut to a buffer's length, where `after` gives the place after a number
 unfoldable pub after_list : (ℕ → ℕ) → List ℕ → ℕ → ℕ → ℕ
@@ -25,3 +25,24 @@ ValuesRead text at one one' n two two' m points points' k next =
     let second = after_list (after_bits text) text at (length one) in
     let third = after_list (after_bits text) text second (length two) in
     RealsRead text at one one' n second × RealsRead text second two two' m third × RealsRead text third points points' k next
+
+-- the list at a place of the text, cut to the text's length, where `value` gives the number of a field and `after` the place after it
+unfoldable pub list_at : {A : Type 0} → (List ℕ → ℕ → A) → (List ℕ → ℕ → ℕ) → List ℕ → ℕ → List A
+list_at value after text at = tabulate (min (count_at text at) (length text)) (value_from value after text (after_count text at))
+
+-- the grid at a place of the text: kind, mesh, addresses, map; then the place after it
+unfoldable pub IsGrid : List ℕ → ℕ → ℤ → List ℤ → List ℤ → List ℤ → ℕ → Type 0
+IsGrid text at kind mesh addresses map next =
+    let lists = grid_lists text at in
+    let second = after_list (after_whole text) text lists (length text) in
+    (kind ≡ whole_at text at) × (mesh ≡ tabulate 3 (whole_from text (after_whole text at)))
+    × (addresses ≡ list_at whole_at after_whole text lists) × (map ≡ list_at whole_at after_whole text second)
+    × (next ≡ after_list (after_whole text) text second (length text))
+
+-- the values of a study at a place of the text: both frequencies, the points; then the place after them
+unfoldable pub AreValues : List ℕ → ℕ → List Float → List Float → List Float → ℕ → Type 0
+AreValues text at one two points next =
+    let second = after_list (after_bits text) text at (length text) in
+    let third = after_list (after_bits text) text second (length text) in
+    (one ≡ list_at real_at after_bits text at) × (two ≡ list_at real_at after_bits text second) × (points ≡ list_at real_at after_bits text third)
+    × (next ≡ after_list (after_bits text) text third (length text))

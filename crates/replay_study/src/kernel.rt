@@ -8,6 +8,7 @@ use replay_input::kernel::Cursor;
 // A grid as read: kind, mesh, how many numbers its addresses and its map are, and where the next field starts.
 #[derive(Clone, Copy)]
 pub struct Grid {
+    // as stored: any number, which question 3 judges
     pub kind: i64,
     pub mesh: [i64; 3],
     pub addresses: usize,

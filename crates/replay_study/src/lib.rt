@@ -3,3 +3,5 @@
 #![tactic(auto)]
 
 pub mod kernel;
+pub mod owned;
+pub mod records;

@@ -1,95 +1,139 @@
-// Lines and sections of whole numbers.
-pub mod patterns;
-
-ghost use Rattle.std.specs.Prelude.{◌+◌, ◌≤◌, ◌≡◌, drop, length, take};
+// Lines and sections of values of any type that a field spells.
+ghost use Rattle.std.specs.Prelude.{◌+◌, ◌≤◌, ◌≡◌, drop, eqb, length, IfSome};
 ghost use Rattle.text.specs.Pieces.{ended, split_from};
-ghost use Rattle.sections.specs.Lines.{once, rows, line_kind, told, told_line, told_one, told_rows, values, whole_field};
+ghost use Rattle.sections.specs.Lines.{line_kind, once, rows, told, told_line, told_one, told_rows, told_section, told_single, values};
+ghost use Rattle.sections.specs.Left.{left};
 
-use crate::{Line, One, Rows};
-use text::Whole;
+use crate::Line;
+use text::Field;
+use text::kernel::cut;
 
-// The fields of a line from index p on: whether they are count whole numbers. These are then in out from index at on.
-pub fn parse_wholes(line: &[u8], p: usize, count: usize, out: &mut [i64], at: usize) -> bool
-    requires { at + count ≤ length out.old }
-    ensures p_value { values whole_field count (split_from 9 line.now p) ≡ told result (take count (drop at out.new)) }
-    ensures out_unchanged { take at out.new ≡ take at out.old }
+// A section as read: how many values, and where the next section starts.
+#[derive(Clone, Copy)]
+struct Section {
+    count: usize,
+    next: usize,
+}
+
+// The fields of a line from index p on: whether they are as many values as row has places. These are then in row.
+fn parse_values<T: Field>(line: &[u8], p: usize, row: &mut [T]) -> Option<()>
+    ensures { values T.spelled (length row.new) (split_from 9 line.now p) ≡ told result row.new }
 {
     let mut from = p;
-    let mut i = 0;
-    while i < count {
+    for value in row.iter_mut() {
         if line.len() < from {
-            return false;
+            return None;
         }
-        let e = text::kernel::cut(line, from, 9);
-        match text::kernel::parse_whole(&line[from..e]) {
-            Whole::Is(z) => {
-                out[at + i] = z;
-            }
-            Whole::Bad => {
-                return false;
-            }
-        }
-        from = e + 1;
-        i += 1;
+        let end = cut(line, from, b'\t');
+        *value = T::parse(&line[from..end])?;
+        from = end + 1;
     }
-    line.len() < from
+    if from <= line.len() {
+        return None;
+    }
+    Some(())
 }
 
-// A line against a tag and n whole numbers. Where it is such a row, its numbers are then in out from index at on.
-pub fn parse_line(line: &[u8], tag: &[u8], n: usize, out: &mut [i64], at: usize) -> Line
-    requires { at + n ≤ length out.old }
-    ensures line_value { line_kind whole_field tag.now n line.now ≡ told_line result (take n (drop at out.new)) }
-    ensures out_unchanged { take at out.new ≡ take at out.old }
+// A line against a tag and as many values as row has places. Where it is such a row, they are then in row.
+fn parse_line<T: Field>(line: &[u8], tag: &[u8], row: &mut [T]) -> Line
+    ensures { line_kind T.spelled tag.now (length row.new) line.now ≡ told_line result row.new }
 {
-    let t = text::kernel::cut(line, 0, 9);
-    if check::same(&line[..t], tag) {
-        if parse_wholes(line, t + 1, n, out, at) {
-            Line::Row
-        } else {
-            Line::Bad
-        }
-    } else {
-        Line::Other
+    let end = cut(line, 0, b'\t');
+    if &line[..end] != tag {
+        return Line::Other;
+    }
+    match parse_values(line, end + 1, row) {
+        Some(()) => Line::Row,
+        None => Line::Bad,
     }
 }
 
-// The lines from index from on that bear the tag, n whole numbers each. Their numbers are then at the start of out.
-pub fn parse_rows(text: &[u8], from: usize, tag: &[u8], n: usize, out: &mut [i64]) -> Rows
+// The lines from index from on that bear the tag, n values each. Their values are then at the start of out.
+fn parse_rows<T: Field>(
+    text: &[u8],
+    from: usize,
+    tag: &[u8],
+    n: usize,
+    out: &mut [T],
+) -> Option<Section>
     requires { length text.now + n ≤ length out.old }
-    ensures { rows whole_field tag.now n (ended 10 (drop from text.now)) ≡ told_rows result out.new text.now }
+    ensures section { rows T.spelled tag.now n (ended 10 (drop from text.now)) ≡ told_section result out.new text.now }
+    ensures within { IfSome result (λ s. s.count ≤ length out.new) }
 {
-    let mut at = from;
-    let mut k = 0;
-    while at < text.len() {
-        let e = text::kernel::cut(text, at, 10);
-        match parse_line(&text[at..e], tag, n, out, k) {
+    let mut next = from;
+    let mut count = 0;
+    // by lines, whose ends only the reading tells
+    while next < text.len() {
+        let end = cut(text, next, b'\n');
+        match parse_line(&text[next..end], tag, &mut out[count..count + n]) {
             Line::Row => {
-                k += n;
-                at = e + 1;
+                count += n;
+                next = end + 1;
             }
             Line::Other => {
                 break;
             }
             Line::Bad => {
-                return Rows::Bad;
+                return None;
             }
         }
     }
-    Rows::Read { count: k, next: at }
+    Some(Section { count, next })
 }
 
-// The line at index from, which bears the tag, with its n whole numbers. They are then at the start of out.
-pub fn parse_one(text: &[u8], from: usize, tag: &[u8], n: usize, out: &mut [i64]) -> One
-    requires { n ≤ length out.old }
-    ensures { once whole_field tag.now n (ended 10 (drop from text.now)) ≡ told_one result n out.new text.now }
+// The line at index from, which bears the tag and as many values as row has places. They are then in row. Tells where the next line starts.
+fn parse_one<T: Field>(text: &[u8], from: usize, tag: &[u8], row: &mut [T]) -> Option<usize>
+    ensures { once T.spelled tag.now (length row.new) (ended 10 (drop from text.now)) ≡ told_single result row.new text.now }
 {
     if text.len() <= from {
-        return One::Bad;
+        return None;
     }
-    let e = text::kernel::cut(text, from, 10);
-    match parse_line(&text[from..e], tag, n, out, 0) {
-        Line::Row => One::Read { next: e + 1 },
-        Line::Other => One::Bad,
-        Line::Bad => One::Bad,
+    let end = cut(text, from, b'\n');
+    match parse_line(&text[from..end], tag, row) {
+        Line::Row => Some(end + 1),
+        Line::Other | Line::Bad => None,
+    }
+}
+
+// The lines of a text that are left from index next on.
+#[derive(Drop)]
+pub struct Lines<'a> {
+    pub text: &'a [u8],
+    pub next: usize,
+}
+
+impl<'a> Lines<'a> {
+    pub fn new(text: &'a [u8]) -> Lines<'a>
+        ensures lines { left result ≡ ended 10 text.now }
+        ensures same { result.text ≡ text.entry }
+    {
+        Lines { text, next: 0 }
+    }
+
+    // Whether no line is left.
+    pub fn is_empty(&self) -> bool
+        ensures { result ≡ eqb (length (left self.now)) 0 }
+    {
+        self.text.len() <= self.next
+    }
+
+    // The next line, which bears the tag and as many values as row has places. They are then in row.
+    pub fn one<T: Field>(&mut self, tag: &[u8], row: &mut [T]) -> Option<()>
+        ensures line { once T.spelled tag.now (length row.new) (left self.old) ≡ told_one result row.new (left self.new) }
+        ensures same { self.new.text ≡ self.old.text }
+    {
+        self.next = parse_one(self.text, self.next, tag, row)?;
+        Some(())
+    }
+
+    // The next lines that bear the tag, n values each: their values, which are then at the start of out.
+    pub fn rows<'b, T: Field>(&mut self, tag: &[u8], n: usize, out: &'b mut [T]) -> Option<&'b [T]>
+        requires { length self.old.text.now + n ≤ length out.old }
+        ensures section { rows T.spelled tag.now n (left self.old) ≡ told_rows result (left self.new) }
+        ensures same { self.new.text ≡ self.old.text }
+    {
+        let section = parse_rows(self.text, self.next, tag, n, out)?;
+        self.next = section.next;
+        Some(&out[..section.count])
     }
 }

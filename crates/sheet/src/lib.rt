@@ -3,11 +3,11 @@
 
 #![tactic(auto)]
 
-pub use ask::Answer;
-pub use open_count::{OpenAnswer, open_count};
+pub use ask::Refusal;
+pub use open_count::open_count;
 pub use sheet_averaging::average_triplet;
 pub use sheet_carry::carry_on;
 pub use sheet_counts::Counts;
-pub use sheet_run::run_piece;
-pub use sheet_tally::{SheetAnswer, Tally};
-pub use triplet_study::Shape;
+pub use sheet_run::{NamedPiece, run_piece};
+pub use sheet_tally::{Answered, Tally};
+pub use triplet_study::{Shape, Study};

@@ -19,6 +19,7 @@ use Rattle.list_laws.proofs.GroupLaws.{group-back, some_groups, groups-more}
 use Rattle.ieee_laws.specs.Zeros.{plus_zero}
 use Rattle.triplet_study.specs.declared.Sizes.{Sizes}
 use Rattle.triplet_piece.specs.Layout.{triplet_at}
+use Rattle.degenerate_sets.specs.Averages.{points_by}
 use Rattle.averaging_blocks.specs.Weights.{averaged, averaged_points}
 use Rattle.averaging_flags.specs.Flags.{averaged_flags, averaged_flag_points}
 use Rattle.averaging_blocks.proofs.WeightLaws.{averaged-length}
@@ -60,7 +61,7 @@ module _ (z : Sizes) (h : Counted z) (ids1 ids2 : List ℤ) (same : z.bands1 ≡
       → c * z.cells + t * (z.points * z.pairs) + z.points * z.pairs ≤ length w
       → take (c * z.cells + t * (z.points * z.pairs)) w ++ (y ++ drop (c * z.cells + t * (z.points * z.pairs) + z.points * z.pairs - (c * z.cells + t * (z.points * z.pairs))) (drop (c * z.cells + t * (z.points * z.pairs)) w))
       ≡ group_made z.points z.pairs (averaged z.bands1 ids1 ids2) nan (c * z.triplets + t) w
-  unfolding averaged_points
+  unfolding points_by
   channel-back t c w y ey fits =
       let start : c * z.cells + t * (z.points * z.pairs) ≡ (c * z.triplets + t) * (z.points * z.pairs)
       = ap (λ (n : ℕ). c * n + t * (z.points * z.pairs)) (cells-by-size z h) ∙ ap (λ (n : ℕ). n + t * (z.points * z.pairs)) (sym (mul_assoc c z.triplets (z.points * z.pairs))) ∙ sym (add-mul (c * z.triplets) t (z.points * z.pairs)) in
@@ -108,7 +109,7 @@ module _ (z : Sizes) (h : Counted z) (ids1 ids2 : List ℤ) (same : z.bands1 ≡
       → y ≡ averaged_flag_points z.bands1 ids1 ids2 z.points (take (t * (z.points * z.pairs) + z.points * z.pairs - t * (z.points * z.pairs)) (drop (t * (z.points * z.pairs)) l))
       → take (t * (z.points * z.pairs)) l ++ (y ++ drop (t * (z.points * z.pairs) + z.points * z.pairs - t * (z.points * z.pairs)) (drop (t * (z.points * z.pairs)) l))
       ≡ triplet_flags_averaged z t ids1 ids2 l
-  unfolding averaged_flag_points group_made triplet_flags_averaged triplet_at
+  unfolding points_by group_made triplet_flags_averaged triplet_at
   flags-back t l y lt fits ey =
       slice_back (pos 0) (averaged_flags z.bands1 ids1 ids2) keeps-flags t (t * (z.points * z.pairs)) refl l y fits ey
 

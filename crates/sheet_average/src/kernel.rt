@@ -26,7 +26,7 @@ fn average_channel(
     let size = points * z.pairs;
     let start = c * z.cells + t * size;
     let end = start + size;
-    averaging_blocks::kernel::weights::average_points(
+    averaging_walk::kernel::walk::average_points(
         &mut weights[start..end],
         degenerate_ids1,
         degenerate_ids2,
@@ -70,7 +70,7 @@ pub fn average_flags(
     let size = points * z.pairs;
     let start = t * size;
     let end = start + size;
-    averaging_flags::kernel::flags::average_points(
+    averaging_walk::kernel::walk::average_points(
         &mut flags[start..end],
         degenerate_ids1,
         degenerate_ids2,

@@ -10,6 +10,7 @@ use Rattle.ask.specs.Ask.{Numbered, first_no}
 use Rattle.ask.proofs.AskLaws.{all_yes}
 use Rattle.question_values.proofs.CountLaws.{bands1-low, bands2-low, points-low, pairs-high, cells-high, all-cells-high}
 use Rattle.question_values.proofs.TypeLaws.{channels-le}
+use Rattle.question_values.specs.TpTypes.{is_tp_type}
 use Rattle.sheet_counts.specs.declared.Counts.{Counts}
 use Rattle.sheet_counts.specs.SheetCounts.{are_sheet_counts, count_questions, cells_per_triplet, cells_of, weight_count_of}
 
@@ -36,5 +37,10 @@ module _ (c : Counts) (e : are_sheet_counts c ≡ true) where
 pub counts-numbered : (type : ℤ) (c : Counts) → Numbered (count_questions type c)
 counts-numbered type c = (omega arith, (omega arith, tt))
 
+pub both-yes : (type : ℤ) (c : Counts) → first_no (count_questions type c) ≡ 0 → (is_tp_type type ≡ true) × (are_sheet_counts c ≡ true)
+both-yes type c e =
+    let y = all_yes (count_questions type c) (counts-numbered type c) e in
+    (y.0, y.1.0)
+
 pub counts-yes : (type : ℤ) (c : Counts) → first_no (count_questions type c) ≡ 0 → are_sheet_counts c ≡ true
-counts-yes type c e = (all_yes (count_questions type c) (counts-numbered type c) e).1.0
+counts-yes type c e = (both-yes type c e).1

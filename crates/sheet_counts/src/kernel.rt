@@ -1,9 +1,11 @@
 // Counts that are tested first and multiplied afterwards.
 ghost use Rattle.std.specs.Prelude.{◌≡◌, true};
 ghost use Rattle.ask.specs.Ask.{first_no};
+ghost use Rattle.ask.specs.Refusals.{answer_of};
 ghost use Rattle.sheet_counts.specs.SheetCounts.{are_sheet_counts, count_questions, cells_per_triplet, cells_of};
 
 use crate::Counts;
+use ask::Refusal;
 use numbers::kernel::magnitude;
 use question_values::kernel::counts::signed_counts_ok;
 use question_values::kernel::tp_type::tp_type_ok;
@@ -20,17 +22,17 @@ fn counts_ok(counts: Counts) -> bool
     )
 }
 
-// Questions 8 and 9: the number of the first that is answered no, or 0.
-pub fn counts_first_no(tp_type: i64, counts: Counts) -> u64
-    ensures { result ≡ first_no (count_questions tp_type counts) }
+// Questions 8 and 9.
+pub fn ask_counts(tp_type: i64, counts: Counts) -> Result<(), Refusal>
+    ensures { result ≡ answer_of (first_no (count_questions tp_type counts)) tt }
 {
     if !tp_type_ok(tp_type) {
-        return questions::BAD_TP_TYPE;
+        return Err(Refusal::TpType);
     }
     if !counts_ok(counts) {
-        return questions::BAD_COUNT;
+        return Err(Refusal::Counts);
     }
-    0
+    Ok(())
 }
 
 // How many entries one triplet has.

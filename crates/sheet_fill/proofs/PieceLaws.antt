@@ -28,9 +28,9 @@ corners-long grid addresses gp-map steps g h =
     length-area 384 (λ j. neighbour_of grid addresses gp-map (wanted_address addresses steps g j)) 0 (triples_in steps) (omega (arith, h))
 
 -- nothing is kept yet
-pub kept-none : (s : Study) (triplets : ℕ) (x : Float) (n : ℕ)
-    → Kept s triplets triplets (replicate 2 (replicate 384 x)) (replicate 3 (replicate 384 x)) (replicate 3 (replicate 96 n)) (replicate 2 (replicate 384 n))
-kept-none s triplets x n = record { areas = fresh-areas x n; numbers-sized = fresh 2 384 n; corners = λ h. absurd (omega (arith, h)) }
+pub kept-none : (s : Study) (triplets none : ℕ) → triplets ≤ none → (x : Float) (n : ℕ)
+    → Kept s triplets none (replicate 2 (replicate 384 x)) (replicate 3 (replicate 384 x)) (replicate 3 (replicate 96 n)) (replicate 2 (replicate 384 n))
+kept-none s triplets none b x n = record { areas = fresh-areas x n; numbers-sized = fresh 2 384 n; corners = λ h. absurd (omega (arith, h)) }
 
 -- piece q by its triplet and its bands
 pub piece_is : (q pairs bands2 : ℕ) → q / pairs * pairs + (q % pairs / bands2 * bands2 + q % pairs % bands2) ≡ q

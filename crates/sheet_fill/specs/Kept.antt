@@ -3,6 +3,9 @@ use Rattle.std.specs.Prelude.{◌≡◌, List, ℕ, ◌<◌, ℤ, Float}
 use Rattle.bzgrid_lookup.specs.declared.BzGrid.{BzGrid}
 use Rattle.triplet_values.specs.Values.{area_at}
 use Rattle.triplet_study.specs.Study.{Study}
+use Rattle.triplet_study.specs.Lent.{study_of}
+use Rattle.sheet_fill.specs.declared.areas.Work.{Work}
+use Rattle.sheet_fill.specs.declared.prepared.PreparedStudy.{PreparedStudy}
 use Rattle.triplet_corners.specs.Corners.{corner_numbers}
 use Rattle.triplet_piece.specs.Layout.{AreSized, Areas}
 use Rattle.triplet_piece.specs.Weights.{point_of, first_corners, second_corners}
@@ -18,3 +21,11 @@ pub record Kept (s : Study) (triplets held : ℕ) (frequencies channels : List (
   pub areas : Areas frequencies channels places
   pub numbers-sized : AreSized 2 384 numbers
   pub corners : held < triplets → (area_at numbers 0 ≡ first_corners s held) × (area_at numbers 1 ≡ second_corners s held)
+
+-- the same, of work areas
+abbrev pub Keeps : Study → ℕ → Work → Type 0
+Keeps s triplets w = Kept s triplets w.held w.frequencies w.channels w.places w.numbers
+
+-- the study that a prepared one holds
+abbrev pub study_in : PreparedStudy → Study
+study_in p = study_of p.tested.study

@@ -2,4 +2,9 @@
 
 #![tactic(auto)]
 
+mod areas;
 pub mod kernel;
+mod prepared;
+
+pub use areas::Work;
+pub use prepared::PreparedStudy;

@@ -13,9 +13,13 @@ use Rattle.list_laws.proofs.BoolLaws.{and_left, and_right}
 use Rattle.ask.specs.Ask.{asks}
 use Rattle.ask.proofs.AskLaws.{all_yes, after-done, after-refused}
 use Rattle.triplet_study.specs.Study.{Study}
-use Rattle.sheet_tally.specs.declared.SheetAnswer.{SheetAnswer}
-use Rattle.sheet_tally.specs.Tallies.{refused_with, sheet_answer, sixteen_of}
-use Rattle.sheet_tally.proofs.TallyLaws.{refused-is}
+use Rattle.std.specs.declared.result.Result.{Result}
+use Rattle.std.specs.declared.result.Result.TheVariants.{Ok, Err}
+use Rattle.ask.specs.Refusals.{answer_of}
+use Rattle.ask.specs.declared.refusal.Refusal.{Refusal}
+use Rattle.ask.proofs.RefusalLaws.{done-is, refused-is, refused-not}
+use Rattle.sheet_tally.specs.declared.Tally.{Tally}
+use Rattle.sheet_tally.specs.Tallies.{sixteen_of}
 use Rattle.sheet_step.specs.Steps.{Sheet, sheet, Call, verdict, step, step_answer}
 use Rattle.sheet_step.proofs.StepLaws.{verdict-common, refused-sheet}
 use Rattle.book_claim.specs.Lists.{played}
@@ -92,19 +96,15 @@ list-yes list answers tallies e =
 
 -- what playing a list did, refused by its own question or done
 module _ (g : Study) (s : Sheet) (calls : List Call) (number : ℕ) (answers tallies : List ℕ) where
-  pub play-refused : {n : ℕ} (a : SheetAnswer) → n ≡ number → (n ≡ 0 → ⊥) → a ≡ refused_with n s.tally
-      → DidPlay g s calls number answers tallies a (outcome (sheet s.weights s.flags s.marks a.tally.runs) answers tallies)
-  play-refused {n} a e h r =
-      let q : a ≡ sheet_answer number s.tally = r ∙ refused-is n s.tally h ∙ ap (λ (k : ℕ). sheet_answer k s.tally) e in
-      record {
-        answers_with = q ∙ ap (λ (x : SheetAnswer). sheet_answer number x.tally.runs) (sym q);
-        leaves = ap (λ (x : SheetAnswer). outcome (sheet s.weights s.flags s.marks x.tally.runs) answers tallies) q
-            ∙ after-refused number (outcome_of g s calls) (outcome s answers tallies) (λ z. h (e ∙ z));
-      }
+  pub play-refused : (why : Refusal) → ◌≡◌ {A = Result (Unit {0}) Refusal} (Err why) (answer_of number tt) → DidPlay g s calls number answers tallies (Err why) (outcome s answers tallies)
+  play-refused why e = record {
+    answers_with = refused-is number number why tt _ e refl;
+    leaves = after-refused number (outcome_of g s calls) (outcome s answers tallies) (refused-not number why tt e);
+  }
 
-  pub play-done : (tally : List ℕ) (w : List Float) (f : List ℤ) (m a t : List ℕ) → number ≡ 0 → outcome (sheet w f m tally) a t ≡ outcome_of g s calls
-      → DidPlay g s calls number answers tallies (sheet_answer 0 tally) (outcome (sheet w f m tally) a t)
-  play-done tally w f m a t e q = record {
-    answers_with = ap (λ (n : ℕ). sheet_answer n tally) (sym e);
+  pub play-done : (t : Tally) (w : List Float) (f : List ℤ) (m a ts : List ℕ) → number ≡ 0 → outcome (sheet w f m t.runs) a ts ≡ outcome_of g s calls
+      → DidPlay g s calls number answers tallies (Ok t) (outcome (sheet w f m t.runs) a ts)
+  play-done t w f m a ts e q = record {
+    answers_with = done-is number t e;
     leaves = q ∙ after-done number (outcome_of g s calls) (outcome s answers tallies) e;
   }

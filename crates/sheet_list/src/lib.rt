@@ -3,15 +3,16 @@
 #![tactic(auto)]
 
 ghost use Rattle.std.specs.Prelude.{length};
-ghost use Rattle.triplet_study.specs.Lent.{study_in};
+ghost use Rattle.triplet_study.specs.Lent.{study_of};
+ghost use Rattle.sheet_tally.specs.Tallies.{runs_after};
 ghost use Rattle.sheet_step.specs.Lent.{sheet_in, sheet_out};
 ghost use Rattle.sheet_calls.specs.Calls.{calls_of};
 ghost use Rattle.sheet_play.specs.Outcomes.{outcome};
 ghost use Rattle.sheet_list.specs.Play.{list_no, DidPlay};
 
-pub use ask::Answer;
-pub use sheet_tally::{SheetAnswer, Tally};
-pub use triplet_study::Shape;
+pub use ask::Refusal;
+pub use sheet_tally::Tally;
+pub use triplet_study::{Shape, Study};
 
 mod along;
 mod asks;
@@ -20,14 +21,7 @@ mod asks;
 // number, 0 where it is done, goes to its place in `answers`, the sixteen counts after it to their places in `tallies`. The list itself asks question
 // 12, of its own buffers; each call asks its questions, and 3 to 13 are asked once for all.
 pub fn play(
-    shape: Shape,
-    addresses: &[i64],
-    gp_map: &[i64],
-    relative_grid_address: &[i64],
-    frequencies1: &[f64],
-    frequencies2: &[f64],
-    frequency_points: &[f64],
-    triplets: &[i64],
+    study: Study,
     weights: &mut [f64],
     flags: &mut [i8],
     marks: &mut [u8],
@@ -36,35 +30,13 @@ pub fn play(
     ids: &[i64],
     answers: &mut [u64],
     tallies: &mut [u64],
-) -> SheetAnswer
-    ensures { DidPlay (study_in shape addresses gp_map relative_grid_address frequencies1 frequencies2 frequency_points triplets) (sheet_in weights flags marks tally.runs) (calls_of list.now ids.now)
+) -> Result<Tally, Refusal>
+    ensures { DidPlay (study_of study.entry) (sheet_in weights flags marks tally.runs) (calls_of list.now ids.now)
         (list_no (length list.now) (length answers.old) (length tallies.old))
-        answers.old tallies.old result (outcome (sheet_out weights flags marks result.tally.runs) answers.new tallies.new) }
+        answers.old tallies.old result (outcome (sheet_out weights flags marks (runs_after result tally.runs)) answers.new tallies.new) }
 {
-    let own = asks::list_first_no(list, answers, tallies);
-    if own != 0 {
-        return sheet_tally::kernel::refused(own, tally);
-    }
-    let left = along::play_all(
-        weights,
-        flags,
-        marks,
-        shape,
-        addresses,
-        gp_map,
-        relative_grid_address,
-        frequencies1,
-        frequencies2,
-        frequency_points,
-        triplets,
-        tally,
-        list,
-        ids,
-        answers,
-        tallies,
-    );
-    SheetAnswer {
-        answer: Answer::Done,
-        tally: left,
-    }
+    asks::ask_list(list, answers, tallies)?;
+    Ok(along::play_all(
+        weights, flags, marks, study, tally, list, ids, answers, tallies,
+    ))
 }

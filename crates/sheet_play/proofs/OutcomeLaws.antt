@@ -4,14 +4,19 @@ use mathlib.Core.List.{List, [], ◌∷◌, ◌++◌, map, map-append, append_as
 use Prim.Native.Nat.{ℕ, zero, suc, ◌+◌, ◌*◌}
 use native.Mathlib.Numerals.{add-one}
 use native.Mathlib.Omega.{arith}
+use lib.Ieee.{Float}
 use lib.IntN.{ℤ}
 use lib.ListN.{length}
 use Rattle.list_laws.specs.Lists.{tabulate, rows, fronted}
 use Rattle.list_laws.proofs.FillLaws.{front-all, length-tabulate}
-use Rattle.ask.proofs.AnswerLaws.{number_is as number_of_lem}
 use Rattle.triplet_study.specs.Study.{Study}
-use Rattle.sheet_tally.specs.Tallies.{sixteen_of}
-use Rattle.sheet_step.specs.Steps.{Sheet, Call, Called, verdict, step, step_answer}
+use Rattle.std.specs.declared.result.Result.{Result}
+use Rattle.ask.specs.Refusals.{number_of}
+use Rattle.ask.specs.declared.refusal.Refusal.{Refusal}
+use Rattle.sheet_tally.specs.declared.Tally.{Tally}
+use Rattle.sheet_tally.specs.Tallies.{sixteen_of, runs_after}
+use Rattle.sheet_step.proofs.StepLaws.{called}
+use Rattle.sheet_step.specs.Steps.{Sheet, sheet, Call, Called, Did, verdict, step, step_answer}
 use Rattle.book_claim.specs.Lists.{played, answers}
 use Rattle.book_claim.proofs.CutLaws.{played-cut, answers-cut}
 use Rattle.sheet_calls.specs.Calls.{call_at, calls_of}
@@ -21,7 +26,12 @@ use Rattle.sheet_play.proofs.KeptLaws.{common-kept}
 
 -- the number of an answer is the verdict
 pub number_is : (g : Study) (s : Sheet) (c : Call) → number_in (step_answer g s c) ≡ verdict g s c
-number_is g s c = number_of_lem (verdict g s c)
+number_is g s c = refl
+
+-- what a call came to, by what it did, with its number and the counts that are stored
+pub told : {g : Study} {s : Sheet} {c : Call} {a : Result Tally Refusal} {w : List Float} {f : List ℤ} {m after : List ℕ} {number : ℕ} (before : List ℕ)
+    → Did g s c a (sheet w f m (runs_after a before)) → number ≡ number_of a → after ≡ runs_after a before → Called g s c number (sheet w f m after)
+told {w} {f} {m} before d n r = let k = called d in record { says = n ∙ k.says; leaves = ap (sheet w f m) r ∙ k.leaves }
 
 -- ---- the first calls
 

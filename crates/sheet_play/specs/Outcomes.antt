@@ -1,15 +1,13 @@
 -- What a list of calls leaves: the sheet, the tally, each call's number and the tally after it, from any sheet.
 use Rattle.std.specs.Prelude.{List, [], ◌∷◌, ◌++◌, map, ℕ}
 use Rattle.triplet_study.specs.Study.{Study}
-use Rattle.sheet_tally.specs.declared.SheetAnswer.{SheetAnswer}
-use Rattle.ask.specs.Answers.{answer_number}
 use Rattle.sheet_tally.specs.Tallies.{sixteen_of}
-use Rattle.sheet_step.specs.Steps.{Sheet, Call, step}
+use Rattle.sheet_step.specs.Steps.{Answered, Sheet, Call, step}
 use Rattle.book_claim.specs.Lists.{played, answers}
 
 -- the number of a call's answer: 0 done, otherwise that of the first no
-abbrev pub number_in : SheetAnswer → ℕ
-number_in a = answer_number a.answer
+abbrev pub number_in : Answered → ℕ
+number_in a = a.number
 
 -- "for each call accepted or which number"
 abbrev pub numbers : Study → Sheet → List Call → List ℕ

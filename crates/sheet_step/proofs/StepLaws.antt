@@ -2,7 +2,7 @@
 use mathlib.Core.Path.{◌≡◌, refl, sym, ap, ◌∙◌}
 use mathlib.Core.Bool.{true, false, ◌&&◌}
 use mathlib.Core.List.{List, [], ◌∷◌, ◌++◌, append_assoc}
-use Prim.Native.Nat.{ℕ, ◌*◌, ◌<◌}
+use Prim.Native.Nat.{ℕ, ◌*◌, ◌<◌, ◌≤◌}
 use native.Mathlib.Omega.{arith}
 use borrow.Author.Tests.{eqb-true}
 use lib.Dec.{eqb}
@@ -23,12 +23,14 @@ use Rattle.triplet_study.specs.Questions.{study_questions, are_lengths}
 use Rattle.triplet_study.specs.Tested.{Counted, Ready}
 use Rattle.triplet_study.proofs.StudyLaws.{study-numbered, lengths-say, tested, counted, ready}
 use Rattle.marks.specs.Bytes.{bytes_for, Holds}
-use Rattle.sheet_tally.specs.declared.SheetAnswer.{SheetAnswer}
-use Rattle.ask.specs.Answers.{answer_number}
-use Rattle.sheet_tally.specs.Tallies.{sheet_answer, refused_with, with_runs, tally_questions, added_to}
-use Rattle.ask.proofs.AnswerLaws.{number_is}
-use Rattle.sheet_tally.proofs.TallyLaws.{refused-is}
-use Rattle.sheet_step.specs.Steps.{Sheet, sheet, Call, Did, pieces_of, common_questions, are_sheet_lengths, is_piece, are_id_lists, sheet_questions, piece_questions, average_questions, own_questions, verdict, effect, step}
+use Rattle.std.specs.declared.result.Result.{Result}
+use Rattle.std.specs.declared.result.Result.TheVariants.{Ok, Err}
+use Rattle.ask.specs.Refusals.{answer_of, number_of}
+use Rattle.ask.specs.declared.refusal.Refusal.{Refusal}
+use Rattle.ask.proofs.RefusalLaws.{done-is, first-low, number-is, refused-is, refused-not}
+use Rattle.sheet_tally.specs.declared.Tally.{Tally}
+use Rattle.sheet_tally.specs.Tallies.{tally_questions}
+use Rattle.sheet_step.specs.Steps.{Sheet, sheet, Call, run, carry, average, call_questions, Called, Did, pieces_of, common_questions, are_sheet_lengths, is_piece, are_id_lists, sheet_questions, piece_questions, average_questions, own_questions, verdict, effect, step}
 use Rattle.sheet_step.proofs.CountLaws.{marks-held}
 
 -- a yes to all is a yes to each group
@@ -37,6 +39,12 @@ unfolding first_no
 both_yes [] rest h e = (refl, e)
 both_yes (asks n true ∷ qs) rest h e = both_yes qs rest h.1 e
 both_yes (asks n false ∷ qs) rest h e = absurd (omega (arith, h.0))
+
+-- the questions that every call asks, once those on the study say yes
+pub common-no : (g : Study) (w f : ℕ) (m : List ℕ) {z : Sizes} → z ≡ sizes_of g → first_no (study_questions g) ≡ 0
+    → first_no (common_questions g w f m) ≡ first_no (sheet_questions z w f m)
+common-no g w f m ez y =
+    group-yes (study_questions g) (sheet_questions (sizes_of g) w f m) (study-numbered g) y ∙ sym (ap (λ (x : Sizes). first_no (sheet_questions x w f m)) ez)
 
 -- question 12's yes
 pub sheet-lengths : (z : Sizes) (w f m : ℕ) → are_sheet_lengths z w f m ≡ true → (w ≡ z.channels * z.cells) × ((f ≡ z.cells) × (m ≡ bytes_for (pieces_of z)))
@@ -102,24 +110,40 @@ module _ (g : Study) (s : Sheet) (c : Call) where
   unfolding step
   refused-sheet n e h = after-refused (verdict g s c) (effect g s c) s (λ z. h (sym e ∙ z))
 
-  -- what a refused call did
-  pub refused-call : (n : ℕ) (a : SheetAnswer) → verdict g s c ≡ n → (n ≡ 0 → ⊥) → a ≡ sheet_answer n s.tally
-      → Did g s c a (sheet s.weights s.flags s.marks a.tally.runs)
-  refused-call n a e h q = record {
-    answers = q ∙ (λ i. sheet_answer (sym e i) (refused-sheet n e h i).tally);
-    leaves = ap (λ (x : SheetAnswer). sheet s.weights s.flags s.marks x.tally.runs) q ∙ refused-sheet n e h;
+  -- what a call did that is refused by questions which decide it
+  pub refused-did : (n : ℕ) (why : Refusal) → ◌≡◌ {A = Result (Unit {0}) Refusal} (Err why) (answer_of n tt) → verdict g s c ≡ n → Did g s c (Err why) s
+  refused-did n why e h = record {
+    answers = refused-is n (verdict g s c) why tt _ e h;
+    leaves = refused-sheet n h (refused-not n why tt e);
   }
 
   -- a call that one of 3 to 13 refuses
-  pub common-refused : (n : ℕ) (a : SheetAnswer) → n ≡ first_no (common_of g s) → (n ≡ 0 → ⊥) → a ≡ refused_with n s.tally
-      → Did g s c a (sheet s.weights s.flags s.marks a.tally.runs)
-  common-refused n a e h q = refused-call n a (verdict-common (λ z. h (e ∙ z)) ∙ sym e) h (q ∙ refused-is n s.tally h)
+  pub common-refused : (why : Refusal) → ◌≡◌ {A = Result (Unit {0}) Refusal} (Err why) (answer_of (first_no (common_of g s)) tt) → Did g s c (Err why) s
+  common-refused why e = refused-did (first_no (common_of g s)) why e (verdict-common (refused-not (first_no (common_of g s)) why tt e))
 
   -- ---- an accepted call
 
   pub done-sheet : verdict g s c ≡ 0 → effect g s c ≡ step g s c
   unfolding step
   done-sheet e = after-done (verdict g s c) (effect g s c) s e
+
+  -- what it did, by the sheet that it left
+  pub done-did : (t : Tally) (w : List Float) (f : List ℤ) (m : List ℕ) → Called g s c 0 (sheet w f m t.runs) → Did g s c (Ok t) (sheet w f m t.runs)
+  done-did t w f m d =
+      let given : Sheet → Result Tally Refusal = λ x. Ok (record { runs = x.tally }) in
+      record { answers = ap given d.leaves ∙ done-is (verdict g s c) _ (sym d.says); leaves = d.leaves }
+
+-- ---- the number of a call's answer
+
+pub verdict-low : (g : Study) (s : Sheet) (c : Call) → verdict g s c ≤ 22
+unfolding verdict
+verdict-low g s (run worker t b1 b2) = first-low (call_questions g s (run worker t b1 b2)) refl
+verdict-low g s (carry worker) = first-low (call_questions g s (carry worker)) refl
+verdict-low g s (average t ids1 ids2) = first-low (call_questions g s (average t ids1 ids2)) refl
+
+-- what a call came to, by what it did
+pub called : {g : Study} {s : Sheet} {c : Call} {a : Result Tally Refusal} {left : Sheet} → Did g s c a left → Called g s c (number_of a) left
+called {g} {s} {c} d = record { says = ap number_of d.answers ∙ number-is (verdict g s c) _ (verdict-low g s c); leaves = d.leaves }
 
 -- ---- what 14 says of a named piece, and 14 to 19 of an averaging
 
@@ -134,14 +158,6 @@ piece-on z t b1 b2 e =
         below-lt b2 z.bands2 (and_right (is_below t z.triplets && is_below b1 z.bands1) (is_below b2 z.bands2) e),
       ),
     )
-
--- the tally's answer by its number, and the tally that it gives
-module _ (tally : List ℕ) (worker : ℤ) (runs : ℕ) {a : SheetAnswer} (e : a ≡ added_to tally worker runs) where
-  pub added-no : {n : ℕ} → n ≡ answer_number a.answer → n ≡ first_no (tally_questions tally worker runs)
-  added-no h = h ∙ ap (λ (x : SheetAnswer). answer_number x.answer) e ∙ number_is (first_no (tally_questions tally worker runs))
-
-  pub added-runs : first_no (tally_questions tally worker runs) ≡ 0 → a.tally.runs ≡ with_runs tally worker runs
-  added-runs z = ap (λ (x : SheetAnswer). x.tally.runs) e ∙ sym (after-done (first_no (tally_questions tally worker runs)) (with_runs tally worker runs) tally z)
 
 module _ (z : Sizes) (marks : List ℕ) (t b1 b2 : ℤ) where
   piece-numbered : Numbered (piece_questions z marks t b1 b2)

@@ -14,7 +14,9 @@ use Rattle.triplet_piece.specs.Layout.{triplet_at}
 use Rattle.triplet_piece.specs.Weights.{computed_weights, computed_flags}
 use Rattle.averaging_blocks.specs.Weights.{averaged}
 use Rattle.averaging_flags.specs.Flags.{averaged_flags}
-use Rattle.sheet_tally.specs.declared.SheetAnswer.{SheetAnswer}
+use Rattle.std.specs.declared.result.Result.{Result}
+use Rattle.ask.specs.declared.refusal.Refusal.{Refusal}
+use Rattle.sheet_tally.specs.declared.Tally.{Tally}
 use Rattle.sheet_tally.specs.Tallies.{tally_questions, with_runs, sheet_answer}
 use Rattle.marks.specs.Bytes.{bytes_for, patch_marks}
 use Rattle.marks.specs.Marks.{is_open_at, are_marks, is_not_averaged, are_computed, open_pieces, carried_marks, averaged_marks}
@@ -148,16 +150,25 @@ effect g s (average t ids1 ids2) =
 unfoldable pub step : Study → Sheet → Call → Sheet
 step g s c = after_call (verdict g s c) (effect g s c) s
 
--- the answer of a call: done, or refused with the number of the first no, and the tally beside it
-abbrev pub step_answer : Study → Sheet → Call → SheetAnswer
-step_answer g s c = sheet_answer (verdict g s c) (step g s c).tally
+-- a call's number, 0 where it is done, otherwise that of the first no, and the tally beside it
+pub record Answered : Type 0 where
+  pub number : ℕ
+  pub tally : List ℕ
+
+-- both, from its parts
+abbrev pub answered : ℕ → List ℕ → Answered
+answered number tally = record { number = number; tally = tally }
+
+-- those of a call
+abbrev pub step_answer : Study → Sheet → Call → Answered
+step_answer g s c = answered (verdict g s c) (step g s c).tally
 
 -- What a call came to: the number of its first no, 0 where it is done, and the sheet that it left.
 pub record Called (g : Study) (s : Sheet) (c : Call) (number : ℕ) (left : Sheet) : Type 0 where
   pub says : number ≡ verdict g s c
   pub leaves : left ≡ step g s c
 
--- What a call did: its answer, and the sheet that it left.
-pub record Did (g : Study) (s : Sheet) (c : Call) (answer : SheetAnswer) (left : Sheet) : Type 0 where
-  pub answers : answer ≡ step_answer g s c
+-- What a call did: the tally that it gave or why it was refused, and the sheet that it left.
+pub record Did (g : Study) (s : Sheet) (c : Call) (answer : Result Tally Refusal) (left : Sheet) : Type 0 where
+  pub answers : answer ≡ sheet_answer (step_answer g s c).number (step_answer g s c).tally
   pub leaves : left ≡ step g s c

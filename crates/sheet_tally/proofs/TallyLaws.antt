@@ -1,4 +1,4 @@
--- The answer with the tally beside it: what the worker's sum and a full count give. Assumes nothing.
+-- What the worker's sum and a full count give. Assumes nothing.
 use mathlib.Core.Path.{◌≡◌, refl, sym, ap, ◌∙◌}
 use mathlib.Core.Bool.{Bool, true, false, ◌&&◌, cond}
 use mathlib.Core.List.{List}
@@ -15,17 +15,8 @@ use lib.Seq.{get_or-set_same, get_or-set_other}
 use Rattle.list_laws.proofs.BoolLaws.{and_left}
 use Rattle.list_laws.proofs.SignedLaws.{below-lt}
 use Rattle.ask.specs.Ask.{first_no, AllYes}
-use Rattle.ask.proofs.AskLaws.{all_yes, after-done, after-refused}
-use Rattle.sheet_tally.specs.Tallies.{sheet_answer, refused_with, is_worker, is_room, count_of, with_runs, tally_questions, added_to}
-
--- ---- the number of an answer
-
-pub refused-is : (n : ℕ) (tally : List ℕ) → (n ≡ 0 → ⊥) → refused_with n tally ≡ sheet_answer n tally
-refused-is zero tally h = absurd (h refl)
-refused-is (suc n) tally h = refl
-
-pub answer-done : (number : ℕ) (tally : List ℕ) → number ≡ 0 → sheet_answer 0 tally ≡ sheet_answer number tally
-answer-done number tally e = ap (λ (n : ℕ). sheet_answer n tally) (sym e)
+use Rattle.ask.proofs.AskLaws.{all_yes}
+use Rattle.sheet_tally.specs.Tallies.{is_worker, is_room, count_of, with_runs, tally_questions}
 
 -- ---- 20 of one count, by the room that it has
 
@@ -50,15 +41,6 @@ module _ (tally : List ℕ) (worker : ℤ) (runs : ℕ) where
   tally-yes e =
       let y : AllYes (tally_questions tally worker runs) = all_yes (tally_questions tally worker runs) (omega arith, (omega arith, tt)) e in
       (below-lt worker 16 y.0, ltb-true (count_of tally worker + runs) (2 ^ 63) y.1.0)
-
-  pub add-refused : (n : ℕ) → n ≡ first_no (tally_questions tally worker runs) → (n ≡ 0 → ⊥) → refused_with n tally ≡ added_to tally worker runs
-  add-refused n e h =
-      refused-is n tally h
-      ∙ (λ i. sheet_answer (e i) (after-refused (first_no (tally_questions tally worker runs)) (with_runs tally worker runs) tally (λ z. h (e ∙ z)) i))
-
-  pub add_done : (n : ℕ) → n ≡ first_no (tally_questions tally worker runs) → n ≡ 0 → sheet_answer 0 (with_runs tally worker runs) ≡ added_to tally worker runs
-  add_done n e z =
-      λ i. sheet_answer ((sym z ∙ e) i) (after-done (first_no (tally_questions tally worker runs)) (with_runs tally worker runs) tally (sym e ∙ z) i)
 
 -- ---- the sixteen counts after a worker's runs
 

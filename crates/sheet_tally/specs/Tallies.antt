@@ -1,20 +1,23 @@
--- The tally of accepted runs, sixteen counts, and the answer that it comes back with.
+-- The tally of accepted runs, sixteen counts, and the answer that gives it back.
 use Rattle.std.specs.Prelude.{Bool, List, [], ◌∷◌, ℕ, ◌+◌, ◌^◌, ltb, ℤ, get_or, set}
 use Rattle.std.specs.Int.Signed.{mag}
 use Rattle.list_laws.specs.Lists.{tabulate}
 use Rattle.list_laws.specs.Signed.{is_below}
-use Rattle.ask.specs.Ask.{Question, asks, first_no, after_call}
-use Rattle.ask.specs.declared.Answer.TheVariants.{Refused}
-use Rattle.ask.specs.Answers.{answer_of}
-use Rattle.sheet_tally.specs.declared.SheetAnswer.{SheetAnswer}
+use Rattle.std.specs.declared.result.Result.{Result}
+use Rattle.std.specs.declared.result.Result.TheVariants.{Ok, Err}
+use Rattle.ask.specs.Ask.{Question, asks, first_no}
+use Rattle.ask.specs.Refusals.{answer_of}
+use Rattle.ask.specs.declared.refusal.Refusal.{Refusal}
+use Rattle.sheet_tally.specs.declared.Tally.{Tally}
 
--- "the tally goes in by value and comes back": beside the answer
-abbrev pub sheet_answer : ℕ → List ℕ → SheetAnswer
-sheet_answer n tally = record { answer = answer_of n; tally = record { runs = tally } }
+-- "the tally goes in by value and comes back": the tally of a done call, or why the caller's stays
+abbrev pub sheet_answer : ℕ → List ℕ → Result Tally Refusal
+sheet_answer n tally = answer_of n (record { runs = tally })
 
--- a refusal
-abbrev pub refused_with : ℕ → List ℕ → SheetAnswer
-refused_with n tally = record { answer = Refused n; tally = record { runs = tally } }
+-- the counts that a caller holds after a call: those that it gave, or the caller's own
+abbrev pub runs_after : Result Tally Refusal → List ℕ → List ℕ
+runs_after (Ok tally) old = tally.runs
+runs_after (Err why) old = old
 
 -- Question 21: "is the worker 0 to 15"
 unfoldable pub is_worker : ℤ → Bool
@@ -40,7 +43,6 @@ with_runs tally worker runs = set tally (mag worker) (count_of tally worker + ru
 abbrev pub tally_questions : List ℕ → ℤ → ℕ → List Question
 tally_questions tally worker runs = asks 21 (is_worker worker) ∷ asks 20 (is_room (count_of tally worker) runs) ∷ []
 
--- "adds accepted runs or reports full": the tally with the worker's runs, and the old one after a no
-abbrev pub added_to : List ℕ → ℤ → ℕ → SheetAnswer
-added_to tally worker runs =
-    sheet_answer (first_no (tally_questions tally worker runs)) (after_call (first_no (tally_questions tally worker runs)) (with_runs tally worker runs) tally)
+-- "adds accepted runs or reports full": the tally with the worker's runs, or why it stays
+abbrev pub added_to : List ℕ → ℤ → ℕ → Result Tally Refusal
+added_to tally worker runs = sheet_answer (first_no (tally_questions tally worker runs)) (with_runs tally worker runs)

@@ -1,39 +1,17 @@
 // The tally's questions and sums, for the sheet's calls.
 ghost use Rattle.std.specs.Prelude.{◌≡◌};
 ghost use Rattle.ask.specs.Ask.{first_no};
-ghost use Rattle.sheet_tally.specs.Tallies.{refused_with, sheet_answer, is_room, tally_questions, with_runs};
+ghost use Rattle.ask.specs.Refusals.{answer_of};
+ghost use Rattle.sheet_tally.specs.Tallies.{is_room, tally_questions, with_runs};
 
-use crate::{SheetAnswer, Tally};
-use ask::Answer;
+use crate::Tally;
+use ask::Refusal;
 
 // How many workers there are.
 pub const WORKERS: usize = 16;
 
 // 2^63
 pub const FULL: u64 = 0x8000_0000_0000_0000;
-
-// A refusal: the tally stays.
-pub fn refused(number: u64, tally: Tally) -> SheetAnswer
-    ensures { result ≡ refused_with number tally.runs }
-{
-    SheetAnswer {
-        answer: Answer::Refused(number),
-        tally,
-    }
-}
-
-// The answer of a call by its number and the tally after it.
-pub fn answer_of(no: u64, tally: Tally) -> SheetAnswer
-    ensures { result ≡ sheet_answer no tally.runs }
-{
-    if no != 0 {
-        return refused(no, tally);
-    }
-    SheetAnswer {
-        answer: Answer::Done,
-        tally,
-    }
-}
 
 // Question 20, of one count.
 fn room_ok(before: u64, runs: u64) -> bool
@@ -45,18 +23,18 @@ fn room_ok(before: u64, runs: u64) -> bool
     false
 }
 
-// Questions 21 and 20: the number of the first that is answered no, or 0.
-pub fn tally_first_no(tally: Tally, worker: i64, runs: u64) -> u64
-    ensures { result ≡ first_no (tally_questions tally.runs worker runs) }
+// Questions 21 and 20.
+pub fn ask_tally(tally: Tally, worker: i64, runs: u64) -> Result<(), Refusal>
+    ensures { result ≡ answer_of (first_no (tally_questions tally.runs worker runs)) tt }
 {
     let counts = tally.runs;
     if !numbers::kernel::is_below(worker, WORKERS) {
-        return questions::BAD_WORKER;
+        return Err(Refusal::Worker);
     }
     if !room_ok(counts[numbers::kernel::magnitude(worker)], runs) {
-        return questions::TALLY_FULL;
+        return Err(Refusal::TallyFull);
     }
-    0
+    Ok(())
 }
 
 // The tally in which a worker's count has grown by its runs, to which 21 and 20 say yes.

@@ -3,9 +3,10 @@
 #![tactic(auto)]
 
 ghost use Rattle.std.specs.Prelude.{◌≡◌};
-ghost use Rattle.sheet_tally.specs.Tallies.{added_to};
+ghost use Rattle.ask.specs.Refusals.{number_of};
+ghost use Rattle.sheet_tally.specs.Tallies.{added_to, runs_after};
 
-use ask::Answer;
+use ask::Refusal;
 
 pub mod kernel;
 
@@ -15,25 +16,35 @@ pub struct Tally {
     pub runs: [u64; 16],
 }
 
-// What comes back: the answer, and the tally beside it, the old one after a refusal.
+// An answer as a number, 0 where the call is done, and the tally that the caller then holds.
 #[derive(Clone, Copy)]
-pub struct SheetAnswer {
-    pub answer: Answer,
+pub struct Answered {
+    pub number: u64,
     pub tally: Tally,
 }
 
+impl Answered {
+    // The answer to a call that took the tally `before`.
+    pub fn new(answer: Result<Tally, Refusal>, before: Tally) -> Answered
+        ensures number { result.number ≡ number_of answer }
+        ensures tally { result.tally.runs ≡ runs_after answer before.runs }
+    {
+        match answer {
+            Ok(tally) => Answered { number: 0, tally },
+            Err(why) => Answered {
+                number: why.number(),
+                tally: before,
+            },
+        }
+    }
+}
+
 impl Tally {
-    // Adds a worker's accepted runs, or reports that there is no such worker (question 21) or that its count is full (question 20).
-    pub fn add(self, worker: i64, runs: u64) -> SheetAnswer
+    // The tally with a worker's accepted runs. Question 21: is there such a worker; 20: has its count room.
+    pub fn add(self, worker: i64, runs: u64) -> Result<Tally, Refusal>
         ensures { result ≡ added_to self.runs worker runs }
     {
-        let no = kernel::tally_first_no(self, worker, runs);
-        if no != 0 {
-            return kernel::refused(no, self);
-        }
-        SheetAnswer {
-            answer: Answer::Done,
-            tally: kernel::with_runs(self, worker, runs),
-        }
+        kernel::ask_tally(self, worker, runs)?;
+        Ok(kernel::with_runs(self, worker, runs))
     }
 }

@@ -1,3 +1,2 @@
 -- Laws that several proofs cite.
-pub mod EntryLaws
 pub mod TurnLaws

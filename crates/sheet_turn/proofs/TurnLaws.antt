@@ -10,7 +10,11 @@ use lib.IntN.{ℤ}
 use lib.ListN.{length}
 use lib.Signed.{mag}
 use Rattle.list_laws.proofs.ProductLaws.{digit_lt}
+use Rattle.std.specs.declared.result.Result.{Result}
+use Rattle.std.specs.declared.result.Result.TheVariants.{Err}
 use Rattle.ask.specs.Ask.{first_no}
+use Rattle.ask.specs.Refusals.{answer_of}
+use Rattle.ask.specs.declared.refusal.Refusal.{Refusal}
 use Rattle.triplet_study.specs.declared.Sizes.{Sizes}
 use Rattle.triplet_study.specs.Study.{Study, sizes_of}
 use Rattle.triplet_study.specs.Tested.{Counted, Ready}
@@ -18,17 +22,14 @@ use Rattle.triplet_piece.specs.Weights.{computed_weights, computed_flags, AreCom
 use Rattle.sheet_tally.specs.Tallies.{tally_questions, with_runs}
 use Rattle.marks.specs.Bytes.{patch_marks, places_in, Holds}
 use Rattle.marks.proofs.BytesLaws.{place_in}
-use Rattle.sheet_step.specs.Steps.{Sheet, sheet, Call, run, piece_questions, piece_of, pieces_of, verdict, effect, Called}
+use Rattle.sheet_step.specs.Steps.{Sheet, sheet, Call, run, piece_questions, piece_of, pieces_of, verdict, effect, Called, Did}
 use Rattle.sheet_step.proofs.CountLaws.{pieces-few}
-use Rattle.sheet_step.proofs.StepLaws.{verdict-own, counts-yes, lengths-yes, ready-yes, run-yes, refused-sheet, done-sheet}
+use Rattle.sheet_step.proofs.StepLaws.{verdict-own, counts-yes, lengths-yes, ready-yes, run-yes, refused-did, done-sheet}
 use Rattle.sheet_turn.specs.Turns.{common_no}
 
--- ---- one call, refused or done
+-- ---- one call that is done
 
 module _ (g : Study) (s : Sheet) (c : Call) where
-  pub called-no : (n : ℕ) → verdict g s c ≡ n → (n ≡ 0 → ⊥) → Called g s c n s
-  called-no n e h = record { says = sym e; leaves = refused-sheet g s c n e h }
-
   pub called-yes : (tally : List ℕ) (w : List Float) (f : List ℤ) (m : List ℕ) → verdict g s c ≡ 0 → tally ≡ (effect g s c).tally
       → w ≡ (effect g s c).weights → f ≡ (effect g s c).flags → m ≡ (effect g s c).marks → Called g s c 0 (sheet w f m tally)
   called-yes tally w f m e er ew ef em = record { says = sym e; leaves = (λ i. sheet (ew i) (ef i) (em i) (er i)) ∙ done-sheet g s c e }
@@ -51,8 +52,9 @@ module _ (g : Study) (s : Sheet) {z : Sizes} (y : common_no g s ≡ 0) (ez : z �
     own-run : first_no (piece_questions z s.marks t b1 b2 ++ tally_questions s.tally worker 1) ≡ verdict g s (run worker t b1 b2)
     own-run = ap (λ (x : Sizes). first_no (piece_questions x s.marks t b1 b2 ++ tally_questions s.tally worker 1)) ez ∙ sym (verdict-own g s (run worker t b1 b2) y)
 
-    pub run-no : {n : ℕ} → n ≡ first_no (piece_questions z s.marks t b1 b2 ++ tally_questions s.tally worker 1) → (n ≡ 0 → ⊥) → Called g s (run worker t b1 b2) n s
-    run-no {n} e h = called-no g s (run worker t b1 b2) n (sym (e ∙ own-run)) h
+    pub run-no : (why : Refusal) → ◌≡◌ {A = Result (Unit {0}) Refusal} (Err why) (answer_of (first_no (piece_questions z s.marks t b1 b2 ++ tally_questions s.tally worker 1)) tt)
+        → Did g s (run worker t b1 b2) (Err why) s
+    run-no why e = refused-did g s (run worker t b1 b2) _ why e (sym own-run)
 
     -- the piece by numbers
     module _ (e : first_no (piece_questions z s.marks t b1 b2 ++ tally_questions s.tally worker 1) ≡ 0) (nt n1 n2 : ℕ) (et : nt ≡ mag t) (e1 : n1 ≡ mag b1) (e2 : n2 ≡ mag b2) where

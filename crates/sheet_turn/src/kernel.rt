@@ -1,144 +1,62 @@
 // For the crates above, on a sheet whose questions 3 to 13 say yes.
 ghost use Rattle.std.specs.Prelude.{◌++◌, ◌≡◌};
 ghost use Rattle.ask.specs.Ask.{first_no};
-ghost use Rattle.triplet_study.specs.Lent.{study_now, study_in};
-ghost use Rattle.sheet_tally.specs.Tallies.{tally_questions};
+ghost use Rattle.sheet_tally.specs.Tallies.{tally_questions, runs_after};
 ghost use Rattle.sheet_step.specs.Lent.{sheet_in, sheet_out};
-ghost use Rattle.sheet_step.specs.Steps.{run, piece_questions, Called};
-ghost use Rattle.sheet_fill.specs.Kept.{Kept};
-ghost use Rattle.sheet_turn.specs.Turns.{sheet_now, common_no, Prepared};
+ghost use Rattle.sheet_step.specs.Steps.{run, piece_questions, Called, Did};
+ghost use Rattle.sheet_fill.specs.Kept.{Keeps, study_in};
+ghost use Rattle.sheet_turn.specs.Turns.{sheet_now, common_no};
 
-use crate::Turn;
+use ask::Refusal;
 use marks::kernel as mark;
+use sheet_fill::{PreparedStudy, Work};
+use sheet_step::NamedPiece;
 use sheet_step::kernel::asks;
 use sheet_tally::Tally;
-use triplet_study::Sizes;
 
-// Runs the piece of a triplet and two bands, to which 14, 15, 21 and 20 say yes.
+// Runs a named piece, to which 14, 15, 21 and 20 say yes.
 pub fn run_accepted(
-    frequencies: &mut [[f64; 384]; 2],
-    channels: &mut [[f64; 384]; 3],
-    places: &mut [[usize; 96]; 3],
-    numbers: &mut [[usize; 384]; 2],
+    work: &mut Work,
     weights: &mut [f64],
     flags: &mut [i8],
     marks: &mut [u8],
-    z: Sizes,
-    addresses: &[i64],
-    gp_map: &[i64],
-    steps: &[i64],
-    second: &[i64],
-    frequencies1: &[f64],
-    frequencies2: &[f64],
-    points: &[f64],
-    triplets: &[i64],
+    prepared: &PreparedStudy,
     tally: Tally,
     worker: i64,
-    held: usize,
-    triplet: i64,
-    b1: i64,
-    b2: i64,
-) -> Turn
-    requires runs_value { (common_no (study_now z.shape addresses gp_map steps frequencies1 frequencies2 points triplets) (sheet_now weights flags marks tally.runs) ≡ 0) × Prepared (study_now z.shape addresses gp_map steps frequencies1 frequencies2 points triplets) z second.now }
-    requires worker_value { (first_no (piece_questions z marks.old triplet b1 b2 ++ tally_questions tally.runs worker 1) ≡ 0) × Kept (study_now z.shape addresses gp_map steps frequencies1 frequencies2 points triplets) z.triplets held frequencies.old channels.old places.old numbers.old }
-    ensures called { Called (study_in z.shape addresses gp_map steps frequencies1 frequencies2 points triplets) (sheet_in weights flags marks tally.runs) (run worker triplet b1 b2) result.no (sheet_out weights flags marks result.tally.runs) }
-    ensures kept { Kept (study_in z.shape addresses gp_map steps frequencies1 frequencies2 points triplets) z.triplets result.held frequencies.new channels.new places.new numbers.new }
+    piece: NamedPiece,
+) -> Tally
+    requires common { common_no (study_in prepared.now) (sheet_now weights flags marks tally.runs) ≡ 0 }
+    requires own { first_no (piece_questions prepared.now.tested.sizes marks.old piece.triplet piece.b1 piece.b2 ++ tally_questions tally.runs worker 1) ≡ 0 }
+    requires kept { Keeps (study_in prepared.now) prepared.now.tested.sizes.triplets work.old }
+    ensures called { Called (study_in prepared.now) (sheet_in weights flags marks tally.runs) (run worker piece.triplet piece.b1 piece.b2) 0 (sheet_out weights flags marks result.runs) }
+    ensures keeps { Keeps (study_in prepared.now) prepared.now.tested.sizes.triplets work.new }
 {
-    let t = numbers::kernel::magnitude(triplet);
-    let n1 = numbers::kernel::magnitude(b1);
-    let n2 = numbers::kernel::magnitude(b2);
-    sheet_fill::kernel::run::fill_named(
-        frequencies,
-        channels,
-        places,
-        numbers,
-        weights,
-        flags,
-        z,
-        addresses,
-        gp_map,
-        steps,
-        second,
-        frequencies1,
-        frequencies2,
-        points,
-        triplets,
-        held,
-        t,
-        n1,
-        n2,
-    );
-    let pairs = z.pairs;
-    let bands2 = z.bands2;
+    let t = numbers::kernel::magnitude(piece.triplet);
+    let n1 = numbers::kernel::magnitude(piece.b1);
+    let n2 = numbers::kernel::magnitude(piece.b2);
+    sheet_fill::kernel::run::fill_named(work, weights, flags, prepared, t, n1, n2);
+    let pairs = prepared.tested.sizes.pairs;
+    let bands2 = prepared.tested.sizes.bands2;
     mark::set_mark(marks, t * pairs + (n1 * bands2 + n2), mark::COMPUTED);
-    let next = sheet_tally::kernel::with_runs(tally, worker, 1);
-    Turn {
-        no: 0,
-        tally: next,
-        held: t,
-    }
+    sheet_tally::kernel::with_runs(tally, worker, 1)
 }
 
-// Runs the piece of a triplet and two bands. Questions 14, 15, 21, 20.
+// Runs a named piece. Questions 14, 15, 21, 20.
 pub fn run_asked(
-    frequencies: &mut [[f64; 384]; 2],
-    channels: &mut [[f64; 384]; 3],
-    places: &mut [[usize; 96]; 3],
-    numbers: &mut [[usize; 384]; 2],
+    work: &mut Work,
     weights: &mut [f64],
     flags: &mut [i8],
     marks: &mut [u8],
-    z: Sizes,
-    addresses: &[i64],
-    gp_map: &[i64],
-    steps: &[i64],
-    second: &[i64],
-    frequencies1: &[f64],
-    frequencies2: &[f64],
-    points: &[f64],
-    triplets: &[i64],
+    prepared: &PreparedStudy,
     tally: Tally,
     worker: i64,
-    held: usize,
-    triplet: i64,
-    b1: i64,
-    b2: i64,
-) -> Turn
-    requires runs_value { (common_no (study_now z.shape addresses gp_map steps frequencies1 frequencies2 points triplets) (sheet_now weights flags marks tally.runs) ≡ 0) × Prepared (study_now z.shape addresses gp_map steps frequencies1 frequencies2 points triplets) z second.now }
-    requires kept { Kept (study_now z.shape addresses gp_map steps frequencies1 frequencies2 points triplets) z.triplets held frequencies.old channels.old places.old numbers.old }
-    ensures called { Called (study_in z.shape addresses gp_map steps frequencies1 frequencies2 points triplets) (sheet_in weights flags marks tally.runs) (run worker triplet b1 b2) result.no (sheet_out weights flags marks result.tally.runs) }
-    ensures kept_2 { Kept (study_in z.shape addresses gp_map steps frequencies1 frequencies2 points triplets) z.triplets result.held frequencies.new channels.new places.new numbers.new }
+    piece: NamedPiece,
+) -> Result<Tally, Refusal>
+    requires common { common_no (study_in prepared.now) (sheet_now weights flags marks tally.runs) ≡ 0 }
+    requires kept { Keeps (study_in prepared.now) prepared.now.tested.sizes.triplets work.old }
+    ensures did { Did (study_in prepared.now) (sheet_in weights flags marks tally.runs) (run worker piece.triplet piece.b1 piece.b2) result (sheet_out weights flags marks (runs_after result tally.runs)) }
+    ensures keeps { Keeps (study_in prepared.now) prepared.now.tested.sizes.triplets work.new }
 {
-    let own = asks::run_first_no(z, marks, tally, worker, triplet, b1, b2);
-    if own != 0 {
-        return Turn {
-            no: own,
-            tally,
-            held,
-        };
-    }
-    run_accepted(
-        frequencies,
-        channels,
-        places,
-        numbers,
-        weights,
-        flags,
-        marks,
-        z,
-        addresses,
-        gp_map,
-        steps,
-        second,
-        frequencies1,
-        frequencies2,
-        points,
-        triplets,
-        tally,
-        worker,
-        held,
-        triplet,
-        b1,
-        b2,
-    )
+    asks::ask_run(&prepared.tested, marks, tally, worker, piece)?;
+    Ok(run_accepted(work, weights, flags, marks, prepared, tally, worker, piece))
 }

@@ -1,37 +1,22 @@
 -- A status in place of an answer that holds a value: the number of a refusal, or 0, is the number of the first no. Assumes nothing.
-use mathlib.Core.Path.{◌≡◌, refl, ap}
-use mathlib.Core.Bool.{Bool}
-use Prim.Native.Nat.{ℕ, zero, suc}
+use mathlib.Core.Path.{◌≡◌, refl, ap, ◌∙◌}
+use Prim.Native.Nat.{ℕ, zero, suc, ◌≤◌}
 use native.Mathlib.Omega.{arith}
 use lib.Ieee.{Float}
+use Rattle.std.specs.declared.result.Result.TheVariants.{Ok, Err}
 use Rattle.ask.specs.Ask.{after_call}
-use Rattle.triplet_addresses.specs.Normal.{is_n_answer}
-use Rattle.triplet_addresses.specs.declared.IsNAnswer.TheVariants as is-n
-use Rattle.tetrahedron_method.specs.Answer.{answered}
-use Rattle.tetrahedron_method.specs.declared.WeightAnswer.TheVariants as weight
-use Rattle.open_count.specs.OpenCount.{open_answer}
-use Rattle.open_count.specs.declared.OpenAnswer.TheVariants as count
+use Rattle.ask.specs.Refusals.{answer_of, number_of, refusal_number}
+use Rattle.ask.specs.declared.refusal.Refusal.{Refusal}
+use Rattle.ask.proofs.AskLaws.{after-refused}
+use Rattle.ask.proofs.RefusalLaws.{number-is, refused-not}
 
-pub count-done : (v n x old : ℕ) → count.Open x ≡ open_answer v n → (0 ≡ v) × (x ≡ after_call v n old)
-count-done zero n x old h = (refl, cc)
-count-done (suc v) n x old h = absurd (let z : ◌≡◌ {A = ℕ} 0 1 = cc in omega arith)
+-- ---- of an answer as a Result
 
-pub count-refused : (v n k old : ℕ) → count.Refused k ≡ open_answer v n → (k ≡ v) × (old ≡ after_call v n old)
-count-refused zero n k old h = absurd (let z : ◌≡◌ {A = ℕ} 0 1 = cc in omega arith)
-count-refused (suc v) n k old h = (cc, refl)
+-- a call that gives x, of which the status leaves f x
+pub value-done : {A B : Type 0} (v : ℕ) (n x : A) (f : A → B) (old : B) → Ok x ≡ answer_of v n → (0 ≡ v) × (f x ≡ after_call v (f n) old)
+value-done zero n x f old h = (refl, ap f (let e : x ≡ n = cc in e))
+value-done (suc v) n x f old h = absurd (cc h)
 
-pub weight-done : (v : ℕ) (n x old : Float) → weight.Weight x ≡ answered v n → (0 ≡ v) × (x ≡ after_call v n old)
-weight-done zero n x old h = (refl, cc)
-weight-done (suc v) n x old h = absurd (let z : ◌≡◌ {A = ℕ} 0 1 = cc in omega arith)
-
-pub weight-refused : (v : ℕ) (n : Float) (k : ℕ) (old : Float) → weight.Refused k ≡ answered v n → (k ≡ v) × (old ≡ after_call v n old)
-weight-refused zero n k old h = absurd (let z : ◌≡◌ {A = ℕ} 0 1 = cc in omega arith)
-weight-refused (suc v) n k old h = (cc, refl)
-
-pub normal-done : (v : ℕ) (n x : Bool) (f : Bool → ℕ) (old : ℕ) → is-n.Normal x ≡ is_n_answer v n → (0 ≡ v) × (f x ≡ after_call v (f n) old)
-normal-done zero n x f old h = (refl, ap f (let e : x ≡ n = cc in e))
-normal-done (suc v) n x f old h = absurd (let z : ◌≡◌ {A = ℕ} 0 1 = cc in omega arith)
-
-pub normal-refused : (v : ℕ) (n : Bool) (k : ℕ) (f : Bool → ℕ) (old : ℕ) → is-n.Refused k ≡ is_n_answer v n → (k ≡ v) × (old ≡ after_call v (f n) old)
-normal-refused zero n k f old h = absurd (let z : ◌≡◌ {A = ℕ} 0 1 = cc in omega arith)
-normal-refused (suc v) n k f old h = (cc, refl)
+-- a refused call leaves what stood there
+pub value-refused : {A B : Type 0} (v : ℕ) (n : A) (why : Refusal) (new old : B) → v ≤ 22 → Err why ≡ answer_of v n → (refusal_number why ≡ v) × (old ≡ after_call v new old)
+value-refused v n why new old low h = (ap number_of h ∙ number-is v n low, after-refused v new old (refused-not v why n h))

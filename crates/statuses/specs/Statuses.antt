@@ -2,7 +2,6 @@
 use Rattle.std.specs.Prelude.{Bool, cond, List, [], ◌∷◌, ℕ, eqb, ℤ}
 use Rattle.ask.specs.Ask.{Question, asks}
 use Rattle.question_grids.specs.Grids.{is_mesh}
-use Rattle.question_values.specs.TpTypes.{is_tp_type}
 use Rattle.tetrahedron_method.specs.declared.WeightFunction.{WeightFunction}
 use Rattle.tetrahedron_method.specs.declared.WeightFunction.TheVariants.{I, J}
 
@@ -17,7 +16,3 @@ one_of b = cond b 1 0
 -- the grid index: "Is each mesh number .. (the grid index alone: 1 to 256, its address any)? No: 4."
 abbrev pub index_questions : List ℤ → List Question
 index_questions diag = asks 4 (is_mesh 256 diag) ∷ []
-
--- "Is the type 2, 3 or 4? No: 8"
-abbrev pub type_questions : ℤ → List Question
-type_questions tp = asks 8 (is_tp_type tp) ∷ []

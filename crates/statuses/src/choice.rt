@@ -4,25 +4,20 @@ ghost use Rattle.statuses.specs.Statuses.{function_of, one_of};
 
 use tetrahedron_method::WeightFunction;
 
-// The letter I in ASCII.
-const LETTER_I: u8 = 73;
-
-// The weight that a letter names: I, or J by any other byte.
+// The weight that a letter names: I, or J by any other byte, so that there is nothing to refuse.
 pub fn function_of(letter: u8) -> WeightFunction
     ensures { result ≡ function_of letter }
 {
-    if letter == LETTER_I {
-        return WeightFunction::I;
+    if letter == b'I' {
+        WeightFunction::I
+    } else {
+        WeightFunction::J
     }
-    WeightFunction::J
 }
 
 // 1 for yes, 0 for no.
 pub fn one_of(yes: bool) -> u8
     ensures { result ≡ one_of yes }
 {
-    if yes {
-        return 1;
-    }
-    0
+    u8::from(yes)
 }

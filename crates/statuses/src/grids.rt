@@ -6,9 +6,6 @@ ghost use Rattle.common.specs.Matrix.{matvec_of, matvec_questions};
 ghost use Rattle.grgrid.specs.Index.{address_of, grid_index};
 ghost use Rattle.statuses.specs.Statuses.{index_questions};
 
-use ask::kernel::number_of;
-use grgrid::IndexAnswer;
-
 // The grid index of an address, behind `index`. Question 4, with mesh numbers from 1 to 256.
 pub fn grid_index_from_address(address: [i64; 3], d_diag: [i64; 3], index: &mut i64) -> u64
     ensures value { result ≡ first_no (index_questions d_diag) }
@@ -16,11 +13,11 @@ pub fn grid_index_from_address(address: [i64; 3], d_diag: [i64; 3], index: &mut 
         (pos (grid_index (address_of address) (mesh_of d_diag))) index.old }
 {
     match grgrid::grid_index_from_address(address, d_diag) {
-        IndexAnswer::Index(g) => {
+        Ok(g) => {
             *index = g;
             0
         }
-        IndexAnswer::Refused(number) => number,
+        Err(why) => why.number(),
     }
 }
 
@@ -30,13 +27,11 @@ pub fn matvec_di(a: &[[f64; 3]; 3], b: [i64; 3], product: &mut [f64; 3]) -> u64
     ensures product_after { product.new ≡ after_call (first_no (matvec_questions a.now b)) (matvec_of a.now b) product.old }
 {
     let matrix = *a;
-    let done = common::matvec_di(matrix, b);
-    let answer = done.answer;
-    let no = number_of(answer);
-    if no != 0 {
-        return no;
+    match common::matvec_di(matrix, b) {
+        Ok(times) => {
+            *product = times;
+            0
+        }
+        Err(why) => why.number(),
     }
-    let times = done.vector;
-    *product = times;
-    0
 }

@@ -4,8 +4,6 @@ ghost use Rattle.ask.specs.Ask.{first_no, after_call};
 ghost use Rattle.sheet_tally.specs.Tallies.{tally_questions, with_runs};
 ghost use Rattle.open_count.specs.OpenCount.{open_no, open_entries};
 
-use ask::kernel::number_of;
-use open_count::OpenAnswer;
 use sheet_counts::Counts;
 use sheet_tally::Tally;
 
@@ -22,11 +20,11 @@ pub fn open_count(
         (open_entries tp_type counts weights.now triplet) count.old }
 {
     match open_count::open_count(tp_type, counts, weights, triplet) {
-        OpenAnswer::Open(entries) => {
+        Ok(entries) => {
             *count = entries;
             0
         }
-        OpenAnswer::Refused(number) => number,
+        Err(why) => why.number(),
     }
 }
 
@@ -37,10 +35,12 @@ pub fn tally_add(tally: &mut [u64; 16], worker: i64, runs: u64) -> u64
 {
     let before = *tally;
     let counted = Tally { runs: before };
-    let added = counted.add(worker, runs);
-    let sum = added.tally;
-    let counts = sum.runs;
-    *tally = counts;
-    let answer = added.answer;
-    number_of(answer)
+    match counted.add(worker, runs) {
+        Ok(sum) => {
+            let counts = sum.runs;
+            *tally = counts;
+            0
+        }
+        Err(full) => full.number(),
+    }
 }

@@ -9,8 +9,6 @@ ghost use Rattle.tetrahedron_method.specs.Weight.{weight_of};
 ghost use Rattle.statuses.specs.Statuses.{function_of};
 
 use crate::choice;
-use ask::kernel::number_of;
-use tetrahedron_method::WeightAnswer;
 
 // The table whose main diagonal is shortest, the first on a tie, and its number behind `index`. The columns of `rec_lattice` are the edges of
 // one cell of the mesh: column j is reciprocal basis vector j divided by mesh number j, as phono3py has it. A diagonal is `rec_lattice`
@@ -26,16 +24,15 @@ pub fn relative_grid_address(
     ensures index_after { index.new ≡ after_call (first_no (lattice_questions rec_lattice.now)) (main_diagonal_of rec_lattice.now) index.old }
 {
     let lattice = *rec_lattice;
-    let done = relative_grid_address::relative_grid_address(lattice);
-    let answer = done.answer;
-    let no = number_of(answer);
-    if no != 0 {
-        return no;
+    match relative_grid_address::relative_grid_address(lattice) {
+        Ok(chosen) => {
+            let numbers = chosen.numbers;
+            *table = numbers;
+            *index = chosen.index;
+            0
+        }
+        Err(why) => why.number(),
     }
-    let chosen = done.table;
-    *table = chosen;
-    *index = done.index;
-    0
 }
 
 // One weight over directly given vertices, behind `weight`; `letter` 'I' (73) asks for the density's weight, any other byte for that of the
@@ -52,10 +49,10 @@ pub fn integration_weight(
 {
     let function = choice::function_of(letter);
     match tetrahedron_method::integration_weight(omega, tetrahedra_omegas, function) {
-        WeightAnswer::Weight(w) => {
+        Ok(w) => {
             *weight = w;
             0
         }
-        WeightAnswer::Refused(number) => number,
+        Err(why) => why.number(),
     }
 }

@@ -1,13 +1,12 @@
 // What the Rust has in triplet.rs and triplet_iw.rs.
 ghost use Rattle.std.specs.Prelude.{◌≡◌};
 ghost use Rattle.ask.specs.Ask.{first_no, after_call};
-ghost use Rattle.triplet_types.specs.Types.{tp_type_of, channel_count};
+ghost use Rattle.triplet_types.specs.Types.{type_questions, tp_type_of, channel_count};
 ghost use Rattle.triplet_addresses.specs.Normal.{is_n_questions, is_normal};
-ghost use Rattle.statuses.specs.Statuses.{one_of, type_questions};
+ghost use Rattle.statuses.specs.Statuses.{one_of};
 
 use crate::choice;
-use triplet_addresses::IsNAnswer;
-use triplet_types::{TpType, TpTypeAnswer};
+use triplet_types::TpType;
 
 // Whether the three addresses of a triplet add to zero: 1 or 0, behind `normal`. Questions 5 (without the count) and 10.
 pub fn is_n(triplet: [i64; 3], bz_grid_addresses: &[i64], normal: &mut u8) -> u64
@@ -16,11 +15,11 @@ pub fn is_n(triplet: [i64; 3], bz_grid_addresses: &[i64], normal: &mut u8) -> u6
         (one_of (is_normal triplet bz_grid_addresses.now)) normal.old }
 {
     match triplet_addresses::is_n(triplet, bz_grid_addresses) {
-        IsNAnswer::Normal(yes) => {
+        Ok(yes) => {
             *normal = choice::one_of(yes);
             0
         }
-        IsNAnswer::Refused(number) => number,
+        Err(why) => why.number(),
     }
 }
 
@@ -29,11 +28,11 @@ pub fn num_channels(tp_type: i64, channels: &mut usize) -> u64
     ensures value { result ≡ first_no (type_questions tp_type) }
     ensures channels_after { channels.new ≡ after_call (first_no (type_questions tp_type)) (channel_count (tp_type_of tp_type)) channels.old }
 {
-    match TpType::try_from_i64(tp_type) {
-        TpTypeAnswer::Known(tp) => {
+    match TpType::try_from(tp_type) {
+        Ok(tp) => {
             *channels = tp.num_channels();
             0
         }
-        TpTypeAnswer::Refused(number) => number,
+        Err(why) => why.number(),
     }
 }

@@ -1,19 +1,18 @@
 -- The parts of a study, by what each section is. Assumes nothing.
-use mathlib.Core.Path.{◌≡◌, refl, ap, ◌∙◌}
+use mathlib.Core.Path.{◌≡◌, ◌∙◌}
 use mathlib.Core.Bool.{true, false}
 use mathlib.Core.List.{List}
-use Prim.Native.Nat.{ℕ, suc, ◌+◌, ◌≤◌, ◌<◌}
-use native.Mathlib.Omega.{arith}
+use Prim.Native.Nat.{ℕ, ◌≤◌, ◌<◌}
 use lib.IntN.{ℤ}
-use lib.ListN.{length, drop}
-use borrow.Author.Tests.{le-leb, lt-leb, ne_eqb}
-use Rattle.text.specs.Pieces.{index, ended}
-use Rattle.text.proofs.FieldLaws.{drop_past}
-use Rattle.text.proofs.PieceLaws.{ended-step}
+use lib.ListN.{length}
+use borrow.Author.Tests.{le-leb, lt-leb}
+use lib.Dec.{eqb}
+use Rattle.std.specs.Prelude.{Some, None}
+use Rattle.text.specs.Pieces.{ended}
 use Rattle.sections.specs.Lines.{read, wrong, rows, whole_field, pattern_field}
 use Rattle.study_head.specs.declared.Head.{Head}
 use Rattle.study_head.specs.Heads.{head_part, ends_line}
-use Rattle.study.specs.Studies.{addr_tag, map_tag, f1_tag, f2_tag, point_tag, triplet_tag, grid_part, floats_part, holds, holds_none, whole, study_of_lines, study_in}
+use Rattle.study.specs.Studies.{addr_tag, map_tag, f1_tag, f2_tag, point_tag, triplet_tag, grid_part, floats_part, whole, study_of_lines, study_in}
 
 -- ---- addresses and map
 
@@ -55,11 +54,11 @@ module _ (ls : List (List ℕ)) where
 -- ---- the whole
 
 module _ (text : List ℕ) where
-  pub too_long : 16384 < length text → study_in text ≡ holds_none
+  pub too_long : 16384 < length text → study_in text ≡ None
   unfolding study_in
   too_long h = rw (lt-leb (length text) 16384 h)
 
-  pub not-ended : length text ≤ 16384 → ends_line text ≡ false → study_in text ≡ holds_none
+  pub not-ended : length text ≤ 16384 → ends_line text ≡ false → study_in text ≡ None
   unfolding study_in
   not-ended l e = rw (le-leb (length text) 16384 l, e)
 
@@ -68,32 +67,30 @@ module _ (text : List ℕ) where
     unfolding study_in
     of-lines = rw (le-leb (length text) 16384 l, n)
 
-    pub no-head : head_part (ended 10 text) ≡ wrong → study_in text ≡ holds_none
+    pub no-head : head_part (ended 10 text) ≡ wrong → study_in text ≡ None
     unfolding study_of_lines whole
     no-head e = of-lines ∙ rw e
 
     module _ (h : Head) (ls₁ : List (List ℕ)) (e : head_part (ended 10 text) ≡ read h ls₁) where
-      pub no-grid-part : grid_part ls₁ ≡ wrong → study_in text ≡ holds_none
+      pub no-grid-part : grid_part ls₁ ≡ wrong → study_in text ≡ None
       unfolding study_of_lines whole
       no-grid-part f = of-lines ∙ rw (e, f)
 
       module _ (g : List ℤ × List ℤ) (ls₂ : List (List ℕ)) (f : grid_part ls₁ ≡ read g ls₂) where
-        pub no-floats-part : floats_part ls₂ ≡ wrong → study_in text ≡ holds_none
+        pub no-floats-part : floats_part ls₂ ≡ wrong → study_in text ≡ None
         unfolding study_of_lines whole
         no-floats-part k = of-lines ∙ rw (e, f, k)
 
         module _ (v : List ℕ × List ℕ × List ℕ) (ls₃ : List (List ℕ)) (k : floats_part ls₂ ≡ read v ls₃) where
-          pub no-triplets : rows whole_field triplet_tag 3 ls₃ ≡ wrong → study_in text ≡ holds_none
+          pub no-triplets : rows whole_field triplet_tag 3 ls₃ ≡ wrong → study_in text ≡ None
           unfolding study_of_lines whole
           no-triplets w = of-lines ∙ rw (e, f, k, w)
 
-          module _ (t : List ℤ) (p : ℕ) (w : rows whole_field triplet_tag 3 ls₃ ≡ read t (ended 10 (drop p text))) where
-            pub more-lines : p < length text → study_in text ≡ holds_none
+          module _ (t : List ℤ) (ls₄ : List (List ℕ)) (w : rows whole_field triplet_tag 3 ls₃ ≡ read t ls₄) where
+            pub more-lines : eqb (length ls₄) 0 ≡ false → study_in text ≡ None
             unfolding study_of_lines whole
-            more-lines m =
-                let q : length (ended 10 (drop p text)) ≡ suc (length (ended 10 (drop (p + index 10 (drop p text) + 1) text))) = ap length (ended-step 10 text p (p + index 10 (drop p text)) refl m) in
-                of-lines ∙ rw (e, f, k, w, ne_eqb (length (ended 10 (drop p text))) 0 (λ z. omega (arith, z, q)))
+            more-lines m = of-lines ∙ rw (e, f, k, w, m)
 
-            pub study-read : length text ≤ p → study_in text ≡ holds (record { head = h; addresses = g.0; gp-map = g.1; f1 = v.0; f2 = v.1; points = v.2; triplets = t })
-            unfolding study_of_lines whole ended
-            study-read m = of-lines ∙ rw (e, f, k, w) (rw (drop_past text p m))
+            pub study-read : eqb (length ls₄) 0 ≡ true → study_in text ≡ Some (record { head = h; addresses = g.0; gp-map = g.1; f1 = v.0; f2 = v.1; points = v.2; triplets = t })
+            unfolding study_of_lines whole
+            study-read m = of-lines ∙ rw (e, f, k, w, m)

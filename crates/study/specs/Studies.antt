@@ -1,5 +1,5 @@
 -- The study that a text holds: a text is cut into lines, a line into fields, and the lines are read section by section.
-use Rattle.std.specs.Prelude.{cond, ◌&&◌, List, [], ◌∷◌, ℕ, leb, eqb, ℤ, length}
+use Rattle.std.specs.Prelude.{cond, ◌&&◌, List, [], ◌∷◌, ℕ, leb, eqb, ℤ, length, Option, Some, None}
 use Rattle.text.specs.Pieces.{ended}
 use Rattle.sections.specs.Lines.{Part, read, wrong, and_then, rows, whole_field, pattern_field}
 use Rattle.study_head.specs.declared.Head.{Head}
@@ -54,18 +54,13 @@ pub record StudyText : Type 0 where
   pub points : List ℕ
   pub triplets : List ℤ
 
--- the study of a text, or that the text holds none
-pub data Holds : Type 0 where
-  holds : StudyText → Holds
-  holds_none : Holds
-
--- a study where no line is left
-unfoldable pub whole : Part StudyText → Holds
-whole wrong = holds_none
-whole (read s ls) = cond (eqb (length ls) 0) (holds s) holds_none
+-- the study, where no line is left
+unfoldable pub whole : Part StudyText → Option StudyText
+whole wrong = None
+whole (read s ls) = cond (eqb (length ls) 0) (Some s) None
 
 -- the study of a list of lines: "tags as in the example below, in that order"
-unfoldable pub study_of_lines : List (List ℕ) → Holds
+unfoldable pub study_of_lines : List (List ℕ) → Option StudyText
 study_of_lines ls =
     whole (and_then (head_part ls)
     (λ h ls₁. and_then (grid_part ls₁)
@@ -74,5 +69,5 @@ study_of_lines ls =
     (λ t ls₄. read (record { head = h; addresses = g.0; gp-map = g.1; f1 = f.0; f2 = f.1; points = f.2; triplets = t }) ls₄)))))
 
 -- Question 1: "Is the study text at most 16,384 bytes, well formed": the study that it holds, if it is
-unfoldable pub study_in : List ℕ → Holds
-study_in text = cond (leb (length text) 16384 && ends_line text) (study_of_lines (ended 10 text)) holds_none
+unfoldable pub study_in : List ℕ → Option StudyText
+study_in text = cond (leb (length text) 16384 && ends_line text) (study_of_lines (ended 10 text)) None

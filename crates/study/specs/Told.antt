@@ -1,27 +1,25 @@
--- What the answers of the readers stand for, with what is then in the buffers.
-use Rattle.std.specs.Prelude.{List, ℕ, ℤ, take, drop}
-use Rattle.text.specs.Pieces.{ended}
-use Rattle.sections.specs.Lines.{Part, read, wrong}
-use Rattle.study.specs.declared.GridRead.{GridRead}
-use Rattle.study.specs.declared.GridRead.TheVariants as G
-use Rattle.study.specs.declared.FloatsRead.{FloatsRead}
-use Rattle.study.specs.declared.FloatsRead.TheVariants as F
-use Rattle.study.specs.declared.StudyRead.{StudyRead}
-use Rattle.study.specs.declared.StudyRead.TheVariants as S
-use Rattle.study.specs.Studies.{Holds, holds, holds_none}
+-- What the answers of the readers stand for.
+use Rattle.std.specs.Prelude.{List, ℕ, ℤ, Option, Some, None}
+use Rattle.sections.specs.Lines.{Part, told_part}
+use Rattle.study.specs.declared.GridText.{GridText}
+use Rattle.study.specs.declared.FloatsText.{FloatsText}
+use Rattle.study.specs.declared.HeldStudy.{HeldStudy}
+use Rattle.study.specs.Studies.{StudyText}
 
--- of `parse_grid`
-abbrev pub told_grid : GridRead → List ℤ → List ℤ → List ℕ → Part (List ℤ × List ℤ)
-told_grid G.Bad addresses gp-map text = wrong
-told_grid (G.Read a m next) addresses gp-map text = read (take a addresses, take m gp-map) (ended 10 (drop next text))
+-- of `parse_grid`, by the lines that are then left
+abbrev pub told_grid : Option GridText → List (List ℕ) → Part (List ℤ × List ℤ)
+told_grid r = told_part r (λ g. (g.addresses.now, g.gp_map.now))
 
 -- of `parse_floats`
-abbrev pub told_floats : FloatsRead → List ℕ → List ℕ → List ℕ → List ℕ → Part (List ℕ × List ℕ × List ℕ)
-told_floats F.Bad f1 f2 points text = wrong
-told_floats (F.Read i j k next) f1 f2 points text = read (take i f1, take j f2, take k points) (ended 10 (drop next text))
+abbrev pub told_floats : Option FloatsText → List (List ℕ) → Part (List ℕ × List ℕ × List ℕ)
+told_floats r = told_part r (λ f. (f.f1.now, f.f2.now, f.points.now))
+
+-- the text's study that a held one is
+abbrev pub study_text : HeldStudy → StudyText
+study_text s =
+    record { head = s.head; addresses = s.grid.addresses.now; gp-map = s.grid.gp_map.now; f1 = s.floats.f1.now; f2 = s.floats.f2.now; points = s.floats.points.now; triplets = s.triplets.now }
 
 -- of `read_study`
-abbrev pub told_study : StudyRead → List ℤ → List ℤ → List ℕ → List ℕ → List ℕ → List ℤ → Holds
-told_study S.Bad addresses gp-map f1 f2 points triplets = holds_none
-told_study (S.Read h a m i j k t) addresses gp-map f1 f2 points triplets =
-    holds (record { head = h; addresses = take a addresses; gp-map = take m gp-map; f1 = take i f1; f2 = take j f2; points = take k points; triplets = take t triplets })
+abbrev pub told_study : Option HeldStudy → Option StudyText
+told_study None = None
+told_study (Some s) = Some (study_text s)

@@ -6,40 +6,66 @@ pub mod kernel;
 
 pub use study_head::Head;
 
-// The sections `addr` and `map` as read: how many numbers each, and where the next section starts.
+// The sections `addr` and `map` of a text.
 #[derive(Clone, Copy)]
-pub enum GridRead {
-    Read {
-        addresses: usize,
-        gp_map: usize,
-        next: usize,
-    },
-    Bad,
+pub struct GridText<'a> {
+    pub addresses: &'a [i64],
+    pub gp_map: &'a [i64],
 }
 
-// The sections `f1`, `f2` and `point` as read: how many floats each, and where the next section starts.
+// The sections `f1`, `f2` and `point`, each float by its bits.
 #[derive(Clone, Copy)]
-pub enum FloatsRead {
-    Read {
-        f1: usize,
-        f2: usize,
-        points: usize,
-        next: usize,
-    },
-    Bad,
+pub struct FloatsText<'a> {
+    pub f1: &'a [u64],
+    pub f2: &'a [u64],
+    pub points: &'a [u64],
 }
 
-// A study as read: its head, and how many numbers each section has.
+// A study as its text holds it.
 #[derive(Clone, Copy)]
-pub enum StudyRead {
-    Read {
-        head: Head,
-        addresses: usize,
-        gp_map: usize,
-        f1: usize,
-        f2: usize,
-        points: usize,
-        triplets: usize,
-    },
-    Bad,
+pub struct HeldStudy<'a> {
+    pub head: Head,
+    pub grid: GridText<'a>,
+    pub floats: FloatsText<'a>,
+    pub triplets: &'a [i64],
+}
+
+// Room for the sections `addr` and `map`: a text has at most 16,384 numbers, and a row may be begun behind them.
+#[derive(Drop)]
+pub struct GridBuffers {
+    pub addresses: [i64; 16387],
+    pub gp_map: [i64; 16385],
+}
+
+// Room for the sections `f1`, `f2` and `point`.
+#[derive(Drop)]
+pub struct FloatsBuffers {
+    pub f1: [u64; 16385],
+    pub f2: [u64; 16385],
+    pub points: [u64; 16385],
+}
+
+// Room for the sections of a study.
+#[derive(Drop)]
+pub struct StudyBuffers {
+    pub grid: GridBuffers,
+    pub floats: FloatsBuffers,
+    pub triplets: [i64; 16387],
+}
+
+impl StudyBuffers {
+    pub fn new() -> StudyBuffers {
+        StudyBuffers {
+            grid: GridBuffers {
+                addresses: [0; 16387],
+                gp_map: [0; 16385],
+            },
+            floats: FloatsBuffers {
+                f1: [0; 16385],
+                f2: [0; 16385],
+                points: [0; 16385],
+            },
+            triplets: [0; 16387],
+        }
+    }
 }

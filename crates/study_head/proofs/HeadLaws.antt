@@ -1,17 +1,15 @@
 -- The lines that stand once, and the last newline. Assumes nothing.
-use mathlib.Core.Path.{◌≡◌, refl, ◌∙◌}
+use mathlib.Core.Path.{◌≡◌, refl, sym, ap, ◌∙◌}
 use mathlib.Core.Bool.{true, false}
 use mathlib.Core.List.{List, [], ◌∷◌}
 use Prim.Native.Nat.{ℕ, ◌-◌}
 use native.Mathlib.Omega.{arith}
 use lib.Dec.{eqb}
 use lib.IntN.{ℤ}
-use lib.ListN.{length, get_or, take}
-use lib.Seq.{take_all}
+use lib.ListN.{length, get_or}
 use Rattle.list_laws.specs.Lists.{at}
 use Rattle.list_laws.specs.Signed.{is_between}
-use Rattle.sections.specs.Lines.{read, wrong, once, whole_field}
-use Rattle.study_head.specs.declared.Head.{Head}
+use Rattle.sections.specs.Lines.{Part, read, wrong, once, whole_field}
 use Rattle.study_head.specs.Heads.{grid_tag, diag_tag, type_tag, bands_tag, head_from, head_part, ends_line}
 
 -- ---- the head
@@ -45,14 +43,9 @@ module _ (ls : List (List ℕ)) where
           unfolding head_part
           head_read w = rw (e, f, h, k, w)
 
--- the head as the code makes it from whole arrays
-pub head-is : (ls : List (List ℕ)) (g d t b : List ℤ) (ls₄ : List (List ℕ)) (h : Head) → head_part ls ≡ read (head_from (take 4 g) (take 1 d) (take 1 t) (take 2 b)) ls₄
-    → length g ≡ 4 → length d ≡ 1 → length t ≡ 1 → length b ≡ 2 → h ≡ head_from g d t b → head_part ls ≡ read h ls₄
-head-is ls g d t b ls₄ h e p q r s f =
-    e ∙ rw (take_all 4 g (omega (arith, p)), take_all 1 d (omega (arith, q)), take_all 1 t (omega (arith, r)), take_all 2 b (omega (arith, s)), f)
-
-pub first-of-one : (d : List ℤ) → length d ≡ 1 → at (take 1 d) 0 ≡ at d 0
-first-of-one d q = rw (take_all 1 d (omega (arith, q)))
+-- a line that was read into a row of n places
+pub sized : (tag : List ℕ) (ls : List (List ℕ)) {line : Part (List ℤ)} (n : ℕ) (row : List ℤ) → length row ≡ n → once whole_field tag (length row) ls ≡ line → once whole_field tag n ls ≡ line
+sized tag ls n row e h = ap (λ (k : ℕ). once whole_field tag k ls) (sym e) ∙ h
 
 -- ---- the last newline
 

@@ -5,7 +5,7 @@
 pub mod kernel;
 
 // The numbers of the lines that stand once: `grid`, `diag`, `type`, `bands`.
-#[derive(Clone, Copy)]
+#[derive(Clone, Copy, PartialEq, Eq, Debug)]
 pub struct Head {
     pub bz_grid_type: i64,
     pub d0: i64,
@@ -15,11 +15,4 @@ pub struct Head {
     pub tp_type: i64,
     pub num_band1: i64,
     pub num_band2: i64,
-}
-
-// The lines that stand once as read, and where the next line starts.
-#[derive(Clone, Copy)]
-pub enum HeadRead {
-    Read { head: Head, next: usize },
-    Bad,
 }

@@ -1,6 +1,6 @@
 -- Numbers printed and read back. Assumes nothing.
 use Prim.Native.Nat.{ℕ, zero, suc, ◌+◌, ◌/◌, ◌%◌, ◌^◌, ◌≤◌, ◌<◌}
-use mathlib.Core.Path.{◌≡◌, refl, ap}
+use mathlib.Core.Path.{◌≡◌, refl}
 use mathlib.Core.Bool.{Bool, true, false, cond}
 use mathlib.Core.List.{[], ◌∷◌}
 use native.Mathlib.Omega.{arith}
@@ -12,7 +12,7 @@ use Rattle.io.specs.Digits.{hex_digit_ascii, last_digits}
 use Rattle.text.specs.Spelled.{places, decimal, signed, hexadecimal}
 use Rattle.text.proofs.RoundTrip.{plain, minus, whole-read, bits-read}
 use Rattle.text.proofs.SpelledLaws.{places-fewest}
-use Rattle.sections.specs.Lines.{whole_got, whole_field, pattern_got, pattern_field}
+use Rattle.sections.specs.Lines.{whole_field, pattern_field}
 use Rattle.study_print.proofs.LineLaws.{absent, absent-append, Spells}
 
 glyph-above : (d : ℕ) → 48 ≤ hex_digit_ascii d
@@ -35,12 +35,12 @@ absent-digits b base (suc k) n h = absent-append b (last_digits base k (n / base
 pub spells-signed : (z : ℤ) → mag z < 2 ^ 63 → Spells whole_field signed z
 unfolding signed decimal absent
 spells-signed (pos n) h = record {
-  read_back = ap whole_got (whole-read (pos n) (last_digits 10 (places 19 n) n) (plain h (places-fewest 19 n (omega arith))));
+  read_back = whole-read (pos n) (last_digits 10 (places 19 n) n) (plain h (places-fewest 19 n (omega arith)));
   no-tab = absent-digits 9 10 (places 19 n) n (omega arith);
   no-newline = absent-digits 10 10 (places 19 n) n (omega arith);
 }
 spells-signed (negsuc n) h = record {
-  read_back = ap whole_got (whole-read (negsuc n) (45 ∷ last_digits 10 (places 19 (suc n)) (suc n)) (minus h (places-fewest 19 (suc n) (omega arith))));
+  read_back = whole-read (negsuc n) (45 ∷ last_digits 10 (places 19 (suc n)) (suc n)) (minus h (places-fewest 19 (suc n) (omega arith)));
   no-tab = absent-digits 9 10 (places 19 (suc n)) (suc n) (omega arith);
   no-newline = absent-digits 10 10 (places 19 (suc n)) (suc n) (omega arith);
 }
@@ -49,7 +49,7 @@ spells-signed (negsuc n) h = record {
 pub spells-pattern : (n : ℕ) → n < 2 ^ 64 → Spells pattern_field hexadecimal n
 unfolding hexadecimal
 spells-pattern n h = record {
-  read_back = ap pattern_got (bits-read n h);
+  read_back = bits-read n h;
   no-tab = absent-digits 9 16 16 n (omega arith);
   no-newline = absent-digits 10 16 16 n (omega arith);
 }

@@ -10,7 +10,8 @@ use lib.ListN.{length, get_or, take, drop, length-append, length-drop, take-appe
 use lib.Seq.{take-append_seam, drop-append-add, length-take-le, get_or-append_seam, get_or-append-add}
 use borrow.Author.Tests.{eq-eqb, le-leb}
 use Rattle.text.specs.Pieces.{after, index, onto, cut_or, split, ended, split_from, same}
-use Rattle.sections.specs.Lines.{Got, got, is, front, next, values, tag_of, after_tag, read, joined, rows, once}
+use Rattle.std.specs.Prelude.{Option, Some}
+use Rattle.sections.specs.Lines.{front, next, values, tag_of, after_tag, read, joined, rows, once}
 use Rattle.text.proofs.PieceLaws.{same-yes}
 use Rattle.study_print.specs.Printed.{fields, line, section, text_of}
 
@@ -72,28 +73,28 @@ module _ (b : ℕ) where
 -- ---- values spelled so that their field gives them back
 
 -- a printed value: no tab and no newline in it, and its field reads as it
-pub record Spells {A : Type 0} (field : List ℕ → Got A) (spell : A → List ℕ) (v : A) : Type 0 where
-  pub read_back : field (spell v) ≡ got v
+pub record Spells {A : Type 0} (field : List ℕ → Option A) (spell : A → List ℕ) (v : A) : Type 0 where
+  pub read_back : field (spell v) ≡ Some v
   pub no-tab : absent 9 (spell v) ≡ true
   pub no-newline : absent 10 (spell v) ≡ true
 
-abbrev pub AllSpell : {A : Type 0} → (List ℕ → Got A) → (A → List ℕ) → List A → Type 0
+abbrev pub AllSpell : {A : Type 0} → (List ℕ → Option A) → (A → List ℕ) → List A → Type 0
 AllSpell field spell [] = Unit
 AllSpell field spell (v ∷ vs) = Spells field spell v × AllSpell field spell vs
 
-pub all_take : {A : Type 0} (field : List ℕ → Got A) (spell : A → List ℕ) (n : ℕ) (vs : List A) → AllSpell field spell vs → AllSpell field spell (take n vs)
+pub all_take : {A : Type 0} (field : List ℕ → Option A) (spell : A → List ℕ) (n : ℕ) (vs : List A) → AllSpell field spell vs → AllSpell field spell (take n vs)
 all_take field spell zero vs w = tt
 all_take field spell (suc n) [] w = tt
 all_take field spell (suc n) (v ∷ vs) w = (w.0, all_take field spell n vs w.1)
 
-pub all_drop : {A : Type 0} (field : List ℕ → Got A) (spell : A → List ℕ) (n : ℕ) (vs : List A) → AllSpell field spell vs → AllSpell field spell (drop n vs)
+pub all_drop : {A : Type 0} (field : List ℕ → Option A) (spell : A → List ℕ) (n : ℕ) (vs : List A) → AllSpell field spell vs → AllSpell field spell (drop n vs)
 all_drop field spell zero vs w = w
 all_drop field spell (suc n) [] w = tt
 all_drop field spell (suc n) (v ∷ vs) w = all_drop field spell n vs w.1
 
-module _ {A : Type 0} (field : List ℕ → Got A) (spell : A → List ℕ) where
+module _ {A : Type 0} (field : List ℕ → Option A) (spell : A → List ℕ) where
   -- the fields behind the first tab
-  pub values-read : (v : A) (vs : List A) → AllSpell field spell (v ∷ vs) → values field (suc (length vs)) (split 9 (spell v ++ fields spell vs)) ≡ is (v ∷ vs)
+  pub values-read : (v : A) (vs : List A) → AllSpell field spell (v ∷ vs) → values field (suc (length vs)) (split 9 (spell v ++ fields spell vs)) ≡ Some (v ∷ vs)
   unfolding values next front fields
   values-read v [] w = rw (append-nil (spell v), split-last 9 (spell v) w.0.no-tab, w.0.read_back)
   values-read v (u ∷ vs) w = rw (split-front 9 (spell v) (spell u ++ fields spell vs) w.0.no-tab, w.0.read_back, values-read u vs w.1)
@@ -108,7 +109,7 @@ module _ {A : Type 0} (field : List ℕ → Got A) (spell : A → List ℕ) wher
     unfolding tag_of line fields
     tag_read v vs = rw (index-behind 9 tag (spell v ++ fields spell vs) clean) (take-append_seam tag (9 ∷ (spell v ++ fields spell vs)))
 
-    pub row_read : (v : A) (vs : List A) → AllSpell field spell (v ∷ vs) → values field (suc (length vs)) (after_tag (line spell tag (v ∷ vs))) ≡ is (v ∷ vs)
+    pub row_read : (v : A) (vs : List A) → AllSpell field spell (v ∷ vs) → values field (suc (length vs)) (after_tag (line spell tag (v ∷ vs))) ≡ Some (v ∷ vs)
     unfolding after_tag split_from line fields
     row_read v vs w =
         let t = spell v ++ fields spell vs in
@@ -137,13 +138,13 @@ module _ {A : Type 0} (field : List ℕ → Got A) (spell : A → List ℕ) wher
     section-read (suc k) m [] ls e w s = absurd (omega (arith, e, suc-mul k (suc m)))
     section-read (suc k) m (v ∷ vs) ls e w s =
         let l : m + k * suc m ≡ length vs = omega (arith, e, suc-mul k (suc m)) in
-        let r : values field (suc m) (after_tag (line spell tag (v ∷ take m vs))) ≡ is (v ∷ take m vs) =
-        subst (λ (n : ℕ). values field (suc n) (after_tag (line spell tag (v ∷ take m vs))) ≡ is (v ∷ take m vs)) (length-take-le m vs (omega (arith, l))) (row_read v (take m vs) (w.0, all_take field spell m vs w.1)) in
+        let r : values field (suc m) (after_tag (line spell tag (v ∷ take m vs))) ≡ Some (v ∷ take m vs) =
+        subst (λ (n : ℕ). values field (suc n) (after_tag (line spell tag (v ∷ take m vs))) ≡ Some (v ∷ take m vs)) (length-take-le m vs (omega (arith, l))) (row_read v (take m vs) (w.0, all_take field spell m vs w.1)) in
         rw (tag_read v (take m vs), same-yes tag tag refl, r, section-read k m (drop m vs) ls (omega (arith, l, length-drop m vs)) (all_drop field spell m vs w.1) s)
         (ap (λ (x : List A). read (v ∷ x) ls) (take-append-drop m vs))
 
 -- a tag that does not stop at a section of another tag
-pub stops_through : {A B : Type 0} (field : List ℕ → Got A) (spell : A → List ℕ) (tag : List ℕ) (clean : absent 9 tag ≡ true) (other : B → List ℕ) (tag' : List ℕ) (clean' : absent 9 tag' ≡ true) (field' : List ℕ → Got B) → same tag' tag ≡ false
+pub stops_through : {A B : Type 0} (field : List ℕ → Option A) (spell : A → List ℕ) (tag : List ℕ) (clean : absent 9 tag ≡ true) (other : B → List ℕ) (tag' : List ℕ) (clean' : absent 9 tag' ≡ true) (field' : List ℕ → Option B) → same tag' tag ≡ false
     → (k m : ℕ) (vs : List B) (ls : List (List ℕ)) → length vs ≡ k * suc m → Stops field spell tag clean ls → Stops field spell tag clean (section other tag' (suc m) k vs ++ ls)
 unfolding section
 stops_through field spell tag clean other tag' clean' field' d zero m vs ls e s = s
@@ -161,11 +162,11 @@ pub clean-append : (ls ks : List (List ℕ)) → Clean ls → Clean ks → Clean
 clean-append [] ks c d = d
 clean-append (l ∷ ls) ks c d = (c.0, clean-append ls ks c.1 d)
 
-pub clean_line : {A : Type 0} (field : List ℕ → Got A) (spell : A → List ℕ) (tag : List ℕ) → absent 10 tag ≡ true → (vs : List A) → AllSpell field spell vs → absent 10 (line spell tag vs) ≡ true
+pub clean_line : {A : Type 0} (field : List ℕ → Option A) (spell : A → List ℕ) (tag : List ℕ) → absent 10 tag ≡ true → (vs : List A) → AllSpell field spell vs → absent 10 (line spell tag vs) ≡ true
 unfolding line
 clean_line field spell tag t vs w = absent-append 10 tag (fields spell vs) t (fields-no-newline field spell vs w)
 
-pub clean-section : {A : Type 0} (field : List ℕ → Got A) (spell : A → List ℕ) (tag : List ℕ) → absent 10 tag ≡ true → (n k : ℕ) (vs : List A) → AllSpell field spell vs → Clean (section spell tag n k vs)
+pub clean-section : {A : Type 0} (field : List ℕ → Option A) (spell : A → List ℕ) (tag : List ℕ) → absent 10 tag ≡ true → (n k : ℕ) (vs : List A) → AllSpell field spell vs → Clean (section spell tag n k vs)
 unfolding section
 clean-section field spell tag t n zero vs w = tt
 clean-section field spell tag t n (suc k) vs w =

@@ -13,16 +13,13 @@ use lib.Seq.{take_at, drop_at}
 use borrow.Author.Tests.{eqb-true, eqb-false, leb-true}
 use Rattle.list_laws.specs.Lists.{Each}
 use Rattle.list_laws.proofs.CountLaws.{each_append}
-use Rattle.text.specs.declared.Magnitude.{Magnitude}
-use Rattle.text.specs.declared.Magnitude.TheVariants as M
-use Rattle.text.specs.declared.Whole.{Whole}
-use Rattle.text.specs.declared.Whole.TheVariants as W
-use Rattle.text.specs.Fields.{digit_of, value, whole, bits}
+use Rattle.text.specs.Fields.{digit_of, value, bits}
 use Rattle.text.specs.Pieces.{after, index, onto, cut_or, split, ended, split_from, same}
 use Rattle.text.specs.Spelled.{signed, hexadecimal}
 use Rattle.text.proofs.RoundTrip.{Text, plain, minus, whole-only, bits-only}
 use Rattle.text.proofs.SpelledLaws.{decimal-is}
-use Rattle.sections.specs.Lines.{Got, got, none, Row, is, bad, front, next, values, tag_of, after_tag, Part, read, wrong, joined, rows, once, whole_got, whole_field, pattern_got, pattern_field}
+use Rattle.std.specs.Prelude.{Option, Some, None}
+use Rattle.sections.specs.Lines.{front, next, values, tag_of, after_tag, Part, read, wrong, joined, rows, once, whole_field, pattern_field}
 use Rattle.text.proofs.PieceLaws.{same-is}
 use Rattle.study_print.specs.Printed.{fields, line, section, text_of, Signed64, Pattern64}
 
@@ -34,8 +31,8 @@ pub record Spelled {A : Type 0} (spell : A → List ℕ) (P : A → Type 0) (s :
   pub kept : P v
 
 -- every field that is read spells its value
-abbrev pub Only : {A : Type 0} → (List ℕ → Got A) → (A → List ℕ) → (A → Type 0) → Type 0
-Only {A} field spell P = (s : List ℕ) (v : A) → field s ≡ got v → Spelled spell P s v
+abbrev pub Only : {A : Type 0} → (List ℕ → Option A) → (A → List ℕ) → (A → Type 0) → Type 0
+Only {A} field spell P = (s : List ℕ) (v : A) → field s ≡ Some v → Spelled spell P s v
 
 text-is : (z : ℤ) (s : List ℕ) → Text z s → Spelled signed Signed64 s z
 unfolding signed
@@ -43,43 +40,33 @@ text-is z s (plain {n} {k} h w) = record { spelled = decimal-is n k (omega arith
 text-is z s (minus {n} {k} h w) = record { spelled = ap (λ (l : List ℕ). 45 ∷ l) (decimal-is (suc n) k (omega arith) w); kept = h }
 
 pub only-signed : Only whole_field signed Signed64
-only-signed s z e = go (whole s) refl e
-  where
-    go : (w : Whole) → whole s ≡ w → whole_got w ≡ got z → Spelled signed Signed64 s z
-    go W.Bad f e = absurd (let q : ◌≡◌ {A = ℕ} 0 1 = cc in omega arith)
-    go (W.Is y) f e = text-is z s (whole-only s z (f ∙ ap W.Is (cc)))
+only-signed s z e = text-is z s (whole-only s z e)
 
 -- a number that is read is within the limit
-value-limit : (base limit : ℕ) (s : List ℕ) (a m : ℕ) → value base limit s a ≡ M.Is m → m ≤ limit
+value-limit : (base limit : ℕ) (s : List ℕ) (a m : ℕ) → value base limit s a ≡ Some m → m ≤ limit
 unfolding value
 value-limit base limit [] a m e = go (leb a limit) refl e
   where
-    go : (t : Bool) → leb a limit ≡ t → cond t (M.Is a) M.Bad ≡ M.Is m → m ≤ limit
+    go : (t : Bool) → leb a limit ≡ t → cond t (Some a) None ≡ Some m → m ≤ limit
     go true l e = let q : a ≡ m = cc in omega (arith, leb-true a limit l, q)
     go false l e = absurd (let q : ◌≡◌ {A = ℕ} 0 1 = cc in omega arith)
 value-limit base limit (b ∷ s) a m e = go (ltb (digit_of b) base) e (value-limit base limit s (a * base + digit_of b) m)
   where
-    go : (t : Bool) → cond t (value base limit s (a * base + digit_of b)) M.Bad ≡ M.Is m → (value base limit s (a * base + digit_of b) ≡ M.Is m → m ≤ limit) → m ≤ limit
+    go : (t : Bool) → cond t (value base limit s (a * base + digit_of b)) None ≡ Some m → (value base limit s (a * base + digit_of b) ≡ Some m → m ≤ limit) → m ≤ limit
     go true e r = r e
     go false e r = absurd (let q : ◌≡◌ {A = ℕ} 0 1 = cc in omega arith)
 
-bits_fit : (s : List ℕ) (n : ℕ) → bits s ≡ M.Is n → n < 2 ^ 64
+bits_fit : (s : List ℕ) (n : ℕ) → bits s ≡ Some n → n < 2 ^ 64
 unfolding bits
 bits_fit s n e = go (eqb (length s) 16) e
   where
-    go : (t : Bool) → cond t (value 16 (2 ^ 64 - 1) s 0) M.Bad ≡ M.Is n → n < 2 ^ 64
+    go : (t : Bool) → cond t (value 16 (2 ^ 64 - 1) s 0) None ≡ Some n → n < 2 ^ 64
     go true e = omega (arith, value-limit 16 (2 ^ 64 - 1) s 0 n e)
     go false e = absurd (let q : ◌≡◌ {A = ℕ} 0 1 = cc in omega arith)
 
 pub only-pattern : Only pattern_field hexadecimal Pattern64
 unfolding hexadecimal
-only-pattern s n e = go (bits s) refl e
-  where
-    go : (w : Magnitude) → bits s ≡ w → pattern_got w ≡ got n → Spelled hexadecimal Pattern64 s n
-    go M.Bad f e = absurd (let q : ◌≡◌ {A = ℕ} 0 1 = cc in omega arith)
-    go (M.Is y) f e =
-        let g : bits s ≡ M.Is n = f ∙ ap M.Is (cc) in
-        record { spelled = bits-only s n g; kept = bits_fit s n g }
+only-pattern s n e = record { spelled = bits-only s n e; kept = bits_fit s n e }
 
 -- ---- a list cut at a byte is its pieces with that byte between
 
@@ -165,8 +152,8 @@ pub record Sectioned {A : Type 0} (spell : A → List ℕ) (P : A → Type 0) (t
   pub count : length vs ≡ k * n
   pub all-kept : Each P vs
 
-module _ {A : Type 0} (field : List ℕ → Got A) (spell : A → List ℕ) (P : A → Type 0) (only : Only field spell P) where
-  values-only : (n : ℕ) (fs : List (List ℕ)) (vs : List A) → values field n fs ≡ is vs → AllSpelled spell P n fs vs
+module _ {A : Type 0} (field : List ℕ → Option A) (spell : A → List ℕ) (P : A → Type 0) (only : Only field spell P) where
+  values-only : (n : ℕ) (fs : List (List ℕ)) (vs : List A) → values field n fs ≡ Some vs → AllSpelled spell P n fs vs
   unfolding values next front fields tabbed
   values-only zero [] [] e = record { together = refl; count = refl; all-kept = tt }
   values-only zero [] (v ∷ vs) e = absurd (let q : ◌≡◌ {A = ℕ} 0 1 = cc in omega arith)
@@ -174,10 +161,10 @@ module _ {A : Type 0} (field : List ℕ → Got A) (spell : A → List ℕ) (P :
   values-only (suc n) [] vs e = absurd (let q : ◌≡◌ {A = ℕ} 0 1 = cc in omega arith)
   values-only (suc n) (f ∷ fs) vs e = go (field f) refl (values field n fs) refl vs e (values-only n fs)
     where
-      go : (g : Got A) → field f ≡ g → (r : Row A) → values field n fs ≡ r → (vs : List A) → next g r ≡ is vs → ((us : List A) → values field n fs ≡ is us → AllSpelled spell P n fs us) → AllSpelled spell P (suc n) (f ∷ fs) vs
-      go none p r q vs e i = absurd (let q : ◌≡◌ {A = ℕ} 0 1 = cc in omega arith)
-      go (got v) p bad q vs e i = absurd (let q : ◌≡◌ {A = ℕ} 0 1 = cc in omega arith)
-      go (got v) p (is us) q vs e i =
+      go : (g : Option A) → field f ≡ g → (r : Option (List A)) → values field n fs ≡ r → (vs : List A) → next g r ≡ Some vs → ((us : List A) → values field n fs ≡ Some us → AllSpelled spell P n fs us) → AllSpelled spell P (suc n) (f ∷ fs) vs
+      go None p r q vs e i = absurd (let q : ◌≡◌ {A = ℕ} 0 1 = cc in omega arith)
+      go (Some v) p None q vs e i = absurd (let q : ◌≡◌ {A = ℕ} 0 1 = cc in omega arith)
+      go (Some v) p (Some us) q vs e i =
           let w : AllSpelled spell P n fs us = i us q in
           let s : Spelled spell P f v = only f v p in
           let m : v ∷ us ≡ vs = cc in
@@ -185,11 +172,11 @@ module _ {A : Type 0} (field : List ℕ → Got A) (spell : A → List ℕ) (P :
           (record { together = cc (s.spelled, w.together); count = ap suc w.count; all-kept = (s.kept, w.all-kept) })
 
   -- a line with its tag, whose fields are read
-  line-only : (tag : List ℕ) (n : ℕ) (l : List ℕ) (vs : List A) → same (tag_of l) tag ≡ true → values field (suc n) (after_tag l) ≡ is vs → Lined spell P tag (suc n) l vs
+  line-only : (tag : List ℕ) (n : ℕ) (l : List ℕ) (vs : List A) → same (tag_of l) tag ≡ true → values field (suc n) (after_tag l) ≡ Some vs → Lined spell P tag (suc n) l vs
   unfolding tag_of after_tag split_from line values
   line-only tag n l vs s e = go (leb (index 9 l + 1) (length l)) refl e
     where
-      go : (c : Bool) → leb (index 9 l + 1) (length l) ≡ c → values field (suc n) (cond c (split 9 (drop (index 9 l + 1) l)) []) ≡ is vs → Lined spell P tag (suc n) l vs
+      go : (c : Bool) → leb (index 9 l + 1) (length l) ≡ c → values field (suc n) (cond c (split 9 (drop (index 9 l + 1) l)) []) ≡ Some vs → Lined spell P tag (suc n) l vs
       go true h e =
           let w : AllSpelled spell P (suc n) (split 9 (drop (index 9 l + 1) l)) vs = values-only (suc n) (split 9 (drop (index 9 l + 1) l)) vs e in
           let f : 9 ∷ drop (index 9 l + 1) l ≡ fields spell vs = sym (tabbed-split (drop (index 9 l + 1) l)) ∙ w.together in
@@ -201,9 +188,9 @@ module _ {A : Type 0} (field : List ℕ → Got A) (spell : A → List ℕ) (P :
   unfolding once joined
   once-only tag n l ls vs rest e = go (same (tag_of l) tag) refl (values field (suc n) (after_tag l)) refl e
     where
-      go : (c : Bool) → same (tag_of l) tag ≡ c → (r : Row A) → values field (suc n) (after_tag l) ≡ r → cond c (joined r (read [] ls)) wrong ≡ read vs rest → (ls ≡ rest) × Lined spell P tag (suc n) l vs
-      go true s bad q e = absurd (let q : ◌≡◌ {A = ℕ} 0 1 = cc in omega arith)
-      go true s (is us) q e = (cc, line-only tag n l vs s (q ∙ ap is (let m : us ++ [] ≡ vs = cc in sym (append-nil us) ∙ m)))
+      go : (c : Bool) → same (tag_of l) tag ≡ c → (r : Option (List A)) → values field (suc n) (after_tag l) ≡ r → cond c (joined r (read [] ls)) wrong ≡ read vs rest → (ls ≡ rest) × Lined spell P tag (suc n) l vs
+      go true s None q e = absurd (let q : ◌≡◌ {A = ℕ} 0 1 = cc in omega arith)
+      go true s (Some us) q e = (cc, line-only tag n l vs s (q ∙ ap Some (let m : us ++ [] ≡ vs = cc in sym (append-nil us) ∙ m)))
       go false s r q e = absurd (let q : ◌≡◌ {A = ℕ} 0 1 = cc in omega arith)
 
   pub rows-only : (tag : List ℕ) (n : ℕ) (ls : List (List ℕ)) (vs : List A) (rest : List (List ℕ)) → rows field tag (suc n) ls ≡ read vs rest → Sectioned spell P tag (suc n) ls vs rest
@@ -213,14 +200,14 @@ module _ {A : Type 0} (field : List ℕ → Got A) (spell : A → List ℕ) (P :
       subst (λ (v : List A). Sectioned spell P tag (suc n) [] v rest) m (record { k = 0; lines = cc; count = sym (zero-mul (suc n)); all-kept = tt })
   rows-only tag n (l ∷ ls) vs rest e = go (same (tag_of l) tag) refl (values field (suc n) (after_tag l)) refl (rows field tag (suc n) ls) refl vs e (rows-only tag n ls)
     where
-      go : (c : Bool) → same (tag_of l) tag ≡ c → (r : Row A) → values field (suc n) (after_tag l) ≡ r → (p : Part (List A)) → rows field tag (suc n) ls ≡ p → (vs : List A) → cond c (joined r p) (read [] (l ∷ ls)) ≡ read vs rest
+      go : (c : Bool) → same (tag_of l) tag ≡ c → (r : Option (List A)) → values field (suc n) (after_tag l) ≡ r → (p : Part (List A)) → rows field tag (suc n) ls ≡ p → (vs : List A) → cond c (joined r p) (read [] (l ∷ ls)) ≡ read vs rest
           → ((us : List A) (rest' : List (List ℕ)) → rows field tag (suc n) ls ≡ read us rest' → Sectioned spell P tag (suc n) ls us rest') → Sectioned spell P tag (suc n) (l ∷ ls) vs rest
       go false s r q p f vs e i =
           let m : [] ≡ vs = cc in
           subst (λ (v : List A). Sectioned spell P tag (suc n) (l ∷ ls) v rest) m (record { k = 0; lines = cc; count = sym (zero-mul (suc n)); all-kept = tt })
-      go true s bad q p f vs e i = absurd (let q : ◌≡◌ {A = ℕ} 0 1 = cc in omega arith)
-      go true s (is us) q wrong f vs e i = absurd (let q : ◌≡◌ {A = ℕ} 0 1 = cc in omega arith)
-      go true s (is us) q (read ws rest') f vs e i =
+      go true s None q p f vs e i = absurd (let q : ◌≡◌ {A = ℕ} 0 1 = cc in omega arith)
+      go true s (Some us) q wrong f vs e i = absurd (let q : ◌≡◌ {A = ℕ} 0 1 = cc in omega arith)
+      go true s (Some us) q (read ws rest') f vs e i =
           let w : Sectioned spell P tag (suc n) ls ws rest = i ws rest (f ∙ ap (read ws) (cc)) in
           let d : Lined spell P tag (suc n) l us = line-only tag n l us s q in
           let m : us ++ ws ≡ vs = cc in

@@ -15,9 +15,10 @@ use Rattle.list_laws.specs.Lists.{at}
 use Rattle.list_laws.specs.Signed.{is_between}
 use Rattle.text.specs.Pieces.{ended}
 use Rattle.text.specs.Spelled.{signed, hexadecimal}
-use Rattle.sections.specs.Lines.{Got, Part, read, wrong, and_then, rows, once, whole_field, pattern_field}
+use Rattle.std.specs.Prelude.{Option, Some, None}
+use Rattle.sections.specs.Lines.{Part, read, wrong, and_then, rows, once, whole_field, pattern_field}
 use Rattle.study_head.specs.declared.Head.{Head}
-use Rattle.study.specs.Studies.{StudyText, holds, holds_none, whole, study_in, study_of_lines, grid_part, floats_part, addr_tag, map_tag, f1_tag, f2_tag, point_tag, triplet_tag}
+use Rattle.study.specs.Studies.{StudyText, whole, study_in, study_of_lines, grid_part, floats_part, addr_tag, map_tag, f1_tag, f2_tag, point_tag, triplet_tag}
 use Rattle.study_head.specs.Heads.{ends_line, head_part, head_from, grid_tag, diag_tag, type_tag, bands_tag}
 use Rattle.study_print.specs.Printed.{line, section, text_of, head_lines, study_lines, printed, Signed64, Pattern64, Printable}
 use Rattle.study_print.proofs.StudyTextLaws.{read-printed}
@@ -144,7 +145,7 @@ record SingleSection {A : Type 0} (spell : A → List ℕ) (P : A → Type 0) (t
   pub lines : ls ≡ section spell tag 1 (length vs) vs ++ rest
   pub fit : Each P vs
 
-singles : {A : Type 0} (field : List ℕ → Got A) (spell : A → List ℕ) (P : A → Type 0) → Only field spell P → (tag : List ℕ) (ls : List (List ℕ)) (vs : List A) (rest : List (List ℕ)) → rows field tag 1 ls ≡ read vs rest → SingleSection spell P tag ls vs rest
+singles : {A : Type 0} (field : List ℕ → Option A) (spell : A → List ℕ) (P : A → Type 0) → Only field spell P → (tag : List ℕ) (ls : List (List ℕ)) (vs : List A) (rest : List (List ℕ)) → rows field tag 1 ls ≡ read vs rest → SingleSection spell P tag ls vs rest
 singles field spell P only tag ls vs rest e =
     let w : Sectioned spell P tag 1 ls vs rest = rows-only field spell P only tag 0 ls vs rest e in
     record { lines = w.lines ∙ ap (λ (k : ℕ). section spell tag 1 k vs ++ rest) (by_one (length vs) w.k w.count); fit = w.all-kept }
@@ -196,7 +197,7 @@ floats-only f ls rest e =
 
 -- ---- the study
 
-whole-only : (p : Part StudyText) (s : StudyText) → whole p ≡ holds s → p ≡ read s []
+whole-only : (p : Part StudyText) (s : StudyText) → whole p ≡ Some s → p ≡ read s []
 unfolding whole
 whole-only wrong s e = absurd (let q : ◌≡◌ {A = ℕ} 0 1 = cc in omega arith)
 whole-only (read t []) s e = cc
@@ -226,7 +227,7 @@ unfolding study_lines
 in_order s l₀ l₁ l₂ l₃ l₄ l₅ l₆ a b c d e f g =
     rw (a, b, c, d, e, f, g, append-nil (section signed triplet_tag 3 (length s.triplets / 3) s.triplets))
 
-study-lines : (s : StudyText) (ls : List (List ℕ)) → study_of_lines ls ≡ holds s → LinesOnly s ls
+study-lines : (s : StudyText) (ls : List (List ℕ)) → study_of_lines ls ≡ Some s → LinesOnly s ls
 unfolding study_of_lines
 study-lines s ls e =
     let h : _ = went (head_part ls) _ s [] (whole-only _ s e) in
@@ -288,15 +289,15 @@ module _ (text : List ℕ) (s : StudyText) (l : length text ≤ 16384) (n : ends
   }
 
 -- reading and printing give the text back
-pub printed-only : (text : List ℕ) (s : StudyText) → study_in text ≡ holds s → PrintedOnly text s
+pub printed-only : (text : List ℕ) (s : StudyText) → study_in text ≡ Some s → PrintedOnly text s
 unfolding study_in
 printed-only text s e = go (leb (length text) 16384) (ends_line text) refl refl e
   where
-    go : (a b : Bool) → leb (length text) 16384 ≡ a → ends_line text ≡ b → cond (a && b) (study_of_lines (ended 10 text)) holds_none ≡ holds s → PrintedOnly text s
+    go : (a b : Bool) → leb (length text) 16384 ≡ a → ends_line text ≡ b → cond (a && b) (study_of_lines (ended 10 text)) None ≡ Some s → PrintedOnly text s
     go true true p q e = of-lines text s (leb-true (length text) 16384 p) q (study-lines s (ended 10 text) e)
     go true false p q e = absurd (let q : ◌≡◌ {A = ℕ} 0 1 = cc in omega arith)
     go false b p q e = absurd (let q : ◌≡◌ {A = ℕ} 0 1 = cc in omega arith)
 
 -- a text is well formed exactly when it is the printing of a study, and the study is then the one that it holds
-pub exactly-printed : (text : List ℕ) (s : StudyText) → (study_in text ≡ holds s → PrintedOnly text s) × (PrintedOnly text s → study_in text ≡ holds s)
+pub exactly-printed : (text : List ℕ) (s : StudyText) → (study_in text ≡ Some s → PrintedOnly text s) × (PrintedOnly text s → study_in text ≡ Some s)
 exactly-printed text s = (printed-only text s, λ p. ap study_in p.text-is ∙ read-printed s p.printable)

@@ -4,16 +4,15 @@ use mathlib.Core.Path.{◌≡◌, refl, sym, ap, subst, ◌∙◌}
 use mathlib.Core.Bool.{true, false}
 use mathlib.Core.List.{List, [], ◌∷◌, ◌++◌, append-nil}
 use native.Mathlib.Nat.{mul-one}
-use native.Mathlib.Omega.{arith}
 use lib.IntN.{ℤ}
-use lib.ListN.{length, drop}
-use lib.Seq.{drop-length}
+use lib.ListN.{length}
 use borrow.Author.Tests.{eq-eqb}
 use Rattle.list_laws.specs.Lists.{Each}
 use Rattle.text.specs.Pieces.{ended, same}
 use Rattle.text.specs.Spelled.{signed, hexadecimal}
-use Rattle.sections.specs.Lines.{Got, read, rows, whole_field, pattern_field}
-use Rattle.study.specs.Studies.{StudyText, holds, study_in, grid_part, floats_part, addr_tag, map_tag, f1_tag, f2_tag, point_tag, triplet_tag}
+use Rattle.std.specs.Prelude.{Option, Some}
+use Rattle.sections.specs.Lines.{read, rows, whole_field, pattern_field}
+use Rattle.study.specs.Studies.{StudyText, study_in, grid_part, floats_part, addr_tag, map_tag, f1_tag, f2_tag, point_tag, triplet_tag}
 use Rattle.study_head.specs.Heads.{ends_line, head_part, head_from, grid_tag, diag_tag, type_tag, bands_tag}
 use Rattle.study_head.proofs.HeadLaws.{head_read}
 use Rattle.study.proofs.StudyLaws.{grid-read, floats-read, study-read}
@@ -49,7 +48,7 @@ module _ (s : StudyText) (p : Printable s) where
   r₁ = section signed addr_tag 3 (length s.addresses / 3) s.addresses ++ r₂
 
   -- no line with an earlier tag follows
-  module _ {A : Type 0} (field : List ℕ → Got A) (spell : A → List ℕ) (tag : List ℕ) (clean : absent 9 tag ≡ true) (d₆ : same triplet_tag tag ≡ false) where
+  module _ {A : Type 0} (field : List ℕ → Option A) (spell : A → List ℕ) (tag : List ℕ) (clean : absent 9 tag ≡ true) (d₆ : same triplet_tag tag ≡ false) where
     s₆ : Stops field spell tag clean (section signed triplet_tag 3 (length s.triplets / 3) s.triplets)
     unfolding absent
     s₆ = subst (Stops field spell tag clean) (append-nil (section signed triplet_tag 3 (length s.triplets / 3) s.triplets))
@@ -133,12 +132,8 @@ module _ (s : StudyText) (p : Printable s) where
   unfolding printed
   cut-lines = lines-read (study_lines s) all-clean
 
-  nothing_left : [] ≡ ended 10 (drop (length (printed s)) (printed s))
-  unfolding ended
-  nothing_left = rw (drop-length (printed s))
-
   -- printing and reading give the study back
-  pub read-printed : study_in (printed s) ≡ holds s
+  pub read-printed : study_in (printed s) ≡ Some s
   read-printed =
       study-read (printed s) p.short ends s.head r₁ (ap head_part cut-lines ∙ head-back) (s.addresses, s.gp-map) r₃ grid-back (s.f1, s.f2, s.points) _ floats-back
-      s.triplets (length (printed s)) (triplets-back ∙ ap (read s.triplets) nothing_left) (omega arith)
+      s.triplets [] triplets-back refl

@@ -18,8 +18,7 @@ pub fn fill_frequencies(
     ensures frequencies2_after { frequencies2.new ≡ frequencies_from start (length frequencies1.old) (length frequencies2.old) }
     ensures frequency_points_after { frequency_points.new ≡ frequencies_from start (length frequencies1.old + length frequencies2.old) (length frequency_points.old) }
 {
-    let begin = start as u64;
-    let first = kernel::fill(frequencies1, begin);
+    let first = kernel::fill(frequencies1, start);
     let second = kernel::fill(frequencies2, first);
     kernel::fill(frequency_points, second);
 }

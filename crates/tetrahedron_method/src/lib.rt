@@ -5,7 +5,8 @@
 ghost use Rattle.std.specs.Prelude.{◌≡◌};
 ghost use Rattle.tetrahedron_method.specs.Answer.{integration_weight_answer};
 
-pub use relative_grid_address::{TableAnswer, all_relative_grid_address, relative_grid_address};
+pub use ask::Refusal;
+pub use relative_grid_address::{NeighbourTable, all_relative_grid_address, relative_grid_address};
 
 pub mod kernel;
 
@@ -16,35 +17,24 @@ pub enum WeightFunction {
     J,
 }
 
-#[derive(Clone, Copy)]
-pub enum WeightAnswer {
-    Weight(f64),
-    Refused(u64),
-}
-
 // The integration weight at one omega over directly given vertices: 24, 48, 72 or 96 rows of four values.
 // Questions 7 and 11 are asked.
 pub fn integration_weight(
     omega: f64,
     tetrahedra_omegas: &[f64],
     function: WeightFunction,
-) -> WeightAnswer
+) -> Result<f64, Refusal>
     ensures { result ≡ integration_weight_answer omega tetrahedra_omegas.now function }
 {
     if !question_values::kernel::rows::vertices_ok(tetrahedra_omegas.len()) {
-        return WeightAnswer::Refused(questions::BAD_TABLE);
+        return Err(Refusal::Table);
     }
     if !question_values::kernel::frequencies::points_ok(tetrahedra_omegas) {
-        return WeightAnswer::Refused(questions::BAD_FREQUENCY);
+        return Err(Refusal::Frequencies);
     }
     if !question_values::kernel::frequencies::point_ok(omega) {
-        return WeightAnswer::Refused(questions::BAD_FREQUENCY);
+        return Err(Refusal::Frequencies);
     }
     let rows = tetrahedra_omegas.len() / 4;
-    WeightAnswer::Weight(kernel::weight::get_integration_weight(
-        function,
-        omega,
-        tetrahedra_omegas,
-        rows,
-    ))
+    Ok(kernel::weight::get_integration_weight(function, omega, tetrahedra_omegas, rows))
 }

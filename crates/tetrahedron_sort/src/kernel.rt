@@ -5,7 +5,7 @@ ghost use Rattle.tetrahedron_sort.specs.Sort.{low2, high2, place_by, sort_of};
 
 use crate::SortedOmegas;
 
-// Two values in order, and whether they had to change places.
+// Two values in order, and whether they had to change places; no Option, since both are there either way.
 #[derive(Clone, Copy)]
 struct OrderedPair {
     low: f64,

@@ -3,6 +3,7 @@ use mathlib.Core.Path.{◌≡◌, refl}
 use mathlib.Core.Bool.{true}
 use mathlib.Core.List.{List, [], ◌∷◌, flatten}
 use Prim.Native.Nat.{ℕ, zero, suc, ◌<◌, ◌/◌, ◌%◌}
+use native.Mathlib.Omega.{arith}
 use lib.IntN.{ℤ, pos}
 use lib.ListN.{get_or}
 use Rattle.list_laws.specs.Lists.{all_below, tabulate}
@@ -28,6 +29,17 @@ unfoldable pub twelves : List (List (List ℤ)) → List (List ℤ)
 unfolding flatten
 twelves [] = []
 twelves (r ∷ t) = flatten r ∷ twelves t
+
+-- the four tables in rows of twelve
+abbrev pub all_twelves : List (List (List ℤ))
+all_twelves = twelves (table_of 0) ∷ twelves (table_of 1) ∷ twelves (table_of 2) ∷ twelves (table_of 3) ∷ []
+
+pub twelves-at : (t : ℕ) → t < 4 → get_or all_twelves t [] ≡ twelves (table_of t)
+twelves-at zero h = refl
+twelves-at (suc zero) h = refl
+twelves-at (suc (suc zero)) h = refl
+twelves-at (suc (suc (suc zero))) h = refl
+twelves-at (suc (suc (suc (suc t)))) h = absurd (omega arith)
 
 -- the test, of each table: place 3c + k of a row of twelve is component k of corner c
 places : (t : ℕ) → all_below 24 (λ r. all_below 12 (λ j. eq_z (get_or (get_or (twelves (table_of t)) r []) j (pos 0)) (entry (table_of t) r j))) ≡ true

@@ -5,8 +5,6 @@ ghost use Rattle.std.specs.Float.Ieee.{of_bits, to_bits};
 ghost use Rattle.text.specs.Fields.{bits, digit_of, magnitude, negative, positive, value, whole};
 ghost use Rattle.text.specs.Pieces.{index};
 
-use crate::{Magnitude, Whole};
-
 // What a byte counts as a digit; 16 where it is none. The tests are joined before the one branch: which digit it is cannot be foretold.
 pub fn digit_of(b: u8) -> u64
     ensures value { result ≡ digit_of b }
@@ -20,99 +18,83 @@ pub fn digit_of(b: u8) -> u64
     16
 }
 
-// The digits of s in a base as one number, at most the limit.
-fn parse_digits(s: &[u8], base: u64, limit: u64) -> Magnitude
+// The digits of s in a base as one number, if each byte is one and the number is at most the limit.
+fn parse_digits(s: &[u8], base: u64, limit: u64) -> Option<u64>
     requires { (1 < base) × (base ≤ 16) × (16 ≤ limit) }
     ensures { result ≡ value base limit s.now 0 }
 {
     let mut n: u64 = 0;
-    let mut i = 0;
-    while i < s.len() {
-        let d = digit_of(s[i]);
+    for b in s {
+        let d = digit_of(*b);
         if base <= d {
-            return Magnitude::Bad;
+            return None;
         }
         let most = (limit - d) / base;
         if most < n {
-            return Magnitude::Bad;
+            return None;
         }
         n = n * base + d;
-        i += 1;
     }
-    Magnitude::Is(n)
+    Some(n)
 }
 
 // The decimal digits of s as one number, with no zeros in front.
-fn parse_magnitude(s: &[u8]) -> Magnitude
+fn parse_magnitude(s: &[u8]) -> Option<u64>
     ensures { result ≡ magnitude s.now }
 {
-    if s.len() == 0 {
-        return Magnitude::Bad;
+    match s {
+        [] | [b'0', _, ..] => None,
+        _ => parse_digits(s, 10, 1 << 63),
     }
-    if 1 < s.len() {
-        if s[0] == 48 {
-            return Magnitude::Bad;
-        }
-    }
-    parse_digits(s, 10, 9223372036854775808)
 }
 
 // Sixteen hexadecimal digits as one number.
-pub fn parse_bits(s: &[u8]) -> Magnitude
+pub fn parse_bits(s: &[u8]) -> Option<u64>
     ensures { result ≡ bits s.now }
 {
-    if s.len() == 16 {
-        return parse_digits(s, 16, 18446744073709551615);
+    if s.len() != 16 {
+        return None;
     }
-    Magnitude::Bad
+    parse_digits(s, 16, u64::MAX)
 }
 
 // A magnitude with no sign before it.
-fn positive_whole(m: Magnitude) -> Whole
-    ensures { result ≡ positive m }
+fn positive_whole(n: u64) -> Option<i64>
+    ensures { result ≡ positive (Some n) }
 {
-    match m {
-        Magnitude::Is(n) => {
-            if n < 9223372036854775808 {
-                Whole::Is(n as i64)
-            } else {
-                Whole::Bad
-            }
-        }
-        Magnitude::Bad => Whole::Bad,
-    }
+    i64::try_from(n).ok()
 }
 
 // A magnitude with a minus sign before it.
-fn negative_whole(m: Magnitude) -> Whole
-    ensures { result ≡ negative m }
+fn negative_whole(n: u64) -> Option<i64>
+    ensures { result ≡ negative (Some n) }
 {
-    match m {
-        Magnitude::Is(n) => {
-            if n == 0 {
-                return Whole::Bad;
-            }
-            if n - 1 < 9223372036854775808 {
-                Whole::Is(-1 - ((n - 1) as i64))
-            } else {
-                Whole::Bad
-            }
-        }
-        Magnitude::Bad => Whole::Bad,
+    if n == 0 {
+        return None;
     }
+    let below = i64::try_from(n - 1).ok()?;
+    Some(-1 - below)
 }
 
 // The whole number that the field s spells.
-pub fn parse_whole(s: &[u8]) -> Whole
+pub fn parse_whole(s: &[u8]) -> Option<i64>
     ensures { result ≡ whole s.now }
 {
-    if s.len() == 0 {
-        return Whole::Bad;
+    match s {
+        [b'-', digits @ ..] => negative_whole(parse_magnitude(digits)?),
+        _ => positive_whole(parse_magnitude(s)?),
     }
-    if s[0] == 45 {
-        return negative_whole(parse_magnitude(&s[1..]));
+}
+
+// The index of the first b in s, or the length of s where there is none.
+fn index_of(s: &[u8], b: u8) -> usize
+    ensures value { result ≡ index b s.now }
+    ensures within { result ≤ length s.now }
+{
+    match s.iter().position(|x| *x == b) {
+        Some(i) => i,
+        None => s.len(),
     }
-    positive_whole(parse_magnitude(s))
 }
 
 // The index of the first b in s from index p on, or the length of s where there is none.
@@ -120,14 +102,7 @@ pub fn cut(s: &[u8], p: usize, b: u8) -> usize
     requires { p ≤ length s.now }
     ensures { (result ≡ p + index b (drop p s.now)) × (p ≤ result) × (result ≤ length s.now) }
 {
-    let mut i = p;
-    while i < s.len() {
-        if s[i] == b {
-            return i;
-        }
-        i += 1;
-    }
-    i
+    p + index_of(&s[p..], b)
 }
 
 // The float of a bit pattern, every one: a NaN's pattern gives a NaN.

@@ -2,18 +2,7 @@
 
 #![tactic(auto)]
 
+mod field;
 pub mod kernel;
 
-// A number without a sign, or a field that spells none.
-#[derive(Clone, Copy)]
-pub enum Magnitude {
-    Is(u64),
-    Bad,
-}
-
-// A whole number, or a field that spells none.
-#[derive(Clone, Copy)]
-pub enum Whole {
-    Is(i64),
-    Bad,
-}
+pub use field::Field;

@@ -1,12 +1,10 @@
 -- Normal processes: triplets whose addresses add to zero.
-use Rattle.std.specs.Prelude.{Bool, ◌&&◌, List, [], ◌∷◌, ℕ, zero, suc, ◌+◌, ◌*◌, ℤ, ◌+ℤ◌}
+use Rattle.std.specs.Prelude.{Bool, ◌&&◌, List, [], ◌∷◌, ℕ, ◌+◌, ◌*◌, ℤ, ◌+ℤ◌}
 use Rattle.std.specs.Int.Signed.{mag}
 use Rattle.list_laws.specs.Lists.{at}
 use Rattle.list_laws.specs.Signed.{is_below, is_nat}
 use Rattle.ask.specs.Ask.{Question, asks}
 use Rattle.question_grids.specs.Grids.{are_triples, triples_in}
-use Rattle.triplet_addresses.specs.declared.IsNAnswer.{IsNAnswer}
-use Rattle.triplet_addresses.specs.declared.IsNAnswer.TheVariants.{Normal, Refused}
 
 -- Question 10: "Is .. all three of each triplet, 0 to P-1?", of one triplet
 unfoldable pub is_on_grid : ℕ → List ℤ → Bool
@@ -27,8 +25,3 @@ is_normal triplet addresses = (adds_to_zero triplet addresses 0 && adds_to_zero 
 -- The questions of `is_n`: 5 without the count, 10.
 abbrev pub is_n_questions : List ℤ → List ℤ → List Question
 is_n_questions triplet addresses = asks 5 (are_triples addresses) ∷ asks 10 (is_on_grid (triples_in addresses) triplet) ∷ []
-
--- The answer of `is_n`, by the number of the first no: 0 is whether the triplet is normal, any other is the refusal.
-abbrev pub is_n_answer : ℕ → Bool → IsNAnswer
-is_n_answer zero b = Normal b
-is_n_answer (suc n) b = Refused (suc n)

@@ -1,12 +1,10 @@
 -- The same of work areas whose rows are in order: s and p are rows in order and the places of their first values, b is a box.
-use Rattle.std.specs.Prelude.{cond, List, ◌≡◌, ℕ, ◌*◌, Float}
+use Rattle.std.specs.Prelude.{cond, List, ◌≡◌, ℕ, ◌*◌, Float, Option, Some, None}
 use Rattle.tetrahedron_method.specs.Sorted.{InOrder, sorted_weight}
 use Rattle.tetrahedron_method.specs.declared.WeightFunction.TheVariants.{I}
 use Rattle.triplet_types.specs.declared.TpType.{TpType}
 use Rattle.triplet_types.specs.declared.TpType.TheVariants.{Type2, Type3, Type4}
 use Rattle.triplet_values.specs.declared.ValueBox.{ValueBox}
-use Rattle.triplet_outputs.specs.declared.Channel.{Channel}
-use Rattle.triplet_outputs.specs.declared.Channel.TheVariants.{Closed, Open}
 use Rattle.triplet_outputs.specs.declared.Outputs.{Outputs}
 use Rattle.triplet_values.specs.Values.{box_of, Begun}
 use Rattle.triplet_outputs.specs.Outputs.{holds, outputs_by}
@@ -18,14 +16,14 @@ further_rows Type3 rows = rows
 further_rows Type4 rows = 0
 
 -- a channel
-unfoldable pub ordered_channel_at : Float → List Float → List ℕ → ℕ → ValueBox → Channel
-ordered_channel_at w s p rows b = cond (holds b w) (Open (sorted_weight I w s p rows)) Closed
+unfoldable pub ordered_channel_at : Float → List Float → List ℕ → ℕ → ValueBox → Option Float
+ordered_channel_at w s p rows b = cond (holds b w) (Some (sorted_weight I w s p rows)) None
 
 -- the second and the third channel
-unfoldable pub ordered_further_at : TpType → Float → List Float → List ℕ → ℕ → ValueBox → Channel
+unfoldable pub ordered_further_at : TpType → Float → List Float → List ℕ → ℕ → ValueBox → Option Float
 ordered_further_at Type2 w s p rows b = ordered_channel_at w s p rows b
 ordered_further_at Type3 w s p rows b = ordered_channel_at w s p rows b
-ordered_further_at Type4 w s p rows b = Closed
+ordered_further_at Type4 w s p rows b = None
 
 -- the outputs
 unfoldable pub outputs_ordered : TpType → Float → List Float → List ℕ → List Float → List ℕ → List Float → List ℕ → ℕ → ValueBox → ValueBox → ValueBox → Outputs

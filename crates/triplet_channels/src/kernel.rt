@@ -4,8 +4,8 @@ ghost use Rattle.triplet_values.specs.Values.{area_at, channel_values};
 ghost use Rattle.triplet_channels.specs.Ordered.{further_rows, ordered_channel_at, ordered_further_at, outputs_ordered, Prepared};
 
 use tetrahedron_method::WeightFunction;
+use triplet_outputs::Outputs;
 use triplet_outputs::kernel::{combine_outputs, is_open};
-use triplet_outputs::{Channel, Outputs};
 use triplet_types::TpType;
 use triplet_values::ValueBox;
 
@@ -27,13 +27,19 @@ pub fn prepare_channel(
     b
 }
 
-// A channel: open with its weight I where the point lies in the box.
-fn channel_at(f0: f64, s: &[f64; 384], places: &[usize; 96], rows: usize, b: ValueBox) -> Channel
+// A channel: closed, `None`, or open with its weight I where the point lies in the box.
+fn channel_at(
+    f0: f64,
+    s: &[f64; 384],
+    places: &[usize; 96],
+    rows: usize,
+    b: ValueBox,
+) -> Option<f64>
     requires { rows ≤ 96 }
     ensures { result ≡ ordered_channel_at f0 s.now places.now rows b }
 {
     if is_open(b, f0) {
-        Channel::Open(tetrahedron_method::kernel::sorted::sorted_weight(
+        Some(tetrahedron_method::kernel::sorted::sorted_weight(
             WeightFunction::I,
             f0,
             s,
@@ -41,7 +47,7 @@ fn channel_at(f0: f64, s: &[f64; 384], places: &[usize; 96], rows: usize, b: Val
             rows,
         ))
     } else {
-        Channel::Closed
+        None
     }
 }
 
@@ -64,14 +70,14 @@ fn further_channel_at(
     places: &[usize; 96],
     rows: usize,
     b: ValueBox,
-) -> Channel
+) -> Option<f64>
     requires { rows ≤ 96 }
     ensures { result ≡ ordered_further_at tp f0 s.now places.now rows b }
 {
     match tp {
         TpType::Type2 => channel_at(f0, s, places, rows, b),
         TpType::Type3 => channel_at(f0, s, places, rows, b),
-        TpType::Type4 => Channel::Closed,
+        TpType::Type4 => None,
     }
 }
 

@@ -25,26 +25,19 @@ length-yes b e = rw e
 pub length_some : ◌≡◌ {A = ℕ} 12 0 → ⊥
 length_some e = omega arith
 
-module _ (s : Study) (weights flags no : ℕ) (e : no ≡ first_no (study_questions s)) where
+module _ (s : Study) (weights flags : ℕ) where
   -- one of 3 to 11 says no
-  pub refused-before : (no ≡ 0 → ⊥) → first_no (weights_questions s weights flags) ≡ no
-  refused-before h = group-no (study_questions s) _ (λ q. h (e ∙ q)) ∙ sym e
+  pub refused-before : (first_no (study_questions s) ≡ 0 → ⊥) → first_no (weights_questions s weights flags) ≡ first_no (study_questions s)
+  refused-before h = group-no (study_questions s) _ h
 
   -- none of them does, and z are the counts
-  module _ (q : no ≡ 0) (z : Sizes) (c : z ≡ sizes_of s) where
-    pub counts-few : Counted z
-    counts-few = rw c (counted (tested s (sym e ∙ q)))
-
+  module _ (q : first_no (study_questions s) ≡ 0) (z : Sizes) (c : z ≡ sizes_of s) where
     rest : first_no (weights_questions s weights flags) ≡ first_no (asks 12 (are_lengths z weights flags) ∷ [])
-    rest = rw c (group-yes (study_questions s) _ (study-numbered s) (sym e ∙ q))
+    rest = rw c (group-yes (study_questions s) _ (study-numbered s) q)
 
     pub refused-length : are_lengths z weights flags ≡ false → first_no (weights_questions s weights flags) ≡ 12
     refused-length f = rest ∙ length-no (are_lengths z weights flags) f
 
     -- question 12 says yes
-    module _ (y : are_lengths z weights flags ≡ true) where
-      pub all-yes-12 : first_no (weights_questions s weights flags) ≡ 0
-      all-yes-12 = rest ∙ length-yes (are_lengths z weights flags) y
-
-      pub study-ready : Ready (study z.shape s.addresses s.gp-map s.steps s.frequencies1 s.frequencies2 s.points s.triplets) z weights flags
-      study-ready = ready-shaped (ready s z weights flags (sym e ∙ q) c y)
+    pub all-yes-12 : are_lengths z weights flags ≡ true → first_no (weights_questions s weights flags) ≡ 0
+    all-yes-12 y = rest ∙ length-yes (are_lengths z weights flags) y

@@ -1,7 +1,8 @@
 -- The questions of the weights of triplets, and what a call did.
 use Rattle.std.specs.Prelude.{◌≡◌, List, [], ◌∷◌, ◌++◌, ℕ, Float, ℤ, length}
-use Rattle.ask.specs.declared.Answer.{Answer}
-use Rattle.ask.specs.Answers.{answer_of}
+use Rattle.std.specs.declared.result.Result.{Result}
+use Rattle.ask.specs.declared.refusal.Refusal.{Refusal}
+use Rattle.ask.specs.Refusals.{answer_of}
 use Rattle.ask.specs.Ask.{Question, asks, first_no}
 use Rattle.triplet_study.specs.Study.{Study, sizes_of}
 use Rattle.triplet_study.specs.Questions.{study_questions, are_lengths}
@@ -23,5 +24,5 @@ AreFilled s weights flags =
     × Leaves (weights_no s weights.entry.now flags.entry.now) (all_flags s) flags
 
 -- What a call did: its answer, and what it left.
-abbrev pub DidFill : Study → LentMut Float → LentMut ℤ → Answer → Type 0
-DidFill s weights flags answer = (answer ≡ answer_of (weights_no s weights.entry.now flags.entry.now)) × AreFilled s weights flags
+abbrev pub DidFill : Study → LentMut Float → LentMut ℤ → Result Unit Refusal → Type 0
+DidFill s weights flags answer = (answer ≡ answer_of (weights_no s weights.entry.now flags.entry.now) tt) × AreFilled s weights flags

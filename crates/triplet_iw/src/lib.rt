@@ -2,42 +2,29 @@
 
 #![tactic(auto)]
 
-ghost use Rattle.triplet_study.specs.Lent.{study_of_one};
+ghost use Rattle.triplet_study.specs.Lent.{with_triplet};
 ghost use Rattle.triplet_iw.specs.Calls.{DidFill};
 
-pub use ask::Answer;
+pub use ask::Refusal;
 pub use averaging::average_weights_over_degenerate_sets;
-pub use triplet_study::Shape;
-pub use triplet_types::{TpType, TpTypeAnswer};
+pub use triplet_study::{Shape, Study};
+pub use triplet_types::TpType;
 
 pub mod kernel;
 
-// The weights and flags of one triplet: the channels one after another, each by point, b1, b2; flags without the channel.
-// Questions 3 to 12.
+// The weights and flags of one triplet of a study, whose own triplets are not looked at: the channels one after another,
+// each by point, b1, b2; flags without the channel. Questions 3 to 12.
 pub fn integration_weight_per_triplet(
-    shape: Shape,
-    addresses: &[i64],
-    gp_map: &[i64],
-    relative_grid_address: &[i64],
-    frequencies1: &[f64],
-    frequencies2: &[f64],
-    frequency_points: &[f64],
+    study: Study,
     triplet: [i64; 3],
     weights: &mut [f64],
     flags: &mut [i8],
-) -> Answer
-    ensures { DidFill (study_of_one shape addresses gp_map relative_grid_address frequencies1 frequencies2 frequency_points triplet) weights flags result }
+) -> Result<(), Refusal>
+    ensures { DidFill (with_triplet study.entry triplet) weights flags result }
 {
-    kernel::fill_study(
-        shape,
-        addresses,
-        gp_map,
-        relative_grid_address,
-        frequencies1,
-        frequencies2,
-        frequency_points,
-        &triplet,
-        weights,
-        flags,
-    )
+    let one = Study {
+        triplets: &triplet,
+        ..study
+    };
+    kernel::fill_study(one, weights, flags)
 }

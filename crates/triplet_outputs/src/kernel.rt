@@ -1,8 +1,8 @@
 // Whether a channel is open, and the outputs of three channels.
 ghost use Rattle.std.specs.Prelude.{◌≡◌};
-ghost use Rattle.triplet_outputs.specs.Outputs.{holds, value_of, closed_of, flag_of, outputs_by};
+ghost use Rattle.triplet_outputs.specs.Outputs.{holds, flag_of, outputs_by};
 
-use crate::{Channel, Outputs};
+use crate::Outputs;
 use triplet_types::TpType;
 use triplet_values::ValueBox;
 
@@ -13,45 +13,25 @@ pub fn is_open(b: ValueBox, f0: f64) -> bool
     (b.fmin <= f0) & (f0 <= b.fmax)
 }
 
-// The weight of a channel: 0 when closed.
-fn value_of(c: Channel) -> f64
-    ensures { result ≡ value_of c }
-{
-    match c {
-        Channel::Closed => 0.0,
-        Channel::Open(weight) => weight,
-    }
-}
-
-// Whether a channel is closed.
-fn is_closed(c: Channel) -> bool
-    ensures { result ≡ closed_of c }
-{
-    match c {
-        Channel::Closed => true,
-        Channel::Open(_) => false,
-    }
-}
-
 // The flag is 1 when all channels are closed.
-fn flag_of(c0: Channel, c1: Channel, c2: Channel) -> i8
+fn flag_of(c0: Option<f64>, c1: Option<f64>, c2: Option<f64>) -> i8
     ensures { result ≡ flag_of c0 c1 c2 }
 {
-    if is_closed(c0) & is_closed(c1) & is_closed(c2) {
+    if c0.is_none() & c1.is_none() & c2.is_none() {
         1
     } else {
         0
     }
 }
 
-// The outputs of three channels, by the type.
-pub fn combine_outputs(tp: TpType, c0: Channel, c1: Channel, c2: Channel) -> Outputs
+// The outputs of three channels, by the type. A channel is closed, `None`, or open with its weight.
+pub fn combine_outputs(tp: TpType, c0: Option<f64>, c1: Option<f64>, c2: Option<f64>) -> Outputs
     ensures { result ≡ outputs_by tp c0 c1 c2 }
 {
     let flag = flag_of(c0, c1, c2);
-    let g0 = value_of(c0);
-    let g1 = value_of(c1);
-    let g2 = value_of(c2);
+    let g0 = c0.unwrap_or(0.0);
+    let g1 = c1.unwrap_or(0.0);
+    let g2 = c2.unwrap_or(0.0);
     match tp {
         TpType::Type2 => Outputs {
             w0: g2,

@@ -1,15 +1,8 @@
-// A channel at a frequency point, and what three channels give.
+// What the channels of a frequency point give.
 
 #![tactic(auto)]
 
 pub mod kernel;
-
-// A channel at a frequency point: closed, or open with its weight.
-#[derive(Clone, Copy)]
-pub enum Channel {
-    Closed,
-    Open(f64),
-}
 
 // What a piece writes at a point: a weight for each output channel, 0.0 behind the last, and the flag.
 #[derive(Clone, Copy)]

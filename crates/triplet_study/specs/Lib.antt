@@ -3,3 +3,4 @@ pub mod Study
 pub mod Questions
 pub mod Tested
 pub mod Lent
+pub mod Passed

@@ -2,50 +2,26 @@
 ghost use Rattle.std.specs.Prelude.{◌≡◌, ◌≤◌};
 ghost use Rattle.std.specs.Int.Signed.{mag};
 ghost use Rattle.ask.specs.Ask.{first_no};
-ghost use Rattle.triplet_study.specs.Study.{sizes_by};
+ghost use Rattle.ask.specs.Refusals.{answer_of};
+ghost use Rattle.triplet_study.specs.Study.{sizes_by, sizes_of};
 ghost use Rattle.triplet_study.specs.Questions.{study_questions, are_lengths};
 ghost use Rattle.triplet_study.specs.Tested.{Counted};
-ghost use Rattle.triplet_study.specs.Lent.{study_in};
+ghost use Rattle.triplet_study.specs.Lent.{study_in, study_of};
 
-use crate::{Shape, Sizes};
+use crate::{Shape, Sizes, Study};
+use ask::Refusal;
 
 pub mod asks;
 
-// The number of the first question on a study, 3 to 11, that is answered no, or 0.
-pub fn study_first_no(
-    shape: Shape,
-    addresses: &[i64],
-    gp_map: &[i64],
-    relative_grid_address: &[i64],
-    frequencies1: &[f64],
-    frequencies2: &[f64],
-    frequency_points: &[f64],
-    triplets: &[i64],
-) -> u64
-    ensures { result ≡ first_no (study_questions (study_in shape addresses gp_map relative_grid_address frequencies1 frequencies2 frequency_points triplets)) }
+// Questions 3 to 11 on a study.
+pub fn ask_study(study: Study) -> Result<(), Refusal>
+    ensures { result ≡ answer_of (first_no (study_questions (study_of study.entry))) tt }
 {
-    let bz_grid_type = shape.bz_grid_type;
-    let d_diag = shape.d_diag;
-    let no = question_grids::kernel::grid::grid_first_no(bz_grid_type, d_diag, addresses, gp_map);
-    if no != 0 {
-        return no;
+    question_grids::kernel::grid::ask_grid(study.grid())?;
+    if !question_grids::kernel::tables::table_ok(study.relative_grid_address) {
+        return Err(Refusal::Table);
     }
-    if !question_grids::kernel::tables::table_ok(relative_grid_address) {
-        return questions::BAD_TABLE;
-    }
-    let tp_type = shape.tp_type;
-    let num_band1 = shape.num_band1;
-    let num_band2 = shape.num_band2;
-    asks::value_first_no(
-        addresses.len() / 3,
-        tp_type,
-        num_band1,
-        num_band2,
-        frequencies1,
-        frequencies2,
-        frequency_points,
-        triplets,
-    )
+    asks::ask_values(study)
 }
 
 // The counts of a tested study, by the rows of its table, its points and its triplets.
@@ -78,6 +54,19 @@ pub fn sizes_of(shape: Shape, rows: usize, points: usize, triplets: usize) -> Si
         grid,
         shape,
     }
+}
+
+// The counts of a study that has passed questions 3 to 11.
+pub fn sizes_of_passed(study: Study) -> Sizes
+    requires { first_no (study_questions (study_of study)) ≡ 0 }
+    ensures { result ≡ sizes_of (study_of study.entry) }
+{
+    sizes_of(
+        study.shape,
+        study.relative_grid_address.len() / 12,
+        study.frequency_points.len(),
+        study.triplets.len() / 3,
+    )
 }
 
 // Question 12, of weights and flags.

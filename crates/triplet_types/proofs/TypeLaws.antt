@@ -1,14 +1,75 @@
--- The output channels of a type, by its number and at most three. Assumes nothing.
-use mathlib.Core.Path.{◌≡◌, refl}
+-- The type that a number names, its output channels, and that they are at most three. Assumes nothing.
+use mathlib.Core.Path.{◌≡◌, refl, ap}
 use mathlib.Core.Bool.{Bool, true, false, cond}
-use Prim.Native.Nat.{◌≤◌}
+use Prim.Native.Nat.{ℕ, ◌≤◌}
 use native.Mathlib.Omega.{arith}
-use lib.IntN.{ℤ}
-use Rattle.list_laws.specs.Signed.{is_nat}
-use Rattle.question_values.specs.TpTypes.{channels_of}
+use lib.IntN.{ℤ, pos, negsuc}
+use Rattle.std.proofs.Common.{Ok, Err}
+use Rattle.ask.specs.Ask.{first_no}
+use Rattle.ask.specs.declared.refusal.Refusal.TheVariants as refusal
+use Rattle.list_laws.specs.Signed.{is_nat, is_between}
+use Rattle.list_laws.proofs.EqualLaws.{nat-pos}
+use Rattle.list_laws.proofs.SignedLaws.{between-low, between-high}
+use Rattle.question_values.specs.TpTypes.{channels_of, is_tp_type}
 use Rattle.triplet_types.specs.declared.TpType.{TpType}
 use Rattle.triplet_types.specs.declared.TpType.TheVariants.{Type2, Type3, Type4}
-use Rattle.triplet_types.specs.Types.{tp_type_of, channel_count}
+use Rattle.triplet_types.specs.Types.{tp_type_of, tp_type_answer, channel_count}
+
+-- ---- the type that a number names
+
+other-number : (z : ℤ) (n : ℕ) → (z ≡ pos n → ⊥) → is_nat z n ≡ false
+other-number z n h = go (is_nat z n) refl
+  where
+    go : (b : Bool) → is_nat z n ≡ b → b ≡ false
+    go true e = absurd (h (nat-pos z n e))
+    go false e = refl
+
+pub names-two : (z : ℤ) → z ≡ pos 2 → Type2 ≡ tp_type_of z
+unfolding tp_type_of is_nat
+names-two z e = rw e refl
+
+pub names-three : (z : ℤ) → z ≡ pos 3 → Type3 ≡ tp_type_of z
+unfolding tp_type_of is_nat
+names-three z e = rw e refl
+
+pub names-four : (z : ℤ) → (z ≡ pos 2 → ⊥) → (z ≡ pos 3 → ⊥) → Type4 ≡ tp_type_of z
+unfolding tp_type_of
+names-four z two three = rw (other-number z 2 two, other-number z 3 three) refl
+
+-- ---- the answer to question 8
+
+pub answers-two : (z : ℤ) → z ≡ pos 2 → Ok Type2 ≡ tp_type_answer z
+unfolding first_no is_tp_type is_between tp_type_of is_nat
+answers-two z e = rw e refl
+
+pub answers-three : (z : ℤ) → z ≡ pos 3 → Ok Type3 ≡ tp_type_answer z
+unfolding first_no is_tp_type is_between tp_type_of is_nat
+answers-three z e = rw e refl
+
+pub answers-four : (z : ℤ) → z ≡ pos 4 → Ok Type4 ≡ tp_type_answer z
+unfolding first_no is_tp_type is_between tp_type_of is_nat
+answers-four z e = rw e refl
+
+no-type : (z : ℤ) → (z ≡ pos 2 → ⊥) → (z ≡ pos 3 → ⊥) → (z ≡ pos 4 → ⊥) → is_tp_type z ≡ false
+unfolding is_tp_type is_between
+no-type (pos k) two three four = go (is_between 2 4 (pos k)) refl
+  where
+    go : (b : Bool) → is_between 2 4 (pos k) ≡ b → b ≡ false
+    go true e =
+        let n2 : k ≡ 2 → ⊥ = λ q. two (ap pos q) in
+        let n3 : k ≡ 3 → ⊥ = λ q. three (ap pos q) in
+        let n4 : k ≡ 4 → ⊥ = λ q. four (ap pos q) in
+        let low : 2 ≤ k = between-low 2 4 (pos k) e in
+        let high : k ≤ 4 = between-high 2 4 (pos k) e in
+        absurd (omega arith)
+    go false e = refl
+no-type (negsuc k) two three four = refl
+
+pub answers-none : (z : ℤ) → (z ≡ pos 2 → ⊥) → (z ≡ pos 3 → ⊥) → (z ≡ pos 4 → ⊥) → Err refusal.TpType ≡ tp_type_answer z
+unfolding first_no
+answers-none z two three four = rw (no-type z two three four) refl
+
+-- ---- its output channels
 
 -- the outputs of the type that a number names are as many as question 12 counts
 pub channels-of-type : (tp : ℤ) → channels_of tp ≡ channel_count (tp_type_of tp)

@@ -5,36 +5,35 @@
 ghost use Rattle.std.specs.Prelude.{◌≡◌};
 ghost use Rattle.triplet_types.specs.Types.{tp_type_answer, channel_count};
 
+use ask::Refusal;
+
 pub mod kernel;
 
 // What the weights are for.
-#[derive(Clone, Copy)]
+#[derive(Clone, Copy, PartialEq, Eq, Debug)]
 pub enum TpType {
     Type2,
     Type3,
     Type4,
 }
 
-// A type, or the number of question 8.
-#[derive(Clone, Copy)]
-pub enum TpTypeAnswer {
-    Known(TpType),
-    Refused(u64),
+impl TryFrom<i64> for TpType {
+    type Error = Refusal;
+
+    ghost try_from_gives = { λ tp_type r. r ≡ tp_type_answer tp_type };
+
+    // The type that a number names. Question 8.
+    fn try_from(tp_type: i64) -> Result<TpType, Refusal> {
+        match tp_type {
+            2 => Ok(TpType::Type2),
+            3 => Ok(TpType::Type3),
+            4 => Ok(TpType::Type4),
+            _ => Err(Refusal::TpType),
+        }
+    }
 }
 
 impl TpType {
-    // The type that a number names. Question 8.
-    pub fn try_from_i64(tp_type: i64) -> TpTypeAnswer
-        ensures { result ≡ tp_type_answer tp_type }
-    {
-        if question_values::kernel::tp_type::tp_type_ok(tp_type) {
-            let tp = kernel::tp_type_of(tp_type);
-            TpTypeAnswer::Known(tp)
-        } else {
-            TpTypeAnswer::Refused(questions::BAD_TP_TYPE)
-        }
-    }
-
     // How many weights a triplet of the type has at a point of a band pair.
     pub fn num_channels(self) -> usize
         ensures { result ≡ channel_count self }

@@ -5,7 +5,7 @@ ghost use Rattle.triplet_values.specs.Values.{clamped, corner_frequency, corner_
 use crate::ValueBox;
 use triplet_types::TpType;
 
-// A value below 0 replaced by 0.
+// A value below 0 replaced by 0. Here and below the comparison is written out: std's max and min may differ at a NaN and in a zero's sign.
 fn clamp(f: f64) -> f64
     ensures { result ≡ clamped f }
 {

@@ -7,387 +7,138 @@
 
 #![tactic(auto)]
 
-ghost use Rattle.std.specs.Prelude.{◌≡◌, ◌≤◌, ◌<◌, length};
+use anyhow::Result;
+use averaging::{Averaging, average_weights_over_degenerate_sets};
+use replay_compare::kernel::same_reals;
+use replay_input::reader::{Field, Reader, next_block};
+use replay_report::cases::{Cases, Judged, stored};
+use replay_study::owned::next_list;
+use std::alloc::{AllocError, Global};
 
-use ask::kernel::number_of;
-use numbers::kernel::magnitude;
-use replay_compare::kernel as compare;
-use replay_input::kernel as input;
-use replay_input::kernel::{Cursor, Judged};
-use replay_report::kernel as report;
-use replay_report::kernel::Count;
-
-fn numbers() -> [i64; 4200]
-    ensures { 4200 ≡ length result }
-{
-    [0; 4200]
+// What is stored of one buffer.
+#[derive(Debug, Drop)]
+struct Stored<T> {
+    room: u64,
+    given: Vec<T>,
+    lengths: Vec<i64>,
+    values: Vec<T>,
 }
 
-fn values() -> [f64; 4200]
-    ensures { 4200 ≡ length result }
-{
-    [0.0; 4200]
-}
-
-fn weights_buffer() -> [f64; 12300]
-    ensures { 12300 ≡ length result }
-{
-    [0.0; 12300]
-}
-
-fn flags_buffer() -> [i8; 12300]
-    ensures { 12300 ≡ length result }
-{
-    [0; 12300]
-}
-
-// How much of the buffer a call is lent.
-fn room_of(n: u64) -> usize
-    ensures { result ≤ 12300 }
-{
-    if n < 12300 { n as usize } else { 12300 }
-}
-
-// The flags that occur.
-fn flag_of(n: i64) -> i8 {
-    match n {
-        0 => 0,
-        1 => 1,
-        2 => 2,
-        -1 => -1,
-        127 => 127,
-        _ => -128,
-    }
-}
-
-// Where a list of n stands when it is gone through over and over.
-fn place_of(i: usize, n: usize) -> usize
-    requires { 0 < n }
-    ensures { result < n }
-{
-    i % n
-}
-
-// The list over and over, up to the buffer's length.
-fn repeat_weights(list: &[f64], out: &mut [f64]) {
-    if list.len() == 0 {
-        return;
-    }
-    let mut i = 0;
-    while i < out.len() {
-        let value = list[place_of(i, list.len())];
-        out[i] = value;
-        i += 1;
-    }
-}
-
-fn repeat_flags(list: &[i64], out: &mut [i8]) {
-    if list.len() == 0 {
-        return;
-    }
-    let mut i = 0;
-    while i < out.len() {
-        let value = flag_of(list[place_of(i, list.len())]);
-        out[i] = value;
-        i += 1;
-    }
-}
-
-// Whether a buffer still holds the list over and over.
-fn weights_kept(list: &[f64], w: &[f64]) -> bool {
-    if list.len() == 0 {
-        return true;
-    }
-    let mut i = 0;
-    while i < w.len() {
-        if !compare::same_bits(w[i], list[place_of(i, list.len())]) {
-            return false;
-        }
-        i += 1;
-    }
-    true
-}
-
-fn flags_kept(list: &[i64], flags: &[i8]) -> bool {
-    if list.len() == 0 {
-        return true;
-    }
-    let mut i = 0;
-    while i < flags.len() {
-        if flags[i] != flag_of(list[place_of(i, list.len())]) {
-            return false;
-        }
-        i += 1;
-    }
-    true
-}
-
-// The end of a run of n equal values from i on, and one past the buffer's end where there is no such run.
-fn weight_run(w: &[f64], i: usize, n: usize, value: f64) -> usize {
-    let mut at = i;
-    let mut left = n;
-    while 0 < left {
-        if w.len() <= at {
-            return w.len() + 1;
-        }
-        if !compare::same_bits(w[at], value) {
-            return w.len() + 1;
-        }
-        at += 1;
-        left -= 1;
-    }
-    at
-}
-
-fn flag_run(flags: &[i8], i: usize, n: usize, value: i64) -> usize {
-    let mut at = i;
-    let mut left = n;
-    while 0 < left {
-        if flags.len() <= at {
-            return flags.len() + 1;
-        }
-        if flags[at] != flag_of(value) {
-            return flags.len() + 1;
-        }
-        at += 1;
-        left -= 1;
-    }
-    at
-}
-
-// Whether the runs, one after another, are the whole buffer.
-fn weight_runs_are(w: &[f64], lengths: &[i64], runs: &[f64]) -> bool {
-    if lengths.len() != runs.len() {
-        return false;
-    }
-    let mut at = 0;
-    let mut r = 0;
-    while r < lengths.len() {
-        at = weight_run(w, at, magnitude(lengths[r]), runs[r]);
-        r += 1;
-    }
-    at == w.len()
-}
-
-fn flag_runs_are(flags: &[i8], lengths: &[i64], runs: &[i64]) -> bool {
-    if lengths.len() != runs.len() {
-        return false;
-    }
-    let mut at = 0;
-    let mut r = 0;
-    while r < lengths.len() {
-        at = flag_run(flags, at, magnitude(lengths[r]), runs[r]);
-        r += 1;
-    }
-    at == flags.len()
-}
-
-// Where the parts of a record on one buffer start.
-#[derive(Clone, Copy)]
-struct Buffer {
-    room: usize,
-    given: Cursor,
-    runs: Cursor,
-    next: Cursor,
-}
-
-fn weights_part(text: &[u8], c: Cursor) -> Buffer
-    ensures { result.room ≤ 12300 }
-{
-    let room = input::next_count(text, c);
-    let given = room.next;
-    let mut list = values();
-    let g = input::fill_reals(text, given, &mut list);
-    let runs = g.next;
-    let mut lengths = numbers();
-    let l = input::fill_wholes(text, runs, &mut lengths);
-    let v = input::fill_reals(text, l.next, &mut list);
-    let next = v.next;
-    Buffer {
-        room: room_of(room.value),
+fn next_stored<T: Field + Default>(
+    reader: &mut Reader<'_>,
+    alloc: Global,
+) -> Result<Stored<T>, AllocError> {
+    let room = reader.next_count();
+    let given = next_list(reader, alloc)?;
+    let lengths = next_list(reader, alloc)?;
+    let values = next_list(reader, alloc)?;
+    Ok(Stored {
+        room,
         given,
-        runs,
-        next,
+        lengths,
+        values,
+    })
+}
+
+// A list over and over, up to a length; zeros where it is empty.
+fn repeated<T: Copy + Default>(list: &[T], room: u64, alloc: Global) -> Result<Vec<T>, AllocError> {
+    let mut all = Vec::new(alloc);
+    for _ in 0..room {
+        all.push(T::default())?;
     }
-}
-
-fn flags_part(text: &[u8], c: Cursor) -> Buffer
-    ensures { result.room ≤ 12300 }
-{
-    let room = input::next_count(text, c);
-    let given = room.next;
-    let mut list = numbers();
-    let g = input::fill_wholes(text, given, &mut list);
-    let runs = g.next;
-    let l = input::fill_wholes(text, runs, &mut list);
-    let v = input::fill_wholes(text, l.next, &mut list);
-    let next = v.next;
-    Buffer {
-        room: room_of(room.value),
-        given,
-        runs,
-        next,
+    for (entry, value) in all.iter_mut().zip(list.iter().cycle()) {
+        *entry = *value;
     }
+    Ok(all)
 }
 
-fn fill_weights(text: &[u8], given: Cursor, w: &mut [f64]) {
-    let mut list = values();
-    let g = input::fill_reals(text, given, &mut list);
-    let n = g.count;
-    repeat_weights(&list[..n], w);
-}
-
-fn fill_flags(text: &[u8], given: Cursor, flags: &mut [i8]) {
-    let mut list = numbers();
-    let g = input::fill_wholes(text, given, &mut list);
-    let n = g.count;
-    repeat_flags(&list[..n], flags);
-}
-
-// Whether the weights are as stored, or as they were where the call was to be refused.
-fn weights_agree(text: &[u8], given: Cursor, stored: Cursor, refusal: u64, w: &[f64]) -> bool {
-    let mut list = values();
-    if refusal == 0 {
-        let mut lengths = numbers();
-        let l = input::fill_wholes(text, stored, &mut lengths);
-        let v = input::fill_reals(text, l.next, &mut list);
-        let n = l.count;
-        let k = v.count;
-        return weight_runs_are(w, &lengths[..n], &list[..k]);
+// Runs, one after another.
+fn expanded<T: Copy>(lengths: &[i64], values: &[T], alloc: Global) -> Result<Vec<T>, AllocError> {
+    let mut all = Vec::new(alloc);
+    for (length, value) in lengths.iter().zip(values) {
+        for _ in 0..*length {
+            all.push(*value)?;
+        }
     }
-    let g = input::fill_reals(text, given, &mut list);
-    let n = g.count;
-    weights_kept(&list[..n], w)
+    Ok(all)
 }
 
-fn flags_agree(text: &[u8], given: Cursor, stored: Cursor, refusal: u64, flags: &[i8]) -> bool {
-    let mut list = numbers();
-    if refusal == 0 {
-        let mut lengths = numbers();
-        let l = input::fill_wholes(text, stored, &mut lengths);
-        let v = input::fill_wholes(text, l.next, &mut list);
-        let n = l.count;
-        let k = v.count;
-        return flag_runs_are(flags, &lengths[..n], &list[..k]);
-    }
-    let g = input::fill_wholes(text, given, &mut list);
-    let n = g.count;
-    flags_kept(&list[..n], flags)
+// What the buffer holds before the call.
+fn before<T: Copy + Default>(buffer: &Stored<T>, alloc: Global) -> Result<Vec<T>, AllocError> {
+    repeated(&buffer.given, buffer.room, alloc)
 }
 
-// The call on two buffers, which are filled first.
-fn number_after(
-    text: &[u8],
-    c: Cursor,
-    weights: Cursor,
-    flags: Cursor,
-    w: &mut [f64],
-    z: &mut [i8],
-) -> u64 {
-    fill_weights(text, weights, w);
-    fill_flags(text, flags, z);
-    let tp_type = input::next_whole(text, c);
-    let points = input::next_whole(text, tp_type.next);
-    let bands = input::next_whole(text, points.next);
-    let mut ids1 = numbers();
-    let a = input::fill_wholes(text, bands.next, &mut ids1);
-    let mut ids2 = numbers();
-    let b = input::fill_wholes(text, a.next, &mut ids2);
-    let n = a.count;
-    let k = b.count;
-    let answer = averaging::average_weights_over_degenerate_sets(
-        w,
-        z,
-        &ids1[..n],
-        &ids2[..k],
-        points.value,
-        bands.value,
-        tp_type.value,
-    );
-    number_of(answer)
-}
-
-// Where the buffers' parts of a record start.
-fn after_ids(text: &[u8], c: Cursor) -> Cursor {
-    let tp_type = input::next_whole(text, c);
-    let points = input::next_whole(text, tp_type.next);
-    let bands = input::next_whole(text, points.next);
-    let mut ids = numbers();
-    let a = input::fill_wholes(text, bands.next, &mut ids);
-    let b = input::fill_wholes(text, a.next, &mut ids);
-    b.next
-}
-
-// The call, and whether all is as stored.
-fn call_agrees(
-    text: &[u8],
-    c: Cursor,
+// What it is to hold afterwards: a refused call leaves it as it was.
+fn after<T: Copy + Default>(
+    buffer: &Stored<T>,
     refusal: u64,
-    weights: Buffer,
-    flags: Buffer,
-    w: &mut [f64],
-    z: &mut [i8],
-) -> bool {
-    let number = number_after(text, c, weights.given, flags.given, w, z);
-    (number == refusal)
-        & weights_agree(text, weights.given, weights.runs, refusal, w)
-        & flags_agree(text, flags.given, flags.runs, refusal, z)
-}
-
-fn average_case(text: &[u8], c: Cursor) -> Judged {
-    let refusal = input::next_count(text, c);
-    let head = refusal.next;
-    let weights = weights_part(text, after_ids(text, head));
-    let flags = flags_part(text, weights.next);
-    let next = flags.next;
-    let mut w = weights_buffer();
-    let mut z = flags_buffer();
-    let n = weights.room;
-    let k = flags.room;
-    let agrees = call_agrees(
-        text,
-        head,
-        refusal.value,
-        weights,
-        flags,
-        &mut w[..n],
-        &mut z[..k],
-    );
-    Judged {
-        refusal: refusal.value,
-        agrees,
-        next,
+    alloc: Global,
+) -> Result<Vec<T>, AllocError> {
+    if refusal == 0 {
+        expanded(&buffer.lengths, &buffer.values, alloc)
+    } else {
+        before(buffer, alloc)
     }
 }
 
-// The count with the cases of one block.
-fn replayed(text: &[u8], before: Count) -> Count {
-    let mut count = before;
-    let mut c = Cursor { at: 0 };
-    let mut turns = text.len();
-    while 0 < turns {
-        turns -= 1;
-        if text.len() <= c.at {
+// The flags of a list of numbers; no other than these occurs.
+fn flags_of(numbers: &[i64], alloc: Global) -> Result<Vec<i8>, AllocError> {
+    numbers
+        .iter()
+        .map(|n| i8::try_from(*n).unwrap_or(i8::MIN))
+        .collect(alloc)
+}
+
+fn average_case(reader: &mut Reader<'_>, alloc: Global) -> Result<Judged, AllocError> {
+    let refusal = reader.next_count();
+    let tp_type = reader.next_whole();
+    let num_band0 = reader.next_whole();
+    let num_band = reader.next_whole();
+    let ids1 = next_list(reader, alloc)?;
+    let ids2 = next_list(reader, alloc)?;
+    let weights: Stored<f64> = next_stored(reader, alloc)?;
+    let flags: Stored<i64> = next_stored(reader, alloc)?;
+    let averaging = Averaging {
+        degenerate_ids1: &ids1,
+        degenerate_ids2: &ids2,
+        num_band0,
+        num_band,
+        tp_type,
+    };
+    let mut iw = before(&weights, alloc)?;
+    let mut iw_zero = flags_of(&before(&flags, alloc)?, alloc)?;
+    let answer = average_weights_over_degenerate_sets(averaging, &mut iw, &mut iw_zero);
+    let weights_after = after(&weights, refusal, alloc)?;
+    let flags_after = flags_of(&after(&flags, refusal, alloc)?, alloc)?;
+    let agrees = answer.map_err(|why| why.number()) == stored(refusal, ())
+        && same_reals(&iw, &weights_after)
+        && iw_zero == flags_after;
+    Ok(Judged { refusal, agrees })
+}
+
+// Counts the cases of one block.
+fn replay(rt: &HostRuntime, text: &[u8], cases: &mut Cases) -> Result<()> {
+    let mut reader = Reader::new(text);
+    // a record has a byte at least
+    for _ in text {
+        if reader.is_at_end() {
             break;
         }
-        let j = average_case(text, c);
-        count = report::counted(b"averages", count, j.refusal, j.agrees);
-        c = j.next;
+        let judged = average_case(&mut reader, rt.alloc())?;
+        cases.add(rt, judged)?;
     }
-    count
+    Ok(())
 }
 
-fn main() {
-    let mut count = report::no_cases();
+fn main(rt: HostRuntime) -> Result<()> {
+    let mut cases = Cases::new("averages", "averages");
     let mut text = io::large_buffer();
-    let mut blocks: u64 = 1000;
-    while 0 < blocks {
-        blocks -= 1;
-        let n = input::read_block(&mut text);
-        if n == 0 {
+    for _ in 0..1000 {
+        let Some(block) = next_block(&mut text) else {
             break;
-        }
-        count = replayed(&text[..n], count);
+        };
+        replay(&rt, block, &mut cases)?;
     }
-    report::print_count(b"averages", count);
+    println!(rt; "{cases}")?;
+    Ok(())
 }

@@ -12,488 +12,254 @@
 
 #![tactic(auto)]
 
-ghost use Rattle.std.specs.Prelude.{◌≡◌, length};
-
-use ask::Answer;
-use replay_compare::kernel as compare;
-use replay_input::kernel as input;
-use replay_input::kernel::{Cursor, Judged, stamps};
-use replay_report::kernel as report;
-use replay_report::kernel::Count;
-use replay_study::kernel as records;
+use anyhow::{Context, Result};
+use ask::kernel::status_of;
+use grid_point_weights::GridPointStudy;
+use replay_compare::kernel::same_reals;
+use replay_input::kernel::stamps::{mark, stamp};
+use replay_input::reader::{Reader, next_block};
+use replay_report::cases::{Cases, Judged, UnknownRecord, after_call, print_all, stored};
+use replay_study::owned::{OwnGrid, next_grid, next_list};
+use std::alloc::{AllocError, Global};
 use tetrahedron_method::WeightFunction;
-use triplet_addresses::IsNAnswer;
 
-fn numbers() -> [i64; 4200]
-    ensures { 4200 ≡ length result }
-{
-    [0; 4200]
+#[derive(Clone, Copy, Debug, PartialEq, Eq)]
+enum Record {
+    Grid,
+    Study,
+    Weights,
+    RepeatedPoint,
+    Normal,
+    Copies,
 }
 
-// A number over and over.
-fn many_numbers(value: i64) -> [i64; 65537]
-    ensures { 65537 ≡ length result }
-{
-    [value; 65537]
-}
+impl TryFrom<u64> for Record {
+    type Error = UnknownRecord;
 
-fn reals() -> [f64; 4200]
-    ensures { 4200 ≡ length result }
-{
-    [0.0; 4200]
-}
-
-fn many_reals(value: f64) -> [f64; 65537]
-    ensures { 65537 ≡ length result }
-{
-    [value; 65537]
-}
-
-// ---- lists
-
-fn same_reals(a: &[f64], b: &[f64]) -> bool {
-    if a.len() != b.len() {
-        return false;
-    }
-    let mut i = 0;
-    while i < a.len() {
-        if !compare::same_bits(a[i], b[i]) {
-            return false;
+    fn try_from(kind: u64) -> Result<Self, UnknownRecord> {
+        match kind {
+            1 => Ok(Record::Grid),
+            2 => Ok(Record::Study),
+            3 => Ok(Record::Weights),
+            4 => Ok(Record::RepeatedPoint),
+            5 => Ok(Record::Normal),
+            6 => Ok(Record::Copies),
+            _ => Err(UnknownRecord(kind)),
         }
-        i += 1;
     }
-    true
+}
+
+// What is counted.
+#[derive(Clone, Copy, Debug, PartialEq, Eq)]
+enum Kind {
+    Weights,
+    Normal,
+    Copies,
+}
+
+fn no_cases() -> [Cases; 3] {
+    [
+        Cases::new("weights", "weights at grid points"),
+        Cases::new("normal", "normal triplets"),
+        Cases::new("copies", "copies of a table"),
+    ]
 }
 
 // ---- weights at grid points
 
-fn function_of(n: u64) -> WeightFunction {
-    if n == 0 {
-        WeightFunction::I
-    } else {
-        WeightFunction::J
-    }
+#[derive(Debug, Drop)]
+struct Study {
+    table: Vec<i64>,
+    irreducible: Vec<i64>,
+    frequencies: Vec<f64>,
+    points: Vec<f64>,
 }
 
-// An accepted call filled the buffer with the stored weights; a refused one gave its number and left the buffer as it was.
-fn weights_agree(answer: Answer, refusal: u64, iw: &[f64], stored: &[f64]) -> bool {
-    match answer {
-        Answer::Done => {
-            if refusal == 0 {
-                same_reals(iw, stored)
-            } else {
-                false
-            }
-        }
-        Answer::Refused(number) => {
-            if (0 < number) & (number == refusal) {
-                stamps::is_marked(iw)
-            } else {
-                false
-            }
-        }
-    }
+fn next_study(reader: &mut Reader<'_>, alloc: Global) -> Result<Study, AllocError> {
+    let table = next_list(reader, alloc)?;
+    let irreducible = next_list(reader, alloc)?;
+    let frequencies = next_list(reader, alloc)?;
+    let points = next_list(reader, alloc)?;
+    Ok(Study {
+        table,
+        irreducible,
+        frequencies,
+        points,
+    })
 }
 
-fn call_agrees(
-    iw: &mut [f64],
-    points: &[f64],
-    table: &[i64],
-    grid_points: &[i64],
-    frequencies: &[f64],
-    bands: i64,
-    num_ir: i64,
-    kind: i64,
-    mesh: [i64; 3],
-    addresses: &[i64],
-    map: &[i64],
-    irreducible: &[i64],
+// What a call lends beside its grid and its study.
+#[derive(Clone, Copy)]
+struct Asked<'a> {
     function: WeightFunction,
+    num_band: i64,
+    num_ir: i64,
+    grid_points: &'a [i64],
+}
+
+fn function_of(number: u64) -> WeightFunction {
+    match number {
+        0 => WeightFunction::I,
+        _ => WeightFunction::J,
+    }
+}
+
+// The number of the call's refusal, 0 where the weights are in the buffer.
+fn weights_called(iw: &mut [f64], grid: &OwnGrid, study: &Study, asked: Asked<'_>) -> u64 {
+    let lent = GridPointStudy {
+        grid: grid.lent(),
+        relative_grid_address: &study.table,
+        gp2irgp_map: &study.irreducible,
+        num_ir: asked.num_ir,
+        num_band: asked.num_band,
+        frequencies: &study.frequencies,
+        frequency_points: &study.points,
+        function: asked.function,
+    };
+    match grid_point_weights::integration_weights_at_grid_points(lent, asked.grid_points, iw) {
+        Ok(()) => 0,
+        Err(why) => why.number(),
+    }
+}
+
+// An accepted call is to fill a buffer of a length with the stored weights, a refused one to leave it.
+fn weights_judged(
+    alloc: Global,
+    grid: &OwnGrid,
+    study: &Study,
+    asked: Asked<'_>,
     refusal: u64,
-    stored: &[f64],
-) -> bool {
-    stamps::mark(iw);
-    let answer = grid_point_weights::integration_weights_at_grid_points(
-        iw,
-        points,
-        table,
-        grid_points,
-        frequencies,
-        bands,
-        num_ir,
-        kind,
-        mesh,
-        addresses,
-        map,
-        irreducible,
+    length: usize,
+    weights: &[f64],
+) -> Result<Judged, AllocError> {
+    let mut iw = vec![in alloc; 0.0; length]?;
+    mark(iw.as_mut_slice());
+    let before = iw.clone()?;
+    let number = weights_called(iw.as_mut_slice(), grid, study, asked);
+    let agrees = number == refusal && same_reals(&iw, after_call(refusal, weights, &before));
+    Ok(Judged { refusal, agrees })
+}
+
+fn weights_case(
+    reader: &mut Reader<'_>,
+    alloc: Global,
+    grid: &OwnGrid,
+    study: &Study,
+) -> Result<Judged, AllocError> {
+    let refusal = reader.next_count();
+    let function = function_of(reader.next_count());
+    let num_band = reader.next_whole();
+    let num_ir = reader.next_whole();
+    let grid_points: Vec<i64> = next_list(reader, alloc)?;
+    let length = reader.next_count() as usize;
+    let weights: Vec<f64> = next_list(reader, alloc)?;
+    let asked = Asked {
         function,
-    );
-    weights_agree(answer, refusal, iw, stored)
+        num_band,
+        num_ir,
+        grid_points: &grid_points,
+    };
+    weights_judged(alloc, grid, study, asked, refusal, length, &weights)
 }
 
-fn list_case(
-    text: &[u8],
-    c: Cursor,
-    kind: i64,
-    mesh: [i64; 3],
-    addresses: &[i64],
-    map: &[i64],
-    table: &[i64],
-    irreducible: &[i64],
-    frequencies: &[f64],
-    points: &[f64],
-) -> Judged {
-    let refusal = input::next_count(text, c);
-    let which = input::next_count(text, refusal.next);
-    let bands = input::next_whole(text, which.next);
-    let num_ir = input::next_whole(text, bands.next);
-    let mut grid_points = numbers();
-    let p = input::fill_wholes(text, num_ir.next, &mut grid_points);
-    let room = input::next_count(text, p.next);
-    let mut stored = reals();
-    let e = input::fill_reals(text, room.next, &mut stored);
-    let mut iw = reals();
-    let n = input::room_of(room.value, &iw);
-    let b = bands.value;
-    let r = num_ir.value;
-    let q = p.count;
-    let m = e.count;
-    let next = e.next;
-    let agrees = call_agrees(
-        &mut iw[..n],
-        points,
-        table,
-        &grid_points[..q],
-        frequencies,
-        b,
-        r,
-        kind,
-        mesh,
-        addresses,
-        map,
-        irreducible,
-        function_of(which.value),
-        refusal.value,
-        &stored[..m],
-    );
-    Judged {
-        refusal: refusal.value,
-        agrees,
-        next,
-    }
-}
-
-fn crowd_case(
-    text: &[u8],
-    c: Cursor,
-    kind: i64,
-    mesh: [i64; 3],
-    addresses: &[i64],
-    map: &[i64],
-    table: &[i64],
-    irreducible: &[i64],
-    frequencies: &[f64],
-    points: &[f64],
-) -> Judged {
-    let refusal = input::next_count(text, c);
-    let which = input::next_count(text, refusal.next);
-    let num_ir = input::next_whole(text, which.next);
-    let times = input::next_count(text, num_ir.next);
-    let point = input::next_whole(text, times.next);
-    let room = input::next_count(text, point.next);
-    let stored = input::next_real(text, room.next);
-    let grid_points = many_numbers(point.value);
-    let all = many_reals(stored.value);
-    let mut iw = many_reals(0.0);
-    let q = input::part_of(times.value, &grid_points);
-    let n = input::room_of(room.value, &iw);
-    let m = input::room_of(room.value, &all);
-    let r = num_ir.value;
-    let next = stored.next;
-    let agrees = call_agrees(
-        &mut iw[..n],
-        points,
-        table,
-        &grid_points[..q],
-        frequencies,
-        1,
-        r,
-        kind,
-        mesh,
-        addresses,
-        map,
-        irreducible,
-        function_of(which.value),
-        refusal.value,
-        &all[..m],
-    );
-    Judged {
-        refusal: refusal.value,
-        agrees,
-        next,
-    }
-}
-
-fn call_case(
-    text: &[u8],
-    c: Cursor,
-    record: u64,
-    kind: i64,
-    mesh: [i64; 3],
-    addresses: &[i64],
-    map: &[i64],
-    table: &[i64],
-    irreducible: &[i64],
-    frequencies: &[f64],
-    points: &[f64],
-) -> Judged {
-    if record == 3 {
-        return list_case(
-            text,
-            c,
-            kind,
-            mesh,
-            addresses,
-            map,
-            table,
-            irreducible,
-            frequencies,
-            points,
-        );
-    }
-    crowd_case(
-        text,
-        c,
-        kind,
-        mesh,
-        addresses,
-        map,
-        table,
-        irreducible,
-        frequencies,
-        points,
-    )
-}
-
-// A record that is no case.
-fn read_only(next: Cursor) -> Judged {
-    Judged {
-        refusal: 0,
-        agrees: true,
-        next,
-    }
-}
-
-// A call on the study whose record starts at study; after record 2, which is the study, nothing but where the next record starts.
-fn study_case(
-    text: &[u8],
-    study: Cursor,
-    c: Cursor,
-    record: u64,
-    kind: i64,
-    mesh: [i64; 3],
-    addresses: &[i64],
-    map: &[i64],
-) -> Judged {
-    let mut table = numbers();
-    let t = input::fill_wholes(text, study, &mut table);
-    let mut irreducible = numbers();
-    let i = input::fill_wholes(text, t.next, &mut irreducible);
-    let mut frequencies = reals();
-    let f = input::fill_reals(text, i.next, &mut frequencies);
-    let mut points = reals();
-    let x = input::fill_reals(text, f.next, &mut points);
-    let nt = t.count;
-    let ni = i.count;
-    let nf = f.count;
-    let nx = x.count;
-    let next = x.next;
-    if record == 2 {
-        return read_only(next);
-    }
-    call_case(
-        text,
-        c,
-        record,
-        kind,
-        mesh,
-        addresses,
-        map,
-        &table[..nt],
-        &irreducible[..ni],
-        &frequencies[..nf],
-        &points[..nx],
-    )
-}
-
-// A call on the grid whose record starts at grid, and the study whose record starts at study; after record 1, which is the grid, nothing
-// but where the next record starts.
-fn weights_case(text: &[u8], grid: Cursor, study: Cursor, c: Cursor, record: u64) -> Judged {
-    let mut addresses = numbers();
-    let mut map = numbers();
-    let g = records::read_grid(text, grid, &mut addresses, &mut map);
-    let k = g.kind;
-    let d = g.mesh;
-    let p = g.addresses;
-    let v = g.map;
-    let next = g.next;
-    if record == 1 {
-        return read_only(next);
-    }
-    study_case(text, study, c, record, k, d, &addresses[..p], &map[..v])
+fn repeated_case(
+    reader: &mut Reader<'_>,
+    alloc: Global,
+    grid: &OwnGrid,
+    study: &Study,
+) -> Result<Judged, AllocError> {
+    let refusal = reader.next_count();
+    let function = function_of(reader.next_count());
+    let num_ir = reader.next_whole();
+    let times = reader.next_count() as usize;
+    let grid_points = vec![in alloc; reader.next_whole(); times]?;
+    let length = reader.next_count() as usize;
+    let weights = vec![in alloc; reader.next_real(); length]?;
+    let asked = Asked {
+        function,
+        num_band: 1,
+        num_ir,
+        grid_points: &grid_points,
+    };
+    weights_judged(alloc, grid, study, asked, refusal, length, &weights)
 }
 
 // ---- normal triplets and copies of a table
 
-fn normal_agrees(answer: IsNAnswer, refusal: u64, normal: bool) -> bool {
-    match answer {
-        IsNAnswer::Normal(n) => (refusal == 0) & (n == normal),
-        IsNAnswer::Refused(number) => (0 < number) & (number == refusal),
-    }
+fn normal_case(reader: &mut Reader<'_>, alloc: Global) -> Result<Judged, AllocError> {
+    let refusal = reader.next_count();
+    let triplet = reader.next_three();
+    let addresses: Vec<i64> = next_list(reader, alloc)?;
+    let normal = reader.next_count() == 1;
+    let answer = triplet_addresses::is_n(triplet, &addresses);
+    Ok(Judged {
+        refusal,
+        agrees: answer.map_err(|why| why.number()) == stored(refusal, normal),
+    })
 }
 
-fn normal_case(text: &[u8], c: Cursor) -> Judged {
-    let refusal = input::next_count(text, c);
-    let triplet = input::next_three(text, refusal.next);
-    let mut addresses = numbers();
-    let a = input::fill_wholes(text, triplet.next, &mut addresses);
-    let stored = input::next_count(text, a.next);
-    let t = triplet.value;
-    let p = a.count;
-    let next = stored.next;
-    let normal = stored.value == 1;
-    let answer = triplet_addresses::is_n(t, &addresses[..p]);
-    Judged {
-        refusal: refusal.value,
-        agrees: normal_agrees(answer, refusal.value, normal),
-        next,
-    }
+fn copies_case(reader: &mut Reader<'_>, alloc: Global) -> Result<Judged, AllocError> {
+    let refusal = reader.next_count();
+    let tp_type = reader.next_whole();
+    let table: Vec<i64> = next_list(reader, alloc)?;
+    let mut out = vec![in alloc; 0; reader.next_count() as usize]?;
+    let numbers: Vec<i64> = next_list(reader, alloc)?;
+    stamp(out.as_mut_slice());
+    let before = out.clone()?;
+    let answer = triplet_addresses::set_relative_grid_address(out.as_mut_slice(), &table, tp_type);
+    let agrees = status_of(answer) == refusal
+        && out.as_slice() == after_call(refusal, &numbers, &before);
+    Ok(Judged { refusal, agrees })
 }
 
-fn copies_agree(answer: Answer, refusal: u64, out: &[i64], stored: &[i64]) -> bool {
-    match answer {
-        Answer::Done => {
-            if refusal == 0 {
-                compare::same(out, stored)
-            } else {
-                false
-            }
-        }
-        Answer::Refused(number) => {
-            if (0 < number) & (number == refusal) {
-                stamps::is_stamped(out)
-            } else {
-                false
-            }
-        }
-    }
-}
-
-fn filled_agrees(
-    out: &mut [i64],
-    table: &[i64],
-    tp_type: i64,
-    refusal: u64,
-    stored: &[i64],
-) -> bool {
-    stamps::stamp(out);
-    let answer = triplet_addresses::set_relative_grid_address(out, table, tp_type);
-    copies_agree(answer, refusal, out, stored)
-}
-
-fn copies_case(text: &[u8], c: Cursor) -> Judged {
-    let refusal = input::next_count(text, c);
-    let tp_type = input::next_whole(text, refusal.next);
-    let mut table = numbers();
-    let t = input::fill_wholes(text, tp_type.next, &mut table);
-    let room = input::next_count(text, t.next);
-    let mut stored = numbers();
-    let e = input::fill_wholes(text, room.next, &mut stored);
-    let mut out = numbers();
-    let n = input::part_of(room.value, &out);
-    let ty = tp_type.value;
-    let k = t.count;
-    let m = e.count;
-    let next = e.next;
-    let agrees = filled_agrees(&mut out[..n], &table[..k], ty, refusal.value, &stored[..m]);
-    Judged {
-        refusal: refusal.value,
-        agrees,
-        next,
-    }
-}
-
-#[derive(Clone, Copy)]
-struct Counts {
-    weights: Count,
-    normal: Count,
-    copies: Count,
-}
-
-// The counts with the cases of one block.
-fn replayed(text: &[u8], before: Counts) -> Counts {
-    let mut weights = before.weights;
-    let mut normal = before.normal;
-    let mut copies = before.copies;
-    let mut c = Cursor { at: 0 };
-    let mut grid = Cursor { at: 0 };
-    let mut study = Cursor { at: 0 };
-    let mut turns = text.len();
-    while 0 < turns {
-        turns -= 1;
-        if text.len() <= c.at {
+// Counts the cases of one block.
+fn replay(rt: &HostRuntime, text: &[u8], cases: &mut [Cases; 3]) -> Result<()> {
+    let alloc = rt.alloc();
+    let mut reader = Reader::new(text);
+    let mut grids: Option<OwnGrid> = None;
+    let mut studies: Option<Study> = None;
+    // a record has a byte at least
+    for _ in text {
+        if reader.is_at_end() {
             break;
         }
-        let record = input::next_count(text, c);
-        let start = record.next;
-        if record.value == 5 {
-            let j = normal_case(text, start);
-            normal = report::counted(b"normal", normal, j.refusal, j.agrees);
-            c = j.next;
-        } else if record.value == 6 {
-            let j = copies_case(text, start);
-            copies = report::counted(b"copies", copies, j.refusal, j.agrees);
-            c = j.next;
-        } else {
-            if record.value == 1 {
-                grid = start;
-            } else if record.value == 2 {
-                study = start;
+        let record = Record::try_from(reader.next_count())?;
+        let grid = grids.as_ref().context("a call before any grid");
+        let study = studies.as_ref().context("a call before any study");
+        let (kind, judged) = match record {
+            Record::Grid => {
+                grids = Some(next_grid(&mut reader, alloc)?);
+                continue;
             }
-            let j = weights_case(text, grid, study, start, record.value);
-            if 2 < record.value {
-                weights = report::counted(b"weights", weights, j.refusal, j.agrees);
+            Record::Study => {
+                studies = Some(next_study(&mut reader, alloc)?);
+                continue;
             }
-            c = j.next;
-        }
+            Record::Weights => (
+                Kind::Weights,
+                weights_case(&mut reader, alloc, grid?, study?)?,
+            ),
+            Record::RepeatedPoint => (
+                Kind::Weights,
+                repeated_case(&mut reader, alloc, grid?, study?)?,
+            ),
+            Record::Normal => (Kind::Normal, normal_case(&mut reader, alloc)?),
+            Record::Copies => (Kind::Copies, copies_case(&mut reader, alloc)?),
+        };
+        cases[kind as usize].add(rt, judged)?;
     }
-    Counts {
-        weights,
-        normal,
-        copies,
-    }
+    Ok(())
 }
 
-fn main() {
-    let mut counts = Counts {
-        weights: report::no_cases(),
-        normal: report::no_cases(),
-        copies: report::no_cases(),
-    };
+fn main(rt: HostRuntime) -> Result<()> {
+    let mut cases = no_cases();
     let mut text = io::large_buffer();
-    let mut blocks: u64 = 1000;
-    while 0 < blocks {
-        blocks -= 1;
-        let n = input::read_block(&mut text);
-        if n == 0 {
+    for _ in 0..1000 {
+        let Some(block) = next_block(&mut text) else {
             break;
-        }
-        counts = replayed(&text[..n], counts);
+        };
+        replay(&rt, block, &mut cases)?;
     }
-    let weights = counts.weights;
-    let normal = counts.normal;
-    let copies = counts.copies;
-    report::print_count(b"weights at grid points", weights);
-    report::print_count(b"normal triplets", normal);
-    report::print_count(b"copies of a table", copies);
+    print_all(&rt, &cases)?;
+    Ok(())
 }

@@ -6,209 +6,108 @@
 
 #![tactic(auto)]
 
-ghost use Rattle.std.specs.Prelude.{◌+◌, ◌≤◌, ◌≡◌, length};
-
-use ask::kernel::number_of;
-use replay_compare::kernel as compare;
-use replay_input::kernel as input;
-use replay_input::kernel::{Cursor, Judged};
-use replay_report::kernel as report;
-use replay_report::kernel::Count;
+use anyhow::Result;
+use listing_read::read_listing;
+use replay_compare::kernel::same_bits;
+use replay_input::kernel::at_most;
+use replay_input::reader::{Reader, next_block};
+use replay_report::cases::{Cases, Judged, print_all};
 use sheet_counts::Counts;
+use std::alloc::{AllocError, Global};
 
 // What the weights hold before a call: no record stored has such a weight.
-fn weights_before() -> [f64; 1200]
-    ensures { 1200 ≡ length result }
-{
-    [-1.5e300; 1200]
-}
+const WEIGHT_BEFORE: f64 = -1.5e300;
 
 // What the flags hold before a call: no flag.
-fn flags_before() -> [i8; 1200]
-    ensures { 1200 ≡ length result }
-{
-    [5; 1200]
-}
+const FLAG_BEFORE: i8 = 5;
 
-// ---- after a call
+// More weights or flags than any record has.
+const MOST: usize = 1200;
 
-fn are_weights_kept(weights: &[f64]) -> bool {
-    let mut kept = true;
-    let mut i = 0;
-    while i < weights.len() {
-        kept = kept & compare::same_bits(weights[i], -1.5e300);
-        i += 1;
-    }
-    kept
-}
-
-fn are_flags_kept(flags: &[i8]) -> bool {
-    let mut kept = true;
-    let mut i = 0;
-    while i < flags.len() {
-        kept = kept & (flags[i] == 5);
-        i += 1;
-    }
-    kept
-}
-
-// Whether the weights are the stored ones, and where the rest is stored.
-fn weights_agree(text: &[u8], from: Cursor, weights: &[f64]) -> Judged {
-    let mut agrees = true;
-    let mut next = from;
-    let mut i = 0;
-    while i < weights.len() {
-        let stored = input::next_real(text, next);
-        agrees = agrees & compare::same_bits(weights[i], stored.value);
-        next = stored.next;
-        i += 1;
-    }
-    Judged {
-        refusal: 0,
-        agrees,
-        next,
-    }
+// Whether both buffers are as they were before a call.
+fn are_kept(weights: &[f64], flags: &[i8]) -> bool {
+    weights.iter().all(|w| same_bits(*w, WEIGHT_BEFORE)) && flags.iter().all(|f| *f == FLAG_BEFORE)
 }
 
 // Whether a flag is a stored number.
 fn is_flag(flag: i8, stored: u64) -> bool {
-    if stored == 0 {
-        return flag == 0;
-    }
-    (stored == 1) & (flag == 1)
-}
-
-// The same of the flags, where all before them was well.
-fn flags_agree(text: &[u8], before: Judged, flags: &[i8]) -> Judged {
-    let mut agrees = before.agrees;
-    let mut next = before.next;
-    let mut i = 0;
-    while i < flags.len() {
-        let stored = input::next_count(text, next);
-        agrees = agrees & is_flag(flags[i], stored.value);
-        next = stored.next;
-        i += 1;
-    }
-    Judged {
-        refusal: 0,
-        agrees,
-        next,
+    match stored {
+        0 => flag == 0,
+        1 => flag == 1,
+        _ => false,
     }
 }
 
-// ---- a call
+// Whether the weights and the flags are those stored next. All of them are read.
+fn are_stored(reader: &mut Reader<'_>, weights: &[f64], flags: &[i8]) -> bool {
+    let mut agrees = true;
+    for weight in weights {
+        agrees &= same_bits(*weight, reader.next_real());
+    }
+    for flag in flags {
+        agrees &= is_flag(*flag, reader.next_count());
+    }
+    agrees
+}
+
+// The next bytes of the text as they are, which a newline ends.
+fn next_bytes<'a>(reader: &mut Reader<'a>, size: u64) -> &'a [u8] {
+    let text = reader.text;
+    let from = reader.at.min(text.len());
+    let to = from + at_most(size, text.len() - from);
+    reader.at = to + 1;
+    &text[from..to]
+}
+
+fn next_counts(reader: &mut Reader<'_>) -> Counts {
+    Counts {
+        num_triplets: reader.next_whole(),
+        num_band0: reader.next_whole(),
+        num_band1: reader.next_whole(),
+        num_band2: reader.next_whole(),
+    }
+}
 
 // The call on two buffers, compared with what is stored for it.
-fn call_agrees(
-    text: &[u8],
-    next: Cursor,
-    status: u64,
-    tp_type: i64,
-    counts: Counts,
-    listing: &[u8],
-    weights: &mut [f64],
-    flags: &mut [i8],
-) -> Judged {
-    let answer = listing_read::read_listing(listing, tp_type, counts, weights, flags);
-    let number = number_of(answer);
-    if number != status {
-        return Judged {
-            refusal: status,
-            agrees: false,
-            next,
-        };
-    }
-    if status != 0 {
-        return Judged {
-            refusal: status,
-            agrees: are_weights_kept(weights) & are_flags_kept(flags),
-            next,
-        };
-    }
-    let first = weights_agree(text, next, weights);
-    flags_agree(text, first, flags)
-}
-
-// An index within a text.
-fn within(at: usize, len: usize) -> usize
-    ensures { result ≤ len }
-{
-    if at < len { at } else { len }
-}
-
-// The index behind n bytes, or the end of the text.
-fn behind(at: usize, n: u64, len: usize) -> usize
-    requires { at ≤ len }
-    ensures { (at ≤ result) × (result ≤ len) }
-{
-    at + input::at_most(n, len - at)
-}
-
-fn listing_case(text: &[u8], c: Cursor) -> Judged {
-    let status = input::next_count(text, c);
-    let tp_type = input::next_whole(text, status.next);
-    let triplets = input::next_whole(text, tp_type.next);
-    let points = input::next_whole(text, triplets.next);
-    let bands1 = input::next_whole(text, points.next);
-    let bands2 = input::next_whole(text, bands1.next);
-    let num_weights = input::next_count(text, bands2.next);
-    let num_flags = input::next_count(text, num_weights.next);
-    let size = input::next_count(text, num_flags.next);
-    let start = size.next;
-    let from = within(start.at, text.len());
-    let to = behind(from, size.value, text.len());
-    let mut weights = weights_before();
-    let mut flags = flags_before();
-    let n = input::room_of(num_weights.value, &weights);
-    let k = input::places_of(num_flags.value, &flags);
-    let counts = Counts {
-        num_triplets: triplets.value,
-        num_band0: points.value,
-        num_band1: bands1.value,
-        num_band2: bands2.value,
+fn listing_case(reader: &mut Reader<'_>, alloc: Global) -> Result<Judged, AllocError> {
+    let refusal = reader.next_count();
+    let tp_type = reader.next_whole();
+    let counts = next_counts(reader);
+    let num_weights = at_most(reader.next_count(), MOST);
+    let num_flags = at_most(reader.next_count(), MOST);
+    let size = reader.next_count();
+    let listing = next_bytes(reader, size);
+    let mut weights = vec![in alloc; WEIGHT_BEFORE; num_weights]?;
+    let mut flags = vec![in alloc; FLAG_BEFORE; num_flags]?;
+    let agrees = match read_listing(listing, tp_type, counts, &mut weights, &mut flags) {
+        Ok(()) => refusal == 0 && are_stored(reader, &weights, &flags),
+        Err(why) => why.number() == refusal && are_kept(&weights, &flags),
     };
-    let end = within(to, 65536);
-    let next = Cursor { at: end + 1 };
-    call_agrees(
-        text,
-        next,
-        status.value,
-        tp_type.value,
-        counts,
-        &text[from..to],
-        &mut weights[..n],
-        &mut flags[..k],
-    )
+    Ok(Judged { refusal, agrees })
 }
 
-// The count with the cases of one block.
-fn replayed(text: &[u8], before: Count) -> Count {
-    let mut count = before;
-    let mut c = Cursor { at: 0 };
-    let mut turns = text.len();
-    while 0 < turns {
-        turns -= 1;
-        if text.len() <= c.at {
+// Counts the cases of one block.
+fn replay(rt: &HostRuntime, text: &[u8], cases: &mut Cases) -> Result<()> {
+    let mut reader = Reader::new(text);
+    // a record has a byte at least
+    for _ in text {
+        if reader.is_at_end() {
             break;
         }
-        let j = listing_case(text, c);
-        count = report::counted(b"listings read", count, j.refusal, j.agrees);
-        c = j.next;
+        cases.add(rt, listing_case(&mut reader, rt.alloc())?)?;
     }
-    count
+    Ok(())
 }
 
-fn main() {
-    let mut count = report::no_cases();
+fn main(rt: HostRuntime) -> Result<()> {
+    let mut cases = Cases::new("listings read", "listings read");
     let mut text = io::large_buffer();
-    let mut blocks: u64 = 1000;
-    while 0 < blocks {
-        blocks -= 1;
-        let n = input::read_block(&mut text);
-        if n == 0 {
+    for _ in 0..1000 {
+        let Some(block) = next_block(&mut text) else {
             break;
-        }
-        count = replayed(&text[..n], count);
+        };
+        replay(&rt, block, &mut cases)?;
     }
-    report::print_count(b"listings read", count);
+    print_all(&rt, &[cases])?;
+    Ok(())
 }

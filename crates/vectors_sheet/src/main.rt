@@ -17,42 +17,45 @@
 
 #![tactic(auto)]
 
-ghost use Rattle.std.specs.Prelude.{◌≡◌, length};
-
+use anyhow::Result;
 use replay_calls::kernel::calls;
 use replay_calls::kernel::calls::Call;
 use replay_calls::kernel::study::{numbers, study_call};
 use replay_input::kernel as input;
 use replay_input::kernel::Cursor;
+use replay_input::reader::next_block;
+use replay_report::cases::UnknownRecord;
 use replay_sheet::kernel as content;
-use replay_sheet::kernel::{counts, open, tallies};
+use replay_sheet::kernel::counts::{AnswerCounts, CallKind, UnknownCall};
+use replay_sheet::kernel::{open, tallies};
 use replay_study::kernel as records;
-use sheet::{Answer, SheetAnswer, Tally};
+use sheet::{Answered, Refusal, Tally};
+
+#[derive(Clone, Copy, Debug, PartialEq, Eq)]
+enum Record {
+    Grid,
+    Table,
+    Study,
+    List,
+    OpenCount,
+}
+
+impl TryFrom<u64> for Record {
+    type Error = UnknownRecord;
+
+    fn try_from(kind: u64) -> Result<Self, UnknownRecord> {
+        match kind {
+            1 => Ok(Record::Grid),
+            2 => Ok(Record::Table),
+            3 => Ok(Record::Study),
+            4 => Ok(Record::List),
+            5 => Ok(Record::OpenCount),
+            _ => Err(UnknownRecord(kind)),
+        }
+    }
+}
 
 // ---- the calls
-
-// What a call gave: the number of its refusal, 0 where it is done, and the tally afterwards.
-#[derive(Clone, Copy)]
-struct Made {
-    number: u64,
-    tally: Tally,
-}
-
-fn number_in(answer: Answer) -> u64 {
-    match answer {
-        Answer::Done => 0,
-        Answer::Refused(number) => counts::refusal_of(number),
-    }
-}
-
-fn made_of(done: SheetAnswer) -> Made {
-    let answer = done.answer;
-    let after = done.tally;
-    Made {
-        number: number_in(answer),
-        tally: after,
-    }
-}
 
 // Where the records of the grid, the table and the study start.
 #[derive(Clone, Copy)]
@@ -75,7 +78,7 @@ fn grid_call(
     list2: &[i64],
     answers: &mut [u64],
     tallies: &mut [u64],
-) -> SheetAnswer {
+) -> Result<Tally, Refusal> {
     let mut addresses = numbers();
     let mut map = numbers();
     let g = records::read_grid(text, places.grid, &mut addresses, &mut map);
@@ -120,11 +123,10 @@ struct Called {
 }
 
 // Answers and tallies held to the stored ones, which start at c.
-fn held(text: &[u8], c: Cursor, done: SheetAnswer, answers: &[u64], tallies: &[u64]) -> Called {
+fn held(text: &[u8], c: Cursor, made: Answered, answers: &[u64], tallies: &[u64]) -> Called {
     let a = content::same_answers(text, c, answers);
     let t = content::same_answers(text, a.next, tallies);
     let next = t.next;
-    let made = made_of(done);
     let after = made.tally;
     Called {
         number: checked(made.number, a.agrees & t.agrees),
@@ -150,7 +152,7 @@ fn lists_call(
     let done = grid_call(
         text, places, call, weights, flags, marks, tally, list1, list2, answers, tallies,
     );
-    held(text, c, done, answers, tallies)
+    held(text, c, Answered::new(done, tally), answers, tallies)
 }
 
 // A call of a kind whose record starts at c.
@@ -158,7 +160,7 @@ fn kind_call(
     text: &[u8],
     places: Places,
     c: Cursor,
-    kind: u64,
+    kind: CallKind,
     weights: &mut [f64],
     flags: &mut [i8],
     marks: &mut [u8],
@@ -206,20 +208,26 @@ fn calls(
     weights: &mut [f64],
     flags: &mut [i8],
     marks: &mut [u8],
-    counts: &mut [u64],
-) {
+    answered: &mut AnswerCounts,
+) -> Result<(), UnknownCall> {
     let after = content::read_sheet(text, c, weights, flags, marks);
     let start = tallies::read_tally(text, after);
     let head = input::next_count(text, start.next);
     let mut content = c;
     let mut next = head.next;
     let mut tally = start.tally;
-    let mut left = head.value;
-    while 0 < left {
-        left -= 1;
-        let kind = input::next_count(text, next);
+    for _ in 0..head.value {
+        let number = input::next_count(text, next);
+        let kind = CallKind::try_from(number.value)?;
         let made = kind_call(
-            text, places, kind.next, kind.value, weights, flags, marks, tally,
+            text,
+            places,
+            number.next,
+            kind,
+            weights,
+            flags,
+            marks,
+            tally,
         );
         let refusal = input::next_count(text, made.next);
         tally = made.tally;
@@ -230,13 +238,19 @@ fn calls(
         let a = content::same_sheet(text, content, weights, flags, marks);
         next = either(changes, a.next, fresh.next);
         let answer = (made.number == refusal.value) & held.agrees;
-        counts::count_answer(counts, kind.value, made.number, answer & a.agrees);
+        answered.add(kind, made.number, answer & a.agrees);
     }
+    Ok(())
 }
 
 // ---- the cases
 
-fn list_case(text: &[u8], places: Places, c: Cursor, counts: &mut [u64]) {
+fn list_case(
+    text: &[u8],
+    places: Places,
+    c: Cursor,
+    answered: &mut AnswerCounts,
+) -> Result<(), UnknownCall> {
     let w = input::next_count(text, c);
     let f = input::next_count(text, w.next);
     let m = input::next_count(text, f.next);
@@ -254,8 +268,8 @@ fn list_case(text: &[u8], places: Places, c: Cursor, counts: &mut [u64]) {
         &mut weights[..nw],
         &mut flags[..nf],
         &mut marks[..nm],
-        counts,
-    );
+        answered,
+    )
 }
 
 // Where the record after size bytes starts.
@@ -271,23 +285,8 @@ fn after_bytes(text: &[u8], c: Cursor, size: u64) -> Cursor {
     Cursor { at: text.len() }
 }
 
-fn places_after(places: Places, record: u64, start: Cursor) -> Places {
-    let grid = either(record == 1, start, places.grid);
-    let rows = either(record == 2, start, places.rows);
-    let study = either(record == 3, start, places.study);
-    Places { grid, rows, study }
-}
-
-fn case_of(text: &[u8], places: Places, record: u64, c: Cursor, counts: &mut [u64]) {
-    if record == 4 {
-        list_case(text, places, c, counts);
-    } else if record == 5 {
-        open::open_case(text, c, counts);
-    }
-}
-
 // Counts the cases of one block.
-fn replay(text: &[u8], counts: &mut [u64]) {
+fn replay(text: &[u8], answered: &mut AnswerCounts) -> Result<()> {
     let first = Cursor { at: 0 };
     let mut c = first;
     let mut places = Places {
@@ -295,32 +294,35 @@ fn replay(text: &[u8], counts: &mut [u64]) {
         rows: first,
         study: first,
     };
-    let mut turns = text.len();
-    while 0 < turns {
-        turns -= 1;
+    // a record has a byte at least
+    for _ in text {
         if text.len() <= c.at {
             break;
         }
-        let record = input::next_count(text, c);
-        let size = input::next_count(text, record.next);
+        let kind = input::next_count(text, c);
+        let size = input::next_count(text, kind.next);
         let start = size.next;
-        places = places_after(places, record.value, start);
-        case_of(text, places, record.value, start, counts);
+        match Record::try_from(kind.value)? {
+            Record::Grid => places.grid = start,
+            Record::Table => places.rows = start,
+            Record::Study => places.study = start,
+            Record::List => list_case(text, places, start, answered)?,
+            Record::OpenCount => open::open_case(text, start, answered),
+        }
         c = after_bytes(text, start, size.value);
     }
+    Ok(())
 }
 
-fn main() {
-    let mut counts = [0u64; 180];
+fn main(rt: HostRuntime) -> Result<()> {
+    let mut answered = AnswerCounts::new();
     let mut text = io::large_buffer();
-    let mut blocks: u64 = 1000;
-    while 0 < blocks {
-        blocks -= 1;
-        let n = input::read_block(&mut text);
-        if n == 0 {
+    for _ in 0..1000 {
+        let Some(block) = next_block(&mut text) else {
             break;
-        }
-        replay(&text[..n], &mut counts);
+        };
+        replay(block, &mut answered)?;
     }
-    counts::print_counts(counts);
+    println!(rt; "{answered}")?;
+    Ok(())
 }

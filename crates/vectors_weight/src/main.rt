@@ -16,426 +16,268 @@
 
 #![tactic(auto)]
 
-ghost use Rattle.std.specs.Prelude.{◌≡◌, length};
+use anyhow::Result;
+use ask::Refusal;
+use relative_grid_address::NeighbourTable;
+use replay_compare::kernel::{same, same_reals};
+use replay_input::reader::{Reader, next_block};
+use replay_report::cases::{Cases, Judged, UnknownRecord, print_all, stored};
+use replay_study::owned::next_list;
+use std::alloc::{AllocError, Global};
+use tetrahedron_method::WeightFunction;
+use text::kernel::bits_of;
 
-use ask::kernel::number_of;
-use common::MatvecAnswer;
-use relative_grid_address::TableAnswer;
-use replay_compare::kernel as compare;
-use replay_input::kernel as input;
-use replay_input::kernel::{Cursor, Judged};
-use replay_report::kernel as report;
-use replay_report::kernel::Count;
-use tetrahedron_method::{WeightAnswer, WeightFunction};
-
-fn values() -> [f64; 400]
-    ensures { 400 ≡ length result }
-{
-    [0.0; 400]
+#[derive(Clone, Copy, Debug, PartialEq, Eq)]
+enum Record {
+    Sort,
+    Vertices,
+    Weight,
+    EqualRows,
+    Lattice,
+    Tables,
+    Exact,
+    ExactSum,
+    Product,
 }
 
-fn numbers() -> [i64; 1152]
-    ensures { 1152 ≡ length result }
-{
-    [0; 1152]
+impl TryFrom<u64> for Record {
+    type Error = UnknownRecord;
+
+    fn try_from(kind: u64) -> Result<Self, UnknownRecord> {
+        match kind {
+            1 => Ok(Record::Sort),
+            2 => Ok(Record::Vertices),
+            3 => Ok(Record::Weight),
+            4 => Ok(Record::EqualRows),
+            5 => Ok(Record::Lattice),
+            6 => Ok(Record::Tables),
+            7 => Ok(Record::Exact),
+            8 => Ok(Record::ExactSum),
+            9 => Ok(Record::Product),
+            _ => Err(UnknownRecord(kind)),
+        }
+    }
+}
+
+// What is counted.
+#[derive(Clone, Copy, Debug, PartialEq, Eq)]
+enum Kind {
+    Sort,
+    Weight,
+    Lattice,
+    Tables,
+    Exact,
+    ExactSum,
+    Product,
+}
+
+fn no_cases() -> [Cases; 7] {
+    [
+        Cases::new("sort", "sort"),
+        Cases::new("weight", "weight"),
+        Cases::new("lattice", "choice of the table"),
+        Cases::new("tables", "tables"),
+        Cases::new("exact integral", "exact integral"),
+        Cases::new("exact sum", "exact sum of the four vertices"),
+        Cases::new("product", "lattice times vector"),
+    ]
+}
+
+// A case that cannot be refused.
+fn accepted(agrees: bool) -> Judged {
+    Judged { refusal: 0, agrees }
 }
 
 fn function_of(number: u64) -> WeightFunction {
-    if number == 0 {
-        WeightFunction::I
-    } else {
-        WeightFunction::J
+    match number {
+        0 => WeightFunction::I,
+        _ => WeightFunction::J,
     }
 }
 
-// Four values of a record.
-#[derive(Clone, Copy)]
-struct Row {
-    values: [f64; 4],
-    next: Cursor,
+fn next_reals<const N: usize>(reader: &mut Reader<'_>) -> [f64; N] {
+    let mut values = [0.0; N];
+    reader.fill(&mut values);
+    values
 }
 
-fn next_row(text: &[u8], c: Cursor) -> Row {
-    let a = input::next_real(text, c);
-    let b = input::next_real(text, a.next);
-    let d = input::next_real(text, b.next);
-    let e = input::next_real(text, d.next);
-    let next = e.next;
-    Row {
-        values: [a.value, b.value, d.value, e.value],
-        next,
-    }
+// A lattice, row by row.
+fn next_lattice(reader: &mut Reader<'_>) -> [[f64; 3]; 3] {
+    let first = next_reals(reader);
+    let second = next_reals(reader);
+    let third = next_reals(reader);
+    [first, second, third]
 }
 
-fn same_row(a: [f64; 4], b: [f64; 4]) -> bool {
-    compare::same_bits(a[0], b[0])
-        & compare::same_bits(a[1], b[1])
-        & compare::same_bits(a[2], b[2])
-        & compare::same_bits(a[3], b[3])
-}
-
-fn sort_case(text: &[u8], c: Cursor) -> Judged {
-    let given = next_row(text, c);
-    let place = input::next_count(text, given.next);
-    let stored = next_row(text, place.next);
-    let next = stored.next;
-    let row = given.values;
-    let order = stored.values;
+fn sort_case(reader: &mut Reader<'_>) -> Judged {
+    let row = next_reals(reader);
+    let place = reader.next_count();
+    let order: [f64; 4] = next_reals(reader);
     let sorted = tetrahedron_sort::kernel::sort_omegas(row);
     let omegas = sorted.omegas;
+    accepted(sorted.place as u64 == place && same_reals(&omegas, &order))
+}
+
+fn number_given(answer: Result<f64, Refusal>) -> Result<f64, u64> {
+    answer.map_err(|why| why.number())
+}
+
+fn weight_judged(answer: Result<f64, Refusal>, refusal: u64, weight: f64) -> Judged {
     Judged {
-        refusal: 0,
-        agrees: (sorted.place as u64 == place.value) & same_row(omegas, order),
-        next,
+        refusal,
+        agrees: number_given(answer).map(bits_of) == stored(refusal, bits_of(weight)),
     }
 }
 
-fn weight_agrees(answer: WeightAnswer, refusal: u64, stored: f64) -> bool {
-    match answer {
-        WeightAnswer::Weight(w) => (refusal == 0) & compare::same_bits(w, stored),
-        WeightAnswer::Refused(number) => (0 < number) & (number == refusal),
-    }
-}
-
-// A weight over the vertices whose record starts at rows.
-fn weight_case(text: &[u8], rows: Cursor, c: Cursor) -> Judged {
-    let mut vertices = values();
-    let v = input::fill_reals(text, rows, &mut vertices);
-    let n = v.count;
-    let function = input::next_count(text, c);
-    let refusal = input::next_count(text, function.next);
-    let omega = input::next_real(text, refusal.next);
-    let stored = input::next_real(text, omega.next);
-    let next = stored.next;
-    let answer = tetrahedron_method::integration_weight(
-        omega.value,
-        &vertices[..n],
-        function_of(function.value),
-    );
-    Judged {
-        refusal: refusal.value,
-        agrees: weight_agrees(answer, refusal.value, stored.value),
-        next,
-    }
-}
-
-fn equal_rows(row: [f64; 4]) -> [f64; 96] {
-    let mut all = [0.0; 96];
-    let mut i = 0;
-    while i < 96 {
-        all[i] = row[i % 4];
-        i += 1;
-    }
-    all
+// A weight over the vertices.
+fn weight_case(reader: &mut Reader<'_>, vertices: &[f64]) -> Judged {
+    let function = function_of(reader.next_count());
+    let refusal = reader.next_count();
+    let omega = reader.next_real();
+    let weight = reader.next_real();
+    let answer = tetrahedron_method::integration_weight(omega, vertices, function);
+    weight_judged(answer, refusal, weight)
 }
 
 // The answer over 24 equal rows.
-fn row_answer(number: u64, omega: f64, row: [f64; 4]) -> WeightAnswer {
-    let all = equal_rows(row);
-    tetrahedron_method::integration_weight(omega, &all, function_of(number))
+fn row_answer(function: WeightFunction, omega: f64, row: [f64; 4]) -> Result<f64, Refusal> {
+    let rows = [row; 24];
+    tetrahedron_method::integration_weight(omega, rows.as_flattened(), function)
 }
 
-fn row_case(text: &[u8], c: Cursor) -> Judged {
-    let function = input::next_count(text, c);
-    let refusal = input::next_count(text, function.next);
-    let omega = input::next_real(text, refusal.next);
-    let row = next_row(text, omega.next);
-    let stored = input::next_real(text, row.next);
-    let next = stored.next;
-    let v = row.values;
-    let answer = row_answer(function.value, omega.value, v);
-    Judged {
-        refusal: refusal.value,
-        agrees: weight_agrees(answer, refusal.value, stored.value),
-        next,
-    }
+fn row_case(reader: &mut Reader<'_>) -> Judged {
+    let function = function_of(reader.next_count());
+    let refusal = reader.next_count();
+    let omega = reader.next_real();
+    let row = next_reals(reader);
+    let weight = reader.next_real();
+    weight_judged(row_answer(function, omega, row), refusal, weight)
 }
 
-// The weight over 24 equal rows; a NaN, which lies in no range, where it is refused.
-fn row_weight(number: u64, omega: f64, row: [f64; 4]) -> f64 {
-    match row_answer(number, omega, row) {
-        WeightAnswer::Weight(w) => w,
-        WeightAnswer::Refused(_) => 0.0 / 0.0,
+// The sum of the weights over 24 equal rows, for each of the rows.
+fn row_sum(function: WeightFunction, omega: f64, rows: &[[f64; 4]]) -> Result<f64, u64> {
+    let mut sum = 0.0;
+    for row in rows {
+        sum += number_given(row_answer(function, omega, *row))?;
     }
+    Ok(sum)
 }
 
-fn exact_case(text: &[u8], c: Cursor, whole: bool) -> Judged {
-    let function = input::next_count(text, c);
-    let omega = input::next_real(text, function.next);
-    let row = next_row(text, omega.next);
-    let least = input::next_real(text, row.next);
-    let greatest = input::next_real(text, least.next);
-    let next = greatest.next;
-    let f = function.value;
-    let o = omega.value;
-    let v = row.values;
-    let mut w = row_weight(f, o, v);
-    if whole {
-        w = w + row_weight(f, o, [v[1], v[0], v[2], v[3]]);
-        w = w + row_weight(f, o, [v[2], v[0], v[1], v[3]]);
-        w = w + row_weight(f, o, [v[3], v[0], v[1], v[2]]);
-    }
-    Judged {
-        refusal: 0,
-        agrees: (least.value <= w) & (w <= greatest.value),
-        next,
-    }
-}
-
-// Whether a table is that of a number among the four.
-fn is_table(table: &[i64], number: u64) -> bool {
-    let all = relative_grid_address::all_relative_grid_address();
-    if number == 0 {
-        return compare::same(table, &all[0..288]);
-    }
-    if number == 1 {
-        return compare::same(table, &all[288..576]);
-    }
-    if number == 2 {
-        return compare::same(table, &all[576..864]);
-    }
-    compare::same(table, &all[864..1152])
-}
-
-fn table_agrees(answer: TableAnswer, refusal: u64, number: u64) -> bool {
-    let table = answer.table;
-    let told = answer.answer;
-    if number_of(told) != refusal {
-        return false;
-    }
-    if answer.index as u64 != number {
-        return false;
-    }
-    if refusal == 0 {
-        return is_table(&table, number);
-    }
-    compare::all_are(&table, 0)
-}
-
-// A lattice of a record.
-#[derive(Clone, Copy)]
-struct Lattice {
-    first: [f64; 3],
-    second: [f64; 3],
-    third: [f64; 3],
-    next: Cursor,
-}
-
-fn next_lattice(text: &[u8], c: Cursor) -> Lattice {
-    let a = next_row(text, c);
-    let b = next_row(text, a.next);
-    let last = input::next_real(text, b.next);
-    let next = last.next;
-    let u = a.values;
-    let v = b.values;
-    Lattice {
-        first: [u[0], u[1], u[2]],
-        second: [u[3], v[0], v[1]],
-        third: [v[2], v[3], last.value],
-        next,
-    }
-}
-
-fn lattice_case(text: &[u8], c: Cursor) -> Judged {
-    let lattice = next_lattice(text, c);
-    let refusal = input::next_count(text, lattice.next);
-    let number = input::next_count(text, refusal.next);
-    let next = number.next;
-    let a = lattice.first;
-    let b = lattice.second;
-    let d = lattice.third;
-    let answer = relative_grid_address::relative_grid_address([
-        [a[0], a[1], a[2]],
-        [b[0], b[1], b[2]],
-        [d[0], d[1], d[2]],
-    ]);
-    Judged {
-        refusal: refusal.value,
-        agrees: table_agrees(answer, refusal.value, number.value),
-        next,
-    }
-}
-
-fn tables_case(text: &[u8], c: Cursor) -> Judged {
-    let mut stored = numbers();
-    let s = input::fill_wholes(text, c, &mut stored);
-    let next = s.next;
-    let all = relative_grid_address::all_relative_grid_address();
-    Judged {
-        refusal: 0,
-        agrees: compare::same(&all, &stored),
-        next,
-    }
-}
-
-// A refused product is three zeros.
-fn product_agrees(answer: MatvecAnswer, refusal: u64, x: f64, y: f64, z: f64) -> bool {
-    let v = answer.vector;
-    let told = answer.answer;
-    (number_of(told) == refusal)
-        & compare::same_bits(v[0], x)
-        & compare::same_bits(v[1], y)
-        & compare::same_bits(v[2], z)
-}
-
-fn product_case(text: &[u8], c: Cursor) -> Judged {
-    let lattice = next_lattice(text, c);
-    let vector = input::next_three(text, lattice.next);
-    let refusal = input::next_count(text, vector.next);
-    let x = input::next_real(text, refusal.next);
-    let y = input::next_real(text, x.next);
-    let z = input::next_real(text, y.next);
-    let next = z.next;
-    let a = lattice.first;
-    let b = lattice.second;
-    let d = lattice.third;
-    let v = vector.value;
-    let answer = common::matvec_di(
-        [[a[0], a[1], a[2]], [b[0], b[1], b[2]], [d[0], d[1], d[2]]],
-        v,
-    );
-    Judged {
-        refusal: refusal.value,
-        agrees: product_agrees(answer, refusal.value, x.value, y.value, z.value),
-        next,
-    }
-}
-
-// Where the record after vertices starts.
-fn after_vertices(text: &[u8], c: Cursor) -> Cursor {
-    let mut vertices = values();
-    let v = input::fill_reals(text, c, &mut vertices);
-    v.next
-}
-
-fn case_of(text: &[u8], vertices: Cursor, c: Cursor, record: u64) -> Judged {
-    match record {
-        1 => sort_case(text, c),
-        3 => weight_case(text, vertices, c),
-        4 => row_case(text, c),
-        5 => lattice_case(text, c),
-        6 => tables_case(text, c),
-        7 => exact_case(text, c, false),
-        8 => exact_case(text, c, true),
-        _ => product_case(text, c),
-    }
-}
-
-#[derive(Clone, Copy)]
-struct Counts {
-    sort: Count,
-    weight: Count,
-    lattice: Count,
-    tables: Count,
-    exact: Count,
-    whole: Count,
-    product: Count,
-}
-
-// The counts with one case more.
-fn with_case(before: Counts, record: u64, refusal: u64, agrees: bool) -> Counts {
-    let mut sort = before.sort;
-    let mut weight = before.weight;
-    let mut lattice = before.lattice;
-    let mut tables = before.tables;
-    let mut exact = before.exact;
-    let mut whole = before.whole;
-    let mut product = before.product;
-    match record {
-        1 => {
-            sort = report::counted(b"sort", sort, refusal, agrees);
-        }
-        3 | 4 => {
-            weight = report::counted(b"weight", weight, refusal, agrees);
-        }
-        5 => {
-            lattice = report::counted(b"lattice", lattice, refusal, agrees);
-        }
-        6 => {
-            tables = report::counted(b"tables", tables, refusal, agrees);
-        }
-        7 => {
-            exact = report::counted(b"exact integral", exact, refusal, agrees);
-        }
-        8 => {
-            whole = report::counted(b"exact sum", whole, refusal, agrees);
-        }
-        _ => {
-            product = report::counted(b"product", product, refusal, agrees);
-        }
-    }
-    Counts {
-        sort,
-        weight,
-        lattice,
-        tables,
-        exact,
-        whole,
-        product,
-    }
-}
-
-// The counts with the cases of one block.
-fn replayed(text: &[u8], before: Counts) -> Counts {
-    let mut counts = before;
-    let mut c = Cursor { at: 0 };
-    let mut vertices = Cursor { at: 0 };
-    let mut turns = text.len();
-    while 0 < turns {
-        turns -= 1;
-        if text.len() <= c.at {
-            break;
-        }
-        let record = input::next_count(text, c);
-        let start = record.next;
-        if record.value == 2 {
-            vertices = start;
-            c = after_vertices(text, start);
-        } else {
-            let j = case_of(text, vertices, start, record.value);
-            counts = with_case(counts, record.value, j.refusal, j.agrees);
-            c = j.next;
-        }
-    }
-    counts
-}
-
-fn print_counts(counts: Counts) {
-    let sort = counts.sort;
-    let weight = counts.weight;
-    let lattice = counts.lattice;
-    let tables = counts.tables;
-    let exact = counts.exact;
-    let whole = counts.whole;
-    let product = counts.product;
-    report::print_count(b"sort", sort);
-    report::print_count(b"weight", weight);
-    report::print_count(b"choice of the table", lattice);
-    report::print_count(b"tables", tables);
-    report::print_count(b"exact integral", exact);
-    report::print_count(b"exact sum of the four vertices", whole);
-    report::print_count(b"lattice times vector", product);
-}
-
-fn main() {
-    let mut counts = Counts {
-        sort: report::no_cases(),
-        weight: report::no_cases(),
-        lattice: report::no_cases(),
-        tables: report::no_cases(),
-        exact: report::no_cases(),
-        whole: report::no_cases(),
-        product: report::no_cases(),
+// An exact integral of a row or, for the whole, of the four rows that start with each of its vertices in turn.
+fn exact_case(reader: &mut Reader<'_>, whole: bool) -> Judged {
+    let function = function_of(reader.next_count());
+    let omega = reader.next_real();
+    let [a, b, c, d]: [f64; 4] = next_reals(reader);
+    let least = reader.next_real();
+    let greatest = reader.next_real();
+    let rows = [[a, b, c, d], [b, a, c, d], [c, a, b, d], [d, a, b, c]];
+    let weight = if whole {
+        row_sum(function, omega, &rows)
+    } else {
+        row_sum(function, omega, &rows[..1])
     };
-    let mut text = io::large_buffer();
-    let mut blocks: u64 = 1000;
-    while 0 < blocks {
-        blocks -= 1;
-        let n = input::read_block(&mut text);
-        if n == 0 {
+    accepted(weight.is_ok_and(|w| least <= w && w <= greatest))
+}
+
+// The numbers of a table among the four.
+fn table_of(tables: &[i64; 1152], number: u64) -> &[i64] {
+    match number {
+        0 => &tables[..288],
+        1 => &tables[288..576],
+        2 => &tables[576..864],
+        _ => &tables[864..],
+    }
+}
+
+// A refused choice is stored with the number 0.
+fn table_agrees(answer: Result<NeighbourTable, Refusal>, refusal: u64, number: u64) -> bool {
+    match answer {
+        Ok(chosen) => {
+            let tables = relative_grid_address::all_relative_grid_address();
+            let numbers = chosen.numbers;
+            refusal == 0
+                && chosen.index as u64 == number
+                && same(&numbers, table_of(&tables, number))
+        }
+        Err(why) => why.number() == refusal && number == 0,
+    }
+}
+
+fn lattice_case(reader: &mut Reader<'_>) -> Judged {
+    let lattice = next_lattice(reader);
+    let refusal = reader.next_count();
+    let number = reader.next_count();
+    let answer = relative_grid_address::relative_grid_address(lattice);
+    Judged {
+        refusal,
+        agrees: table_agrees(answer, refusal, number),
+    }
+}
+
+fn tables_case(reader: &mut Reader<'_>, alloc: Global) -> Result<Judged, AllocError> {
+    let tables = next_list(reader, alloc)?;
+    let all = relative_grid_address::all_relative_grid_address();
+    Ok(accepted(same(&all, &tables)))
+}
+
+// A refused product is stored as three zeros.
+fn product_agrees(answer: Result<[f64; 3], Refusal>, refusal: u64, product: &[f64; 3]) -> bool {
+    match answer {
+        Ok(vector) => refusal == 0 && same_reals(&vector, product),
+        Err(why) => why.number() == refusal && same_reals(&[0.0; 3], product),
+    }
+}
+
+fn product_case(reader: &mut Reader<'_>) -> Judged {
+    let lattice = next_lattice(reader);
+    let vector = reader.next_three();
+    let refusal = reader.next_count();
+    let product = next_reals(reader);
+    let answer = common::matvec_di(lattice, vector);
+    Judged {
+        refusal,
+        agrees: product_agrees(answer, refusal, &product),
+    }
+}
+
+// Counts the cases of one block.
+fn replay(rt: &HostRuntime, text: &[u8], cases: &mut [Cases; 7]) -> Result<()> {
+    let mut reader = Reader::new(text);
+    let mut vertices: Vec<f64> = Vec::new(rt.alloc());
+    // a record has a byte at least
+    for _ in text {
+        if reader.is_at_end() {
             break;
         }
-        counts = replayed(&text[..n], counts);
+        let record = Record::try_from(reader.next_count())?;
+        let (kind, judged) = match record {
+            Record::Vertices => {
+                vertices = next_list(&mut reader, rt.alloc())?;
+                continue;
+            }
+            Record::Sort => (Kind::Sort, sort_case(&mut reader)),
+            Record::Weight => (Kind::Weight, weight_case(&mut reader, &vertices)),
+            Record::EqualRows => (Kind::Weight, row_case(&mut reader)),
+            Record::Lattice => (Kind::Lattice, lattice_case(&mut reader)),
+            Record::Tables => (Kind::Tables, tables_case(&mut reader, rt.alloc())?),
+            Record::Exact => (Kind::Exact, exact_case(&mut reader, false)),
+            Record::ExactSum => (Kind::ExactSum, exact_case(&mut reader, true)),
+            Record::Product => (Kind::Product, product_case(&mut reader)),
+        };
+        cases[kind as usize].add(rt, judged)?;
     }
-    print_counts(counts);
+    Ok(())
+}
+
+fn main(rt: HostRuntime) -> Result<()> {
+    let mut cases = no_cases();
+    let mut text = io::large_buffer();
+    for _ in 0..1000 {
+        let Some(block) = next_block(&mut text) else {
+            break;
+        };
+        replay(&rt, block, &mut cases)?;
+    }
+    print_all(&rt, &cases)?;
+    Ok(())
 }

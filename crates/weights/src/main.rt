@@ -38,6 +38,7 @@ fn read_more(input: &mut impl Read, text: &mut [u8], done: usize) -> usize
 }
 
 // Reads until the input ends, a read fails or the text is full: how many of its bytes count as read.
+// The loop is written out: of the bytes after a failed read std's methods that read on say nothing.
 fn read_text(input: &mut impl Read, text: &mut [u8]) -> usize
     ensures upper_bound { result ≤ length text.new }
     ensures text_len_unchanged { length text.new ≡ length text.old }

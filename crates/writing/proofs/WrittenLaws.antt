@@ -1,13 +1,14 @@
 -- Writing bytes one after another is writing them at once. Assumes nothing.
-use Prim.Native.Nat.{ℕ, suc, ◌+◌, ◌≤◌, ◌<◌}
-use mathlib.Core.Path.{◌≡◌, sym, ap, ◌∙◌}
-use mathlib.Core.List.{List, [], ◌∷◌, ◌++◌}
+use Prim.Native.Nat.{ℕ, suc, ◌+◌, ◌-◌, ◌≤◌, ◌<◌}
+use mathlib.Core.Path.{◌≡◌, refl, sym, ap, ◌∙◌}
+use mathlib.Core.List.{List, [], ◌∷◌, ◌++◌, append_assoc}
 use native.Mathlib.Nat.{add-zero}
-use native.Mathlib.Numerals.{add-one}
 use native.Mathlib.Omega.{arith}
-use lib.ListN.{length, get_or, set, take, length-append}
-use lib.Seq.{sets, sets-eq, length-sets, length-take-le, take-suc}
-use Rattle.writing.specs.Written.{written}
+use lib.ListN.{length, set, take, drop, length-append}
+use lib.Seq.{sets, sets-eq, length-sets}
+use borrow.Rule.Slice.PartMut.{Post-is, put_mid}
+use Rattle.writing.specs.Written.{written, HasRoom, Wrote}
+use Rattle.writing.specs.declared.kernel.Writer.{Writer}
 
 -- what is written is what setting byte after byte makes
 as-sets : (at : ℕ) (a old : List ℕ) → at + length a ≤ length old → written at a old ≡ sets old at a
@@ -38,17 +39,39 @@ written-append at a b old h =
     ∙ (as-sets (at + length a) b (sets old at a) (omega (arith, h, l, length-sets old at a))
     ∙ sym (as-sets at (a ++ b) old h ∙ sets-append a b old at))
 
--- one byte more of a source
-pub written_next : (at i : ℕ) (src old : List ℕ) → i < length src → at + length src ≤ length old → set (written at (take i src) old) (at + i) (get_or src i 0) ≡ written at (take (i + 1) src) old
-written_next at i src old h k =
-    let e : take (i + 1) src ≡ take i src ++ (get_or src i 0 ∷ []) = rw add-one (take-suc src i 0 h) in
-    let m : length (take i src) ≡ i = length-take-le i src (omega arith) in
-    let n : length (take i src ++ (get_or src i 0 ∷ [])) ≡ i + 1 = length-append (take i src) (get_or src i 0 ∷ []) ∙ (omega (arith, m)) in
-    written_one (at + i) (get_or src i 0) (written at (take i src) old) (omega (arith, length-written at (take i src) old (omega (arith, m))))
-    ∙ (ap (λ (p : ℕ). written (at + p) (get_or src i 0 ∷ []) (written at (take i src) old)) (sym m)
-    ∙ (written-append at (take i src) (get_or src i 0 ∷ []) old (omega (arith, n)) ∙ ap (λ (l : List ℕ). written at l old) (sym e)))
+-- a source copied over a part
+pub written_part : (at : ℕ) (src old : List ℕ) → put_mid at (at + length src - at) old src ≡ written at src old
+unfolding written
+written_part at src old =
+    ap (λ (l : List ℕ). take at old ++ (src ++ l)) (Post-is at (at + length src) old (omega arith)) ∙ sym (append_assoc (take at old) src (drop (at + length src) old))
 
--- two calls, one behind the other: where the second ends, and what is then in the buffer
-module _ (at : ℕ) (a b o₀ o₁ o₂ : List ℕ) (r s : ℕ) (p : r ≡ at + length a) (e : o₁ ≡ written at a o₀) (q : s ≡ r + length b) (f : o₂ ≡ written r b o₁) (room : at + length (a ++ b) ≤ length o₀) where
-  pub wrote-both : (s ≡ at + length (a ++ b)) × (o₂ ≡ written at (a ++ b) o₀)
-  wrote-both = (omega (arith, p, q, length-append a b), f ∙ (rw (p, e) (written-append at a b o₀ room)))
+-- ---- what a writer wrote
+
+-- room for two pieces
+module _ (a b : List ℕ) (u : Writer) (h : HasRoom (a ++ b) u) where
+  pub room-first : HasRoom a u
+  room-first = omega (arith, length-append a b)
+
+  module _ {v : Writer} (r : Wrote a u v) where
+    pub room-next : HasRoom b v
+    room-next = omega (arith, r.ends, ap length r.content, length-written u.len a u.buffer.now room-first, length-append a b)
+
+    -- one piece behind the other
+    pub wrote-both : {w : Writer} → Wrote b v w → Wrote (a ++ b) u w
+    wrote-both q =
+        record {
+          same-buffer = q.same-buffer ∙ r.same-buffer;
+          ends = omega (arith, q.ends, r.ends, length-append a b);
+          content = q.content ∙ rw (r.content, r.ends) (written-append u.len a b u.buffer.now h);
+        }
+
+-- bytes by another name
+pub room_as : {a b : List ℕ} (u : Writer) → a ≡ b → HasRoom a u → HasRoom b u
+room_as u e h = rw (← e) h
+
+pub wrote_as : {a b : List ℕ} {u v : Writer} → a ≡ b → Wrote a u v → Wrote b u v
+wrote_as {u} {v} e r = rw (← e) r
+
+-- nothing
+pub wrote_none : (u : Writer) → u.len ≤ length u.buffer.now → Wrote [] u u
+wrote_none u h = record { same-buffer = refl; ends = omega arith; content = written_none u.len u.buffer.now h }

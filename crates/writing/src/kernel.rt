@@ -1,48 +1,63 @@
-// Each function writes at an index and answers the next one. It needs room for exactly what it writes, and keeps every other byte.
+// A writer, and what it writes. Each function needs room for exactly what it writes, and keeps every other byte.
 ghost use Rattle.std.specs.Prelude.{◌+◌, ◌≤◌, [], ◌∷◌, ◌++◌, ◌≡◌, length};
 ghost use Rattle.text.specs.Spelled.{decimal, hexadecimal};
-ghost use Rattle.writing.specs.Written.{written};
+ghost use Rattle.writing.specs.Written.{HasRoom, Wrote};
 
-// Writes src.
-pub fn put_slice(out: &mut [u8], at: usize, src: &[u8]) -> usize
-    requires { at + length src.now ≤ length out.old }
-    ensures { (result ≡ at + length src.now) × (out.new ≡ written at src.now out.old) }
-{
-    let mut i = 0;
-    while i < src.len() {
-        out[at + i] = src[i];
-        i += 1;
+// A lent buffer, and how many of its first bytes are written.
+#[derive(Drop)]
+pub struct Writer<'a> {
+    pub buffer: &'a mut [u8],
+    pub len: usize,
+}
+
+impl<'a> Writer<'a> {
+    // Behind the first bytes of a buffer.
+    pub fn new(buffer: &'a mut [u8], len: usize) -> Writer<'a>
+        ensures same_buffer { result.buffer.ghost_name ≡ buffer.entry.ghost_name }
+        ensures content { result.buffer.now ≡ buffer.old }
+        ensures len { result.len ≡ len }
+    {
+        Writer { buffer, len }
     }
-    at + i
-}
 
-// Writes one byte.
-pub fn put_byte(out: &mut [u8], at: usize, b: u8) -> usize
-    requires { at + 1 ≤ length out.old }
-    ensures { (result ≡ at + 1) × (out.new ≡ written at (b ∷ []) out.old) }
-{
-    out[at] = b;
-    at + 1
-}
+    // Writes src.
+    pub fn put_slice(&mut self, src: &[u8])
+        requires { HasRoom src.now self.old }
+        ensures { Wrote src.now self.old self.new }
+    {
+        let end = self.len + src.len();
+        self.buffer[self.len..end].copy_from_slice(src);
+        self.len = end;
+    }
 
-// Writes a number in decimal, and a byte after it.
-pub fn put_decimal(out: &mut [u8], at: usize, n: u64, end: u8) -> usize
-    requires { at + length (decimal n ++ (end ∷ [])) ≤ length out.old }
-    ensures { (result ≡ at + length (decimal n ++ (end ∷ []))) × (out.new ≡ written at (decimal n ++ (end ∷ [])) out.old) }
-{
-    let mut digits = [0u8; 20];
-    let k = io::decimal(n, &mut digits);
-    let p = put_slice(out, at, &digits[..k]);
-    put_byte(out, p, end)
-}
+    // Writes one byte.
+    pub fn put_byte(&mut self, b: u8)
+        requires { HasRoom (b ∷ []) self.old }
+        ensures { Wrote (b ∷ []) self.old self.new }
+    {
+        self.buffer[self.len] = b;
+        self.len += 1;
+    }
 
-// Writes the sixteen hexadecimal digits of 64 bits, and a byte after them.
-pub fn put_bits(out: &mut [u8], at: usize, n: u64, end: u8) -> usize
-    requires { at + length (hexadecimal n ++ (end ∷ [])) ≤ length out.old }
-    ensures { (result ≡ at + length (hexadecimal n ++ (end ∷ []))) × (out.new ≡ written at (hexadecimal n ++ (end ∷ [])) out.old) }
-{
-    let mut digits = [0u8; 16];
-    let k = io::hex(n, 16, &mut digits);
-    let p = put_slice(out, at, &digits[..k]);
-    put_byte(out, p, end)
+    // Writes a number in decimal, and a byte after it.
+    pub fn put_decimal(&mut self, n: u64, end: u8)
+        requires { HasRoom (decimal n ++ (end ∷ [])) self.old }
+        ensures { Wrote (decimal n ++ (end ∷ [])) self.old self.new }
+    {
+        let mut digits = [0u8; 20];
+        let k = io::decimal(n, &mut digits);
+        self.put_slice(&digits[..k]);
+        self.put_byte(end);
+    }
+
+    // Writes the sixteen hexadecimal digits of 64 bits, and a byte after them.
+    pub fn put_bits(&mut self, n: u64, end: u8)
+        requires { HasRoom (hexadecimal n ++ (end ∷ [])) self.old }
+        ensures { Wrote (hexadecimal n ++ (end ∷ [])) self.old self.new }
+    {
+        let mut digits = [0u8; 16];
+        let k = io::hex(n, 16, &mut digits);
+        self.put_slice(&digits[..k]);
+        self.put_byte(end);
+    }
 }

@@ -1,60 +1,56 @@
 -- `bzgrid::neighboring_grid_points_many` meets its contract.
 use Rattle.bzgrid.specs.Calls.{steps_questions}
+use Rattle.question_grids.proofs.StepLaws.{product-yes, steps-triples}
 use lib.ListN.{length}
 use mathlib.Core.List.{◌++◌, List}
-use mathlib.Core.Path.{◌∙◌, ◌≡◌, sym}
-use mir.Syntax.{w64}
-use mir.ValLaws.{to_z-of_z}
+use mathlib.Core.Path.{◌∙◌, ◌≡◌}
 use native.Mathlib.Omega.{arith}
-use Rattle.ask.proofs.AnswerLaws.{done-is, refused-is}
-use Rattle.bzgrid_lookup.proofs.CallLaws.{grid-numbered, sound-grid}
+use Rattle.std.proofs.lemmas.Result.{err_from_is_err_and}
+use Rattle.bzgrid_lookup.proofs.CallLaws.{grid-numbered}
 use Rattle.ask.proofs.AskLaws.{after-done, all_yes, group-no, group-yes, kept}
-use Rattle.question_grids.proofs.StepLaws.{product-yes, steps-triples}
+use Rattle.ask.proofs.RefusalLaws.{done-is, given-is, refused-is, refused-not}
 use Rattle.ask.specs.Ask.{AllYes, first_no, Question}
 use Rattle.question_grids.specs.Grids.{triples_in, grid_questions}
 use Rattle.bzgrid.proofs.neighboring_grid_points_many.Goals.{Start}
 use Rattle.bzgrid.proofs.neighboring_grid_points_many.Goals as goal
 
 abbrev grids : Start → List Question
-grids s = grid_questions s.args.bz_grid_type s.args.d_diag s.args.addresses.now s.args.gp_map.now
+grids s = grid_questions s.args.grid.bz_grid_type s.args.grid.d_diag s.args.grid.addresses.now s.args.grid.gp_map.now
 
 abbrev others : Start → List Question
-others s = steps_questions s.args.relative_grid_address.now s.args.grid_points.now (triples_in s.args.addresses.now) (length s.args.out.now)
+others s = steps_questions s.args.relative_grid_address.now s.args.grid_points.now (triples_in s.args.grid.addresses.now) (length s.args.out.now)
 
-pub returns-then-grid_first_no-ne0 : goal.returns-then-grid_first_no-ne0
-returns-then-grid_first_no-ne0 c =
-    let s : _ = (goal.at.returns-then-grid_first_no-ne0 c).Start in
-    let b : _ = to_z-of_z w64 c.args.bz_grid_type c.ranges.bz_grid_type in
-    let g : c.grid_first_no-grid_first_no.result ≡ first_no (grids s) = rw b at c.grid_first_no-grid_first_no.ensures in
-    let e : first_no (grids s ++ others s) ≡ c.grid_first_no-grid_first_no.result = group-no (grids s) (others s) (λ z. c.if-grid_first_no-ne0.true (g ∙ z)) ∙ sym g in
-    (refused-is _ _ e c.if-grid_first_no-ne0.true, kept _ _ _ _ e c.if-grid_first_no-ne0.true)
+-- the questions after those on the grid, once these are answered yes
+later : (s : Start) → first_no (grids s) ≡ 0 → first_no (grids s ++ others s) ≡ first_no (others s)
+later s z = group-yes (grids s) (others s) (grid-numbered s.args.grid.bz_grid_type s.args.grid.d_diag s.args.grid.addresses.now s.args.grid.gp_map.now) z
 
-pub returns-then-no-ne0 : goal.returns-then-no-ne0
-returns-then-no-ne0 c =
-    let s : _ = (goal.at.returns-then-no-ne0 c).Start in
-    let b : _ = to_z-of_z w64 c.args.bz_grid_type c.ranges.bz_grid_type in
-    let g : c.grid_first_no-grid_first_no.result ≡ first_no (grids s) = rw b at c.grid_first_no-grid_first_no.ensures in
-    let z : first_no (grids s) ≡ 0 = sym g ∙ c.if-grid_first_no-ne0.false in
-    let n : c.many_first_no-no.result ≡ first_no (others s) = c.many_first_no-no.ensures in
-    let e : first_no (grids s ++ others s) ≡ c.many_first_no-no.result = group-yes (grids s) (others s) (grid-numbered c.args.bz_grid_type c.args.d_diag c.args.addresses.now c.args.gp_map.now) z ∙ sym n in
-    (refused-is _ _ e c.if-no-ne0.true, kept _ _ _ _ e c.if-no-ne0.true)
+pub returns-in_err-ask_grid : goal.returns-in_err-ask_grid
+returns-in_err-ask_grid c =
+    let s : _ = (goal.at.returns-in_err-ask_grid c).Start in
+    let g : _ = rw c.in_err-ask_grid.was at c.ask_grid.ensures in
+    let e : first_no (grids s ++ others s) ≡ first_no (grids s) = group-no (grids s) (others s) (refused-not _ _ tt g) in
+    let p = err_from_is_err_and c.from_residual.result c.from_residual.ensures.1 in
+    (rw (p.1, p.2) (refused-is _ _ _ _ tt g e), kept _ _ _ _ e (refused-not _ _ tt g))
+
+pub returns-in_err-ask_points : goal.returns-in_err-ask_points
+returns-in_err-ask_points c =
+    let s : _ = (goal.at.returns-in_err-ask_points c).Start in
+    let z : first_no (grids s) ≡ 0 = (given-is _ _ tt (rw c.in_ok-ask_grid.was at c.ask_grid.ensures)).0 in
+    let g : _ = rw (c.in_err-ask_points.was) at c.ask_points.ensures in
+    let p = err_from_is_err_and c.from_residual-in_err-ask_points.result c.from_residual-in_err-ask_points.ensures.1 in
+    (rw (p.1, p.2) (refused-is _ _ _ _ tt g (later s z)), kept _ _ _ _ (later s z) (refused-not _ _ tt g))
 
 pub fill_many-requires : goal.fill_many-requires
 fill_many-requires c =
     let s : _ = (goal.at.fill_many-requires c).Start in
-    let b : _ = to_z-of_z w64 c.args.bz_grid_type c.ranges.bz_grid_type in
-    let g : c.grid_first_no-grid_first_no.result ≡ first_no (grids s) = rw b at c.grid_first_no-grid_first_no.ensures in
-    let z : first_no (grids s) ≡ 0 = sym g ∙ c.if-grid_first_no-ne0.false in
-    let n : c.many_first_no-no.result ≡ first_no (others s) = c.many_first_no-no.ensures in
-    let y : AllYes (others s) = all_yes (others s) ((omega arith, (omega arith, (omega arith, (omega arith, tt))))) (sym n ∙ c.if-no-ne0.false) in
-    rw (rw b at c.grid_of-grid.ensures) (sound-grid c.args.bz_grid_type c.args.d_diag c.args.addresses.now c.args.gp_map.now z, (steps-triples c.args.relative_grid_address.now y.0, (y.1.1.0, product-yes (length c.args.grid_points.now) (triples_in c.args.relative_grid_address.now) (length c.args.out.now) y.1.1.1.0)))
+    let no : first_no (others s) ≡ 0 = (given-is _ _ tt (rw (c.in_ok-ask_points.was) at c.ask_points.ensures)).0 in
+    let y : AllYes (others s) = all_yes (others s) (omega arith, (omega arith, (omega arith, (omega arith, tt)))) no in
+    rw c.new-tested.ensures.1.0 (steps-triples c.args.relative_grid_address.now y.0, (y.1.1.0, product-yes (length c.args.grid_points.now) (triples_in c.args.relative_grid_address.now) (length c.args.out.now) y.1.1.1.0))
 
 pub returns : goal.returns
 returns c =
     let s : _ = (goal.at.returns c).Start in
-    let b : _ = to_z-of_z w64 c.args.bz_grid_type c.ranges.bz_grid_type in
-    let g : c.grid_first_no-grid_first_no.result ≡ first_no (grids s) = rw b at c.grid_first_no-grid_first_no.ensures in
-    let z : first_no (grids s) ≡ 0 = sym g ∙ c.if-grid_first_no-ne0.false in
-    let n : c.many_first_no-no.result ≡ first_no (others s) = c.many_first_no-no.ensures in
-    let e : first_no (grids s ++ others s) ≡ 0 = group-yes (grids s) (others s) (grid-numbered c.args.bz_grid_type c.args.d_diag c.args.addresses.now c.args.gp_map.now) z ∙ sym n ∙ c.if-no-ne0.false in
-    (done-is _ e, rw (rw b at c.grid_of-grid.ensures) at c.fill_many.ensures ∙ after-done _ _ _ e)
+    let z : first_no (grids s) ≡ 0 = (given-is _ _ tt (rw c.in_ok-ask_grid.was at c.ask_grid.ensures)).0 in
+    let no : first_no (others s) ≡ 0 = (given-is _ _ tt (rw (c.in_ok-ask_points.was) at c.ask_points.ensures)).0 in
+    let e : first_no (grids s ++ others s) ≡ 0 = later s z ∙ no in
+    (done-is _ tt e, rw (c.new-tested.ensures.0, c.new-tested.ensures.1.0, c.new-tested.ensures.1.1) at c.fill_many.ensures ∙ after-done _ _ _ e)

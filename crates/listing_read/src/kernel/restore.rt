@@ -4,8 +4,10 @@ ghost use Rattle.std.specs.Float.{nan};
 ghost use Rattle.list_laws.specs.Columns.{InColumn};
 ghost use Rattle.list_laws.specs.Matrix.{Replaced};
 ghost use Rattle.listing_line.specs.Lines.{weight_here};
+ghost use Rattle.listing_read.specs.Forms.{IsForm};
 ghost use Rattle.listing_read.specs.Restored.{is_listing, weights_in, flags_in};
 
+use crate::Form;
 use crate::kernel::next_place;
 use listing_line::Place;
 use listing_line::kernel::{flag_at, pass_numbers, weight_at};
@@ -22,30 +24,20 @@ fn restore_weights(
     requires { (e < cells) × (length weights.old ≡ channels * cells) × (at + 17 * channels ≤ length text.now) }
     ensures { Replaced nan cells (InColumn channels e) (λ c k. weight_here text.now (at + 17 * c)) weights.old weights.new }
 {
-    let mut c = 0;
-    while c < channels {
-        let w = weight_at(text, at + 17 * c);
-        weights[c * cells + e] = w;
-        c += 1;
+    for c in 0..channels {
+        weights[c * cells + e] = weight_at(text, at + 17 * c);
     }
 }
 
 // Restores the weights and flags of a listing.
-pub fn restore(
-    text: &[u8],
-    points: usize,
-    bands1: usize,
-    bands2: usize,
-    channels: usize,
-    weights: &mut [f64],
-    flags: &mut [i8],
-)
-    requires points_nonzero { (0 < points) × (0 < bands1) × (0 < bands2) × (length flags.old < 1099511627776) × (length weights.old ≡ channels * length flags.old) }
-    requires text_value { is_listing points bands1 bands2 channels (length flags.old) text.now ≡ true }
-    ensures weights_after { weights.new ≡ weights_in points bands1 bands2 channels (length flags.old) text.now }
-    ensures flags_after { flags.new ≡ flags_in points bands1 bands2 channels (length flags.old) text.now }
+pub fn restore(text: &[u8], form: Form, weights: &mut [f64], flags: &mut [i8])
+    requires counts { IsForm form × (length flags.old < 1099511627776) × (length weights.old ≡ form.channels * length flags.old) }
+    requires text_value { is_listing form.points form.bands1 form.bands2 form.channels (length flags.old) text.now ≡ true }
+    ensures weights_after { weights.new ≡ weights_in form.points form.bands1 form.bands2 form.channels (length flags.old) text.now }
+    ensures flags_after { flags.new ≡ flags_in form.points form.bands1 form.bands2 form.channels (length flags.old) text.now }
 {
     let cells = flags.len();
+    let channels = form.channels;
     let mut at = 27;
     let mut place = Place {
         triplet: 0,
@@ -53,13 +45,11 @@ pub fn restore(
         b1: 0,
         b2: 0,
     };
-    let mut e = 0;
-    while e < cells {
+    for e in 0..cells {
         let a = pass_numbers(text, at, place);
         flags[e] = flag_at(text, a);
         restore_weights(text, a + 2, weights, cells, e, channels);
         at = a + 2 + 17 * channels;
-        place = next_place(place, points, bands1, bands2);
-        e += 1;
+        place = next_place(place, form);
     }
 }

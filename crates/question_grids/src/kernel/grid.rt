@@ -1,11 +1,13 @@
 // Questions 3 to 6: the grid kind, the mesh, the addresses and the map.
-ghost use Rattle.std.specs.Prelude.{◌≡◌, ◌+◌, ◌*◌, ◌/◌, ◌≤◌, ◌<◌, length};
+ghost use Rattle.std.specs.Prelude.{◌≡◌, ◌+◌, ◌≤◌, ◌<◌, length};
 ghost use Rattle.std.specs.Int.Signed.{lt_z};
-ghost use Rattle.list_laws.specs.Lists.{all_below, at};
-ghost use Rattle.list_laws.specs.Signed.{within};
+ghost use Rattle.list_laws.specs.Lists.{at};
 ghost use Rattle.ask.specs.Ask.{first_no};
-ghost use Rattle.question_grids.specs.Grids.{is_grid_kind, is_mesh, are_triples, are_addresses, is_place, is_sparse_map, is_dense_map, is_map, grid_questions};
+ghost use Rattle.ask.specs.Refusals.{answer_of};
+ghost use Rattle.question_grids.specs.Grids.{is_grid_kind, is_mesh, are_triples, are_addresses, is_place, is_sparse_map, is_dense_map, is_map, grid_questions, questions_on};
 
+use crate::Grid;
+use ask::Refusal;
 use numbers::kernel;
 
 // Question 3.
@@ -24,23 +26,11 @@ pub fn mesh_ok(top: usize, d_diag: [i64; 3]) -> bool
         & kernel::is_between(1, top, d_diag[2])
 }
 
-fn all_small(xs: &[i64]) -> bool
-    ensures { result ≡ all_below (length xs.now) (λ k. within 4096 (at xs.now k)) }
-{
-    let mut ok = true;
-    let mut i = 0;
-    while i < xs.len() {
-        ok = ok & kernel::within_at(4096, xs, i);
-        i += 1;
-    }
-    ok
-}
-
 // Whole triples with components within ±4,096.
 pub fn triples_ok(xs: &[i64]) -> bool
     ensures { result ≡ are_triples xs.now }
 {
-    (xs.len() % 3 == 0) & all_small(xs)
+    xs.len() % 3 == 0 && xs.iter().all(|&x| kernel::is_within(4096, x))
 }
 
 // Question 5, of a mesh of `n` points.
@@ -52,30 +42,11 @@ pub fn addresses_ok(n: usize, addresses: &[i64]) -> bool
     triples_ok(addresses) & (n <= p) & (p <= 8 * n)
 }
 
-fn all_places(gp_map: &[i64], n: usize, p: usize) -> bool
-    requires { n ≤ length gp_map.now }
-    ensures { result ≡ all_below n (λ k. is_place p n (at gp_map.now k)) }
+// A value of the map of kind 1, of `p` addresses: one of them, or `missing`.
+fn place_ok(p: usize, missing: usize, v: i64) -> bool
+    ensures { result ≡ is_place p missing v }
 {
-    let mut ok = true;
-    let mut i = 0;
-    while i < n {
-        ok = ok & (kernel::below_at(gp_map, i, p) | kernel::nat_at(gp_map, i, n));
-        i += 1;
-    }
-    ok
-}
-
-fn all_rising(gp_map: &[i64], n: usize) -> bool
-    requires { n < length gp_map.now }
-    ensures { result ≡ all_below n (λ k. lt_z (at gp_map.now k) (at gp_map.now (k + 1))) }
-{
-    let mut ok = true;
-    let mut i = 0;
-    while i < n {
-        ok = ok & kernel::less_at(gp_map, i);
-        i += 1;
-    }
-    ok
+    kernel::is_below(v, p) | kernel::is_nat(v, missing)
 }
 
 // Question 6, kind 1.
@@ -83,22 +54,25 @@ fn sparse_map_ok(n: usize, p: usize, gp_map: &[i64]) -> bool
     requires { n ≤ 16777216 }
     ensures { result ≡ is_sparse_map n p gp_map.now }
 {
-    if 8 * n <= gp_map.len() {
-        all_places(gp_map, 8 * n, p)
-    } else {
-        false
-    }
+    let missing = 8 * n;
+    missing <= gp_map.len() && gp_map[..missing].iter().all(|&v| place_ok(p, missing, v))
+}
+
+fn rises_at(xs: &[i64], k: usize) -> bool
+    requires { k + 1 < length xs.now }
+    ensures { result ≡ lt_z (at xs.now k) (at xs.now (k + 1)) }
+{
+    xs[k] < xs[k + 1]
 }
 
 // Question 6, kind 2.
 fn dense_map_ok(n: usize, p: usize, gp_map: &[i64]) -> bool
     ensures { result ≡ is_dense_map n p gp_map.now }
 {
-    if n < gp_map.len() {
-        kernel::nat_at(gp_map, 0, 0) & kernel::nat_at(gp_map, n, p) & all_rising(gp_map, n)
-    } else {
-        false
-    }
+    n < gp_map.len()
+        && kernel::is_nat(gp_map[0], 0)
+            & kernel::is_nat(gp_map[n], p)
+            & (0..n).all(|k| rises_at(gp_map, k))
 }
 
 // Question 6.
@@ -113,22 +87,23 @@ pub fn map_ok(bz_grid_type: i64, n: usize, p: usize, gp_map: &[i64]) -> bool
     }
 }
 
-// The number of the first question on the grid that is answered no, or 0.
-pub fn grid_first_no(bz_grid_type: i64, d_diag: [i64; 3], addresses: &[i64], gp_map: &[i64]) -> u64
-    ensures { result ≡ first_no (grid_questions bz_grid_type d_diag addresses.now gp_map.now) }
+// Questions 3 to 6, of every call on a grid.
+pub fn ask_grid(grid: Grid) -> Result<(), Refusal>
+    ensures { result ≡ answer_of (first_no (questions_on grid.entry)) tt }
 {
-    if !grid_kind_ok(bz_grid_type) {
-        return crate::BAD_GRID_TYPE;
+    if !grid_kind_ok(grid.bz_grid_type) {
+        return Err(Refusal::GridKind);
     }
+    let d_diag = grid.d_diag;
     if !mesh_ok(128, d_diag) {
-        return crate::BAD_MESH;
+        return Err(Refusal::Mesh);
     }
     let n = kernel::mesh_count(kernel::mesh_of(d_diag));
-    if !addresses_ok(n, addresses) {
-        return crate::BAD_ADDRESSES;
+    if !addresses_ok(n, grid.addresses) {
+        return Err(Refusal::Addresses);
     }
-    if !map_ok(bz_grid_type, n, addresses.len() / 3, gp_map) {
-        return crate::BAD_MAP;
+    if !map_ok(grid.bz_grid_type, n, grid.addresses.len() / 3, grid.gp_map) {
+        return Err(Refusal::Map);
     }
-    0
+    Ok(())
 }

@@ -15,11 +15,5 @@ pub fn steps_ok(relative_grid_address: &[i64]) -> bool
 pub fn grid_points_ok(p: usize, grid_points: &[i64]) -> bool
     ensures { result ≡ are_grid_points p grid_points.now }
 {
-    let mut ok = true;
-    let mut i = 0;
-    while i < grid_points.len() {
-        ok = ok & kernel::below_at(grid_points, i, p);
-        i += 1;
-    }
-    ok
+    grid_points.iter().all(|&g| kernel::is_below(g, p))
 }

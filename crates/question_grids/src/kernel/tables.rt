@@ -6,7 +6,6 @@ ghost use Rattle.question_grids.specs.Tables.{is_table};
 pub fn table_ok(relative_grid_address: &[i64]) -> bool
     ensures { result ≡ is_table relative_grid_address.now }
 {
-    let n = relative_grid_address.len();
-    (((n == 288) | (n == 576)) | ((n == 864) | (n == 1152)))
+    question_values::kernel::rows::rows_ok::<12>(relative_grid_address.len())
         & crate::kernel::grid::triples_ok(relative_grid_address)
 }

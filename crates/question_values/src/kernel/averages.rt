@@ -11,25 +11,16 @@ fn id_ok(ids: &[i64], k: usize) -> bool
     ensures { result ≡ is_degenerate_id ids.now k }
 {
     if k == 0 {
-        return kernel::nat_at(ids, 0, 0);
+        return kernel::is_nat(ids[0], 0);
     }
-    kernel::nat_at(ids, k, k) | kernel::equal_at(ids, k, ids[k - 1])
+    kernel::is_nat(ids[k], k) | (ids[k] == ids[k - 1])
 }
 
 // Question 17, of one list.
 pub fn degenerate_ids_ok(bands: usize, ids: &[i64]) -> bool
     ensures { result ≡ are_degenerate_ids bands ids.now }
 {
-    if ids.len() != bands {
-        return false;
-    }
-    let mut ok = true;
-    let mut k = 0;
-    while k < bands {
-        ok = ok & id_ok(ids, k);
-        k += 1;
-    }
-    ok
+    ids.len() == bands && (0..bands).all(|k| id_ok(ids, k))
 }
 
 // Whether x is -0.0: it equals zero, and its inverse lies below zero.
@@ -50,11 +41,5 @@ fn weight_ok(x: f64) -> bool
 pub fn weights_ok(w: &[f64]) -> bool
     ensures { result ≡ are_weights w.now }
 {
-    let mut ok = true;
-    let mut k = 0;
-    while k < w.len() {
-        ok = ok & weight_ok(w[k]);
-        k += 1;
-    }
-    ok
+    w.iter().all(|&x| weight_ok(x))
 }

@@ -41,7 +41,7 @@ pub fn signed_counts_ok(num_band1: i64, num_band2: i64, points: i64, many: i64) 
 {
     let n = kernel::magnitude(points);
     let m = kernel::magnitude(many);
-    kernel::nonneg(points) & kernel::nonneg(many) & counts_ok(num_band1, num_band2, n, m)
+    (0 <= points) & (0 <= many) & counts_ok(num_band1, num_band2, n, m)
 }
 
 // Question 12: `total` is `count` times `size`. The product itself could be too large.

@@ -1,6 +1,5 @@
 // Question 11: the ranges of frequencies, of frequency points and of vertices.
-ghost use Rattle.std.specs.Prelude.{◌≡◌, ◌<◌, get_or, length};
-ghost use Rattle.std.specs.Float.{nan};
+ghost use Rattle.std.specs.Prelude.{◌≡◌};
 ghost use Rattle.question_values.specs.Frequencies.{in_range, are_in_range, are_frequencies, are_points, is_point};
 
 // 2^-600 and 2^30
@@ -21,24 +20,11 @@ pub fn in_range(low: f64, high: f64, x: f64) -> bool
     (x == 0.0) | ((low <= magnitude) & (magnitude <= high))
 }
 
-fn in_range_at(low: f64, high: f64, xs: &[f64], k: usize) -> bool
-    requires { k < length xs.now }
-    ensures { result ≡ in_range low high (get_or xs.now k nan) }
-{
-    in_range(low, high, xs[k])
-}
-
 // Each of a list is.
 pub fn all_in_range(low: f64, high: f64, xs: &[f64]) -> bool
     ensures { result ≡ are_in_range low high xs.now }
 {
-    let mut ok = true;
-    let mut i = 0;
-    while i < xs.len() {
-        ok = ok & in_range_at(low, high, xs, i);
-        i += 1;
-    }
-    ok
+    xs.iter().all(|&x| in_range(low, high, x))
 }
 
 // Question 11, of frequencies.

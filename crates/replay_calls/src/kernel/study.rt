@@ -6,7 +6,7 @@ use crate::kernel::calls::Call;
 use replay_input::kernel as input;
 use replay_input::kernel::Cursor;
 use replay_study::kernel as records;
-use sheet::{Shape, SheetAnswer, Tally};
+use sheet::{Refusal, Shape, Study, Tally};
 
 pub fn numbers() -> [i64; 1500]
     ensures { 1500 ≡ length result }
@@ -38,7 +38,7 @@ pub fn study_call(
     list2: &[i64],
     answers: &mut [u64],
     tallies: &mut [u64],
-) -> SheetAnswer {
+) -> Result<Tally, Refusal> {
     let head = input::next_three(text, study);
     let mut frequencies1 = reals();
     let mut frequencies2 = reals();
@@ -64,23 +64,17 @@ pub fn study_call(
     let n2 = v.frequencies2;
     let nx = v.points;
     let nt = t.count;
-    calls::call_made(
-        call,
+    let lent = Study {
         shape,
         addresses,
-        map,
-        table,
-        &frequencies1[..n1],
-        &frequencies2[..n2],
-        &points[..nx],
-        &triplets[..nt],
-        weights,
-        flags,
-        marks,
-        tally,
-        list1,
-        list2,
-        answers,
-        tallies,
+        gp_map: map,
+        relative_grid_address: table,
+        frequencies1: &frequencies1[..n1],
+        frequencies2: &frequencies2[..n2],
+        frequency_points: &points[..nx],
+        triplets: &triplets[..nt],
+    };
+    calls::call_made(
+        call, lent, weights, flags, marks, tally, list1, list2, answers, tallies,
     )
 }

@@ -16,11 +16,8 @@ fn stamp_at(place: usize) -> i64
 pub fn stamp(out: &mut [i64])
     ensures { out.new ≡ tabulate (length out.old) stamp_at }
 {
-    let mut i = 0;
-    while i < out.len() {
-        let value = stamp_at(i);
-        out[i] = value;
-        i += 1;
+    for i in 0..out.len() {
+        out[i] = stamp_at(i);
     }
 }
 
@@ -29,11 +26,8 @@ pub fn is_stamped(out: &[i64]) -> bool
     ensures { result ≡ is_stamped out.now }
 {
     let mut ok = true;
-    let mut i = 0;
-    while i < out.len() {
-        let z = stamp_at(i);
-        ok = ok & numbers::kernel::equal_at(out, i, z);
-        i += 1;
+    for i in 0..out.len() {
+        ok &= numbers::kernel::equal_at(out, i, stamp_at(i));
     }
     ok
 }
@@ -49,11 +43,8 @@ fn mark_at(place: usize) -> f64
 pub fn mark(out: &mut [f64])
     ensures { out.new ≡ tabulate (length out.old) mark_at }
 {
-    let mut i = 0;
-    while i < out.len() {
-        let value = mark_at(i);
-        out[i] = value;
-        i += 1;
+    for i in 0..out.len() {
+        out[i] = mark_at(i);
     }
 }
 
@@ -62,10 +53,8 @@ pub fn is_marked(out: &[f64]) -> bool
     ensures { result ≡ is_marked out.now }
 {
     let mut ok = true;
-    let mut i = 0;
-    while i < out.len() {
-        ok = ok & compare::same_bits(out[i], mark_at(i));
-        i += 1;
+    for i in 0..out.len() {
+        ok &= compare::same_bits(out[i], mark_at(i));
     }
     ok
 }

@@ -1,82 +1,108 @@
-// What is counted and printed: the answers by kind of call, 30 a kind, and the differences at place 0.
+// What is counted and printed: the answers by kind of call, and the differences.
+use std::fmt;
+use thiserror::Error;
 
-fn one_more(n: u64) -> u64 {
-    if n < 18446744073709551615 { n + 1 } else { n }
+#[derive(Clone, Copy, Debug, PartialEq, Eq)]
+pub enum CallKind {
+    RunPiece,
+    CarryOn,
+    Average,
+    OpenCount,
+    Play,
 }
 
-fn count_at(counts: &mut [u64], k: usize) {
-    if k < counts.len() {
-        let n = one_more(counts[k]);
-        counts[k] = n;
-    }
-}
+// In the order of their numbers, 1 to 5.
+const KINDS: [CallKind; 5] = [
+    CallKind::RunPiece,
+    CallKind::CarryOn,
+    CallKind::Average,
+    CallKind::OpenCount,
+    CallKind::Play,
+];
 
-// A refusal with no number counts as 30, which is none.
-pub fn refusal_of(number: u64) -> u64 {
-    if number == 0 { 30 } else { number }
-}
+// A call whose kind is none of a list's.
+#[derive(Clone, Copy, Debug, PartialEq, Eq, Drop, Error)]
+#[error("no call is of kind {0}")]
+pub struct UnknownCall(pub u64);
 
-// Where the answers of a kind of call are counted: 0 done, else the number of the refusal.
-fn place_of(kind: u64, number: u64) -> usize {
-    if kind < 6 {
-        if number < 30 {
-            return (kind * 30 + number) as usize;
-        }
-    }
-    0
-}
+impl TryFrom<u64> for CallKind {
+    type Error = UnknownCall;
 
-pub fn count_answer(counts: &mut [u64], kind: u64, number: u64, agrees: bool) {
-    count_at(counts, place_of(kind, number));
-    if !agrees {
-        count_at(counts, 0);
-    }
-}
-
-fn print_kind(kind: u64) {
-    match kind {
-        1 => {
-            io::write_all(1, b"run of a piece");
-        }
-        2 => {
-            io::write_all(1, b"carry on");
-        }
-        3 => {
-            io::write_all(1, b"average of a triplet");
-        }
-        5 => {
-            io::write_all(1, b"list of calls");
-        }
-        _ => {
-            io::write_all(1, b"open count");
+    fn try_from(kind: u64) -> Result<Self, UnknownCall> {
+        match kind {
+            1 => Ok(CallKind::RunPiece),
+            2 => Ok(CallKind::CarryOn),
+            3 => Ok(CallKind::Average),
+            5 => Ok(CallKind::Play),
+            _ => Err(UnknownCall(kind)),
         }
     }
 }
 
-fn print_answer(kind: u64, number: u64, n: u64) {
-    if n == 0 {
-        return;
+impl fmt::Display for CallKind {
+    fn fmt<W: fmt::Write>(&self, f: &mut fmt::Formatter<W>) -> fmt::Result {
+        f.write_str(match self {
+            CallKind::RunPiece => "run of a piece",
+            CallKind::CarryOn => "carry on",
+            CallKind::Average => "average of a triplet",
+            CallKind::OpenCount => "open count",
+            CallKind::Play => "list of calls",
+        })
     }
-    print_kind(kind);
-    if number == 0 {
-        io::write_all(1, b"\tdone\t");
-    } else {
-        io::write_all(1, b"\trefused ");
-        io::print_decimal(1, number);
-        io::write_all(1, b"\t");
+}
+
+// The answers of each kind of call by number, 0 where it is done, and how many differ from the stored ones.
+#[derive(Clone, Copy, Debug)]
+pub struct AnswerCounts {
+    by_kind: [[u64; 30]; 5],
+    differences: u64,
+}
+
+impl AnswerCounts {
+    pub fn new() -> AnswerCounts {
+        AnswerCounts {
+            by_kind: [[0; 30]; 5],
+            differences: 0,
+        }
     }
-    io::print_decimal(1, n);
-    io::write_all(1, b"\n");
+
+    // One answer more; a number past the refusals differs from any stored one.
+    pub fn add(&mut self, kind: CallKind, number: u64, agrees: bool) {
+        if let Some(count) = self.by_kind[kind as usize].get_mut(number as usize) {
+            *count = count.saturating_add(1);
+        }
+        if !agrees {
+            self.differences = self.differences.saturating_add(1);
+        }
+    }
+}
+
+// The answers of a kind that occur.
+fn write_kind<W: fmt::Write>(
+    f: &mut fmt::Formatter<W>,
+    kind: CallKind,
+    counts: &[u64; 30],
+) -> fmt::Result {
+    for (number, count) in counts.iter().enumerate() {
+        if *count == 0 {
+            continue;
+        }
+        if number == 0 {
+            writeln!(f, "{kind}\tdone\t{count}")?;
+        } else {
+            writeln!(f, "{kind}\trefused {number}\t{count}")?;
+        }
+    }
+    Ok(())
 }
 
 // A line for each kind of call and answer, and the differences.
-pub fn print_counts(counts: [u64; 180]) {
-    let mut k = 30;
-    while k < 180 {
-        print_answer((k / 30) as u64, (k % 30) as u64, counts[k]);
-        k += 1;
+impl fmt::Display for AnswerCounts {
+    fn fmt<W: fmt::Write>(&self, f: &mut fmt::Formatter<W>) -> fmt::Result {
+        for (kind, counts) in KINDS.iter().zip(&self.by_kind) {
+            write_kind(f, *kind, counts)?;
+        }
+        let differences = self.differences;
+        write!(f, "differences\t{differences}")
     }
-    io::write_all(1, b"differences\t");
-    io::print_decimal(1, counts[0]);
-    io::write_all(1, b"\n");
 }

@@ -1,22 +1,8 @@
 // Open counts held to the stored ones.
+use super::counts::{AnswerCounts, CallKind};
 use replay_input::kernel as input;
 use replay_input::kernel::Cursor;
-use sheet::{Counts, OpenAnswer};
-
-fn open_number(answer: OpenAnswer) -> u64 {
-    match answer {
-        OpenAnswer::Open(_) => 0,
-        OpenAnswer::Refused(number) => super::counts::refusal_of(number),
-    }
-}
-
-// The count of an accepted call, 0 of a refused one.
-fn open_entries(answer: OpenAnswer) -> u64 {
-    match answer {
-        OpenAnswer::Open(n) => n,
-        OpenAnswer::Refused(_) => 0,
-    }
-}
+use sheet::Counts;
 
 fn weights_case(
     text: &[u8],
@@ -24,20 +10,25 @@ fn weights_case(
     tp_type: i64,
     open: Counts,
     weights: &mut [f64],
-    counts: &mut [u64],
+    answered: &mut AnswerCounts,
 ) {
     let after_weights = super::read_weights(text, c, weights);
     let t = input::next_whole(text, after_weights);
     let refusal = input::next_count(text, t.next);
     let count = input::next_bits(text, refusal.next);
     let answer = sheet::open_count(tp_type, open, weights, t.value);
-    let number = open_number(answer);
-    let agrees = (number == refusal.value) & (open_entries(answer) == count.value);
-    super::counts::count_answer(counts, 4, number, agrees);
+    let number = match answer {
+        Ok(_) => 0,
+        Err(why) => why.number(),
+    };
+    // the count of an accepted call, 0 of a refused one
+    let entries = answer.unwrap_or(0);
+    let agrees = (number == refusal.value) & (entries == count.value);
+    answered.add(CallKind::OpenCount, number, agrees);
 }
 
 // An open count: type, triplets, points, both band counts, list of the weights, named triplet, then refusal and count.
-pub fn open_case(text: &[u8], c: Cursor, counts: &mut [u64]) {
+pub fn open_case(text: &[u8], c: Cursor, answered: &mut AnswerCounts) {
     let tp = input::next_whole(text, c);
     let t = input::next_whole(text, tp.next);
     let b0 = input::next_whole(text, t.next);
@@ -53,5 +44,5 @@ pub fn open_case(text: &[u8], c: Cursor, counts: &mut [u64]) {
         num_band1: b1.value,
         num_band2: b2.value,
     };
-    weights_case(text, next, tp.value, open, &mut weights[..m], counts);
+    weights_case(text, next, tp.value, open, &mut weights[..m], answered);
 }

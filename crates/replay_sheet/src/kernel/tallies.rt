@@ -21,13 +21,11 @@ pub fn read_tally(text: &[u8], c: Cursor) -> TallyRead
 {
     let mut counts = [0u64; 16];
     let mut next = c;
-    let mut i = 0;
-    while i < 16 {
+    for i in 0..16 {
         let v = input::next_bits(text, next);
         let value = v.value;
         counts[i] = value;
         next = v.next;
-        i += 1;
     }
     TallyRead {
         tally: Tally { runs: counts },
@@ -41,12 +39,10 @@ pub fn same_tally(text: &[u8], c: Cursor, tally: Tally) -> Agreed
     let counts = tally.runs;
     let mut next = c;
     let mut agrees = true;
-    let mut i = 0;
-    while i < 16 {
+    for i in 0..16 {
         let v = input::next_bits(text, next);
         agrees = agrees & (counts[i] == v.value);
         next = v.next;
-        i += 1;
     }
     Agreed { agrees, next }
 }

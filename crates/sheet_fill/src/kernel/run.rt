@@ -5,14 +5,12 @@ ghost use Rattle.list_laws.specs.Lists.{at};
 ghost use Rattle.question_grids.specs.Grids.{are_triples, triples_in};
 ghost use Rattle.bzgrid_lookup.specs.Neighbours.{SoundGrid};
 ghost use Rattle.triplet_study.specs.Tested.{Ready};
-ghost use Rattle.triplet_study.specs.Lent.{study_now, study_in};
-ghost use Rattle.triplet_corners.specs.Corners.{second_steps};
 ghost use Rattle.triplet_piece.specs.Layout.{AreSized};
 ghost use Rattle.triplet_piece.specs.Weights.{Computes};
-ghost use Rattle.sheet_fill.specs.Kept.{AreCorners, Kept};
+ghost use Rattle.sheet_fill.specs.Kept.{AreCorners, Keeps, study_in};
 
+use crate::{PreparedStudy, Work};
 use bzgrid_lookup::BzGrid;
-use triplet_study::Sizes;
 
 // The corners of triplet `t`; where they are those of `held` already, nothing is looked up. `second` is the second copy of the steps.
 fn keep_corners(
@@ -42,47 +40,46 @@ fn keep_corners(
 
 // Writes the piece of triplet `t` and bands `b1`, `b2` at every point and in every channel. The corners kept are then those of `t`.
 pub fn fill_named(
-    frequencies: &mut [[f64; 384]; 2],
-    channels: &mut [[f64; 384]; 3],
-    places: &mut [[usize; 96]; 3],
-    numbers: &mut [[usize; 384]; 2],
+    work: &mut Work,
     weights: &mut [f64],
     flags: &mut [i8],
-    z: Sizes,
-    addresses: &[i64],
-    gp_map: &[i64],
-    steps: &[i64],
-    second: &[i64],
-    frequencies1: &[f64],
-    frequencies2: &[f64],
-    points: &[f64],
-    triplets: &[i64],
-    held: usize,
+    prepared: &PreparedStudy,
     t: usize,
     b1: usize,
     b2: usize,
 )
-    requires ready { Ready (study_now z.shape addresses gp_map steps frequencies1 frequencies2 points triplets) z (length weights.old) (length flags.old) }
-    requires second_value { (second.now ≡ second_steps z.tp steps.now) × ((t < z.triplets) × ((b1 < z.bands1) × (b2 < z.bands2))) }
-    requires kept { Kept (study_now z.shape addresses gp_map steps frequencies1 frequencies2 points triplets) z.triplets held frequencies.old channels.old places.old numbers.old }
-    ensures kept_2 { Kept (study_in z.shape addresses gp_map steps frequencies1 frequencies2 points triplets) z.triplets t frequencies.new channels.new places.new numbers.new }
-    ensures computes { Computes (study_in z.shape addresses gp_map steps frequencies1 frequencies2 points triplets) (λ n. eqb n (t * z.pairs + (b1 * z.bands2 + b2))) weights flags }
+    requires ready { Ready (study_in prepared.now) prepared.now.tested.sizes (length weights.old) (length flags.old) }
+    requires on_sheet { (t < prepared.now.tested.sizes.triplets) × ((b1 < prepared.now.tested.sizes.bands1) × (b2 < prepared.now.tested.sizes.bands2)) }
+    requires kept { Keeps (study_in prepared.now) prepared.now.tested.sizes.triplets work.old }
+    ensures keeps { Keeps (study_in prepared.now) prepared.now.tested.sizes.triplets work.new }
+    ensures computes { let z = prepared.now.tested.sizes in
+        Computes (study_in prepared.now) (λ n. eqb n (t * z.pairs + (b1 * z.bands2 + b2))) weights flags }
 {
-    let grid = z.grid;
+    let study = prepared.tested.study;
+    let sizes = prepared.tested.sizes;
     keep_corners(
-        numbers, grid, addresses, gp_map, steps, second, triplets, held, t,
+        &mut work.numbers,
+        sizes.grid,
+        study.addresses,
+        study.gp_map,
+        study.relative_grid_address,
+        prepared.second,
+        study.triplets,
+        work.held,
+        t,
     );
+    work.held = t;
     triplet_piece::kernel::fill_piece(
-        frequencies,
-        channels,
-        places,
+        &mut work.frequencies,
+        &mut work.channels,
+        &mut work.places,
         weights,
         flags,
-        z,
-        numbers,
-        frequencies1,
-        frequencies2,
-        points,
+        sizes,
+        &work.numbers,
+        study.frequencies1,
+        study.frequencies2,
+        study.frequency_points,
         t,
         b1,
         b2,

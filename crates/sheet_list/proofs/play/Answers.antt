@@ -1,16 +1,29 @@
 -- `sheet_list::play` meets its contract.
-use Rattle.sheet_list.proofs.ListLaws.{list-yes}
-use Rattle.sheet_list.specs.Play.{list_no}
 use lib.ListN.{length}
-use Prim.Native.Nat.{ℕ}
-use mathlib.Core.Path.{◌∙◌, ◌≡◌, sym}
+use Rattle.std.proofs.lemmas.Result.{err_from_is_err_and}
+use Rattle.ask.proofs.RefusalLaws.{given-is}
+use Rattle.sheet_calls.specs.Calls.{calls_of}
+use Rattle.sheet_list.proofs.ListLaws.{list-yes, play-done, play-refused}
+use Rattle.sheet_step.specs.Steps.{Sheet, sheet}
+use Rattle.triplet_study.specs.Lent.{study_of}
 use Rattle.sheet_list.proofs.play.Goals.{Start}
 use Rattle.sheet_list.proofs.play.Goals as goal
 
-abbrev number : Start → ℕ
-number s = list_no (length s.args.list.now) (length s.args.answers.now) (length s.args.tallies.now)
+abbrev start : Start → Sheet
+start s = sheet s.args.weights.now s.args.flags.now s.args.marks.now s.args.tally.runs
 
-pub play_all-left-requires : goal.play_all-left-requires
-play_all-left-requires c =
-    let y : number (goal.at.play_all-left-requires c).Start ≡ 0 = sym c.list_first_no-own.ensures ∙ c.if-own-ne0.false in
-    list-yes (length c.args.list.now) (length c.args.answers.now) (length c.args.tallies.now) y
+pub returns-in_err-ask_list : goal.returns-in_err-ask_list
+returns-in_err-ask_list c =
+    let told : _ = rw c.in_err-ask_list.was at c.ask_list.ensures in
+    let p = err_from_is_err_and c.from_residual.result c.from_residual.ensures.1 in
+    rw (p.1, p.2) (play-refused (study_of c.args.study) (start (goal.at.returns-in_err-ask_list c).Start) (calls_of c.args.list.now c.args.ids.now) _ c.args.answers.now c.args.tallies.now _ told)
+
+pub play_all-requires : goal.play_all-requires
+play_all-requires c =
+    let told : _ = rw c.in_ok-ask_list.was at c.ask_list.ensures in
+    list-yes (length c.args.list.now) (length c.args.answers.now) (length c.args.tallies.now) (given-is _ _ tt told).0
+
+pub returns : goal.returns
+returns c =
+    let told : _ = rw c.in_ok-ask_list.was at c.ask_list.ensures in
+    play-done (study_of c.args.study) (start (goal.at.returns c).Start) (calls_of c.args.list.now c.args.ids.now) _ c.args.answers.now c.args.tallies.now c.play_all.result _ _ _ _ _ (given-is _ _ tt told).0 c.play_all.ensures

@@ -1,166 +1,142 @@
-// The questions of the calls on a sheet, in their order: the number of the first that is answered no, or 0.
-ghost use Rattle.std.specs.Prelude.{◌≡◌, ◌++◌, ◌+◌, ◌*◌, ◌<◌, length};
+// The questions of the calls on a sheet, in their order.
+ghost use Rattle.std.specs.Prelude.{◌≡◌, ◌++◌, ◌+◌, ◌*◌, ◌<◌, length, IfOk};
 ghost use Rattle.ask.specs.Ask.{first_no};
+ghost use Rattle.ask.specs.Refusals.{answer_of};
 ghost use Rattle.marks.specs.Bytes.{Holds};
 ghost use Rattle.sheet_tally.specs.Tallies.{tally_questions};
-ghost use Rattle.triplet_study.specs.Tested.{Counted};
-ghost use Rattle.triplet_study.specs.Lent.{study_in};
+ghost use Rattle.triplet_study.specs.Lent.{study_of};
+ghost use Rattle.triplet_study.specs.Passed.{without_value};
 ghost use Rattle.sheet_step.specs.Steps.{common_questions, sheet_questions, piece_questions, average_questions, are_triplet_weights, pieces_of};
 
+use crate::NamedPiece;
+use ask::Refusal;
 use marks::kernel as mark;
+use numbers::kernel::{is_below, magnitude};
+use question_values::kernel::averages::{degenerate_ids_ok, weights_ok};
 use sheet_tally::Tally;
-use triplet_study::{Shape, Sizes};
+use triplet_study::{Study, TestedStudy};
 
 // Questions 12 and 13, of the sheet.
-fn sheet_first_no(z: Sizes, weights: usize, flags: usize, marks: &[u8]) -> u64
-    requires { Counted z }
-    ensures { result ≡ first_no (sheet_questions z weights flags marks.now) }
-{
-    let pairs = z.pairs;
-    let pieces = z.triplets * pairs;
-    if !(triplet_study::kernel::lengths_ok(z, weights, flags)
-        & (marks.len() == mark::bytes_for(pieces)))
-    {
-        return questions::BAD_LENGTH;
-    }
-    if !mark::marks_ok(pairs, pieces, marks) {
-        return questions::BAD_MARKS;
-    }
-    0
-}
-
-// Questions 3 to 13, which every call asks.
-pub fn common_first_no(
-    shape: Shape,
-    addresses: &[i64],
-    gp_map: &[i64],
-    relative_grid_address: &[i64],
-    frequencies1: &[f64],
-    frequencies2: &[f64],
-    frequency_points: &[f64],
-    triplets: &[i64],
+fn ask_sheet(
+    tested: &TestedStudy,
     weights: usize,
     flags: usize,
     marks: &[u8],
-) -> u64
-    ensures { result ≡ first_no (common_questions (study_in shape addresses gp_map relative_grid_address frequencies1 frequencies2 frequency_points triplets)
-        weights flags marks.now) }
+) -> Result<(), Refusal>
+    ensures { result ≡ answer_of (first_no (sheet_questions tested.now.sizes weights flags marks.now)) tt }
 {
-    let no = triplet_study::kernel::study_first_no(
-        shape,
-        addresses,
-        gp_map,
-        relative_grid_address,
-        frequencies1,
-        frequencies2,
-        frequency_points,
-        triplets,
-    );
-    if no != 0 {
-        return no;
+    let pairs = tested.sizes.pairs;
+    let pieces = tested.sizes.triplets * pairs;
+    if !(tested.lengths_ok(weights, flags) & (marks.len() == mark::bytes_for(pieces))) {
+        return Err(Refusal::Lengths);
     }
-    let z = triplet_study::kernel::sizes_of(
-        shape,
-        relative_grid_address.len() / 12,
-        frequency_points.len(),
-        triplets.len() / 3,
-    );
-    sheet_first_no(z, weights, flags, marks)
+    if !mark::marks_ok(pairs, pieces, marks) {
+        return Err(Refusal::Marks);
+    }
+    Ok(())
+}
+
+// Questions 3 to 13, which every call asks. Gives the tested study.
+pub fn ask_common<'a>(
+    study: Study<'a>,
+    weights: usize,
+    flags: usize,
+    marks: &[u8],
+) -> Result<TestedStudy<'a>, Refusal>
+    ensures asked { without_value result ≡ answer_of (first_no (common_questions (study_of study.entry) weights flags marks.now)) tt }
+    ensures same { IfOk result (λ t. t.study ≡ study.entry) }
+{
+    let tested = study.tested()?;
+    ask_sheet(&tested, weights, flags, marks)?;
+    Ok(tested)
 }
 
 // Questions 14 and 15, of a named piece.
-fn piece_first_no(z: Sizes, marks: &[u8], triplet: i64, b1: i64, b2: i64) -> u64
-    requires { Counted z × Holds (pieces_of z) marks.now }
-    ensures { result ≡ first_no (piece_questions z marks.now triplet b1 b2) }
+fn ask_piece(tested: &TestedStudy, marks: &[u8], piece: NamedPiece) -> Result<(), Refusal>
+    requires { Holds (pieces_of tested.now.sizes) marks.now }
+    ensures { result ≡ answer_of (first_no (piece_questions tested.now.sizes marks.now piece.triplet piece.b1 piece.b2)) tt }
 {
-    let pairs = z.pairs;
-    if !(numbers::kernel::is_below(triplet, z.triplets)
-        & numbers::kernel::is_below(b1, z.bands1)
-        & numbers::kernel::is_below(b2, z.bands2))
+    let triplet = piece.triplet;
+    let b1 = piece.b1;
+    let b2 = piece.b2;
+    if !(is_below(triplet, tested.sizes.triplets)
+        & is_below(b1, tested.sizes.bands1)
+        & is_below(b2, tested.sizes.bands2))
     {
-        return questions::NOT_ON_SHEET;
+        return Err(Refusal::NotOnSheet);
     }
-    let t = numbers::kernel::magnitude(triplet);
-    if !mark::not_averaged(pairs, marks, t) {
-        return questions::ALREADY_AVERAGED;
+    let t = magnitude(triplet);
+    if !mark::not_averaged(tested.sizes.pairs, marks, t) {
+        return Err(Refusal::AlreadyAveraged);
     }
-    0
+    Ok(())
 }
 
 // Questions 14, 15, 21 and 20, of a run.
-pub fn run_first_no(
-    z: Sizes,
+pub fn ask_run(
+    tested: &TestedStudy,
     marks: &[u8],
     tally: Tally,
     worker: i64,
-    triplet: i64,
-    b1: i64,
-    b2: i64,
-) -> u64
-    requires { Counted z × Holds (pieces_of z) marks.now }
-    ensures { result ≡ first_no (piece_questions z marks.now triplet b1 b2 ++ tally_questions tally.runs worker 1) }
+    piece: NamedPiece,
+) -> Result<(), Refusal>
+    requires { Holds (pieces_of tested.now.sizes) marks.now }
+    ensures { result ≡ answer_of (first_no (piece_questions tested.now.sizes marks.now piece.triplet piece.b1 piece.b2 ++ tally_questions tally.runs worker 1)) tt }
 {
-    let own = piece_first_no(z, marks, triplet, b1, b2);
-    if own != 0 {
-        return own;
-    }
-    sheet_tally::kernel::tally_first_no(tally, worker, 1)
+    ask_piece(tested, marks, piece)?;
+    sheet_tally::kernel::ask_tally(tally, worker, 1)
 }
 
 // Question 19, of triplet `t`.
-fn triplet_weights_ok(z: Sizes, t: usize, weights: &[f64]) -> bool
-    requires { Counted z × ((t < z.triplets) × (length weights.now ≡ z.channels * z.cells)) }
-    ensures { result ≡ are_triplet_weights z t weights.now }
+fn triplet_weights_ok(tested: &TestedStudy, t: usize, weights: &[f64]) -> bool
+    requires { (t < tested.now.sizes.triplets) × (length weights.now ≡ tested.now.sizes.channels * tested.now.sizes.cells) }
+    ensures { result ≡ are_triplet_weights tested.now.sizes t weights.now }
 {
-    let channels = z.channels;
-    let cells = z.cells;
-    let size = z.points * z.pairs;
+    let channels = tested.sizes.channels;
+    let cells = tested.sizes.cells;
+    let size = tested.sizes.points * tested.sizes.pairs;
     let base = t * size;
     let mut ok = true;
-    let mut c = 0;
-    while c < channels {
+    for c in 0..channels {
         let start = c * cells + base;
         let end = start + size;
-        ok = ok & question_values::kernel::averages::weights_ok(&weights[start..end]);
-        c += 1;
+        ok = ok & weights_ok(&weights[start..end]);
     }
     ok
 }
 
 // Questions 14 to 19, of an averaging.
-pub fn average_first_no(
-    z: Sizes,
+pub fn ask_average(
+    tested: &TestedStudy,
     weights: &[f64],
     marks: &[u8],
     triplet: i64,
     degenerate_ids1: &[i64],
     degenerate_ids2: &[i64],
-) -> u64
-    requires { Counted z × ((length weights.now ≡ z.channels * z.cells) × Holds (pieces_of z) marks.now) }
-    ensures { result ≡ first_no (average_questions z weights.now marks.now triplet degenerate_ids1.now degenerate_ids2.now) }
+) -> Result<(), Refusal>
+    requires { (length weights.now ≡ tested.now.sizes.channels * tested.now.sizes.cells) × Holds (pieces_of tested.now.sizes) marks.now }
+    ensures { result ≡ answer_of (first_no (average_questions tested.now.sizes weights.now marks.now triplet degenerate_ids1.now degenerate_ids2.now)) tt }
 {
-    let pairs = z.pairs;
-    let bands = z.bands1;
-    if !numbers::kernel::is_below(triplet, z.triplets) {
-        return questions::NOT_ON_SHEET;
+    let pairs = tested.sizes.pairs;
+    let bands = tested.sizes.bands1;
+    if !is_below(triplet, tested.sizes.triplets) {
+        return Err(Refusal::NotOnSheet);
     }
-    let t = numbers::kernel::magnitude(triplet);
+    let t = magnitude(triplet);
     if !mark::not_averaged(pairs, marks, t) {
-        return questions::ALREADY_AVERAGED;
+        return Err(Refusal::AlreadyAveraged);
     }
-    if bands != z.bands2 {
-        return questions::UNEQUAL_BANDS;
+    if bands != tested.sizes.bands2 {
+        return Err(Refusal::UnequalBands);
     }
-    if !(question_values::kernel::averages::degenerate_ids_ok(bands, degenerate_ids1)
-        & question_values::kernel::averages::degenerate_ids_ok(bands, degenerate_ids2))
-    {
-        return questions::BAD_DEGENERATE_IDS;
+    if !(degenerate_ids_ok(bands, degenerate_ids1) & degenerate_ids_ok(bands, degenerate_ids2)) {
+        return Err(Refusal::DegenerateIds);
     }
     if !mark::all_computed(pairs, marks, t) {
-        return questions::NOT_COMPUTED;
+        return Err(Refusal::NotComputed);
     }
-    if !triplet_weights_ok(z, t, weights) {
-        return questions::BAD_WEIGHT;
+    if !triplet_weights_ok(tested, t, weights) {
+        return Err(Refusal::Weights);
     }
-    0
+    Ok(())
 }

@@ -6,6 +6,7 @@ ghost use Rattle.tetrahedron_method.specs.Weight.{or_zero, share_of, sorted_row_
 use crate::WeightFunction;
 
 // A product that is a NaN adds 0 instead.
+#[tactic(auto, unfolding(crate::specs::Weight::or_zero))]
 fn or_zero(product: f64) -> f64
     ensures { result ≡ or_zero product }
 {
@@ -13,6 +14,7 @@ fn or_zero(product: f64) -> f64
 }
 
 // The weight of the vertex at a place in a tetrahedron with the sorted values a, b, c, d.
+#[tactic(auto, unfolding(crate::specs::Weight::share_of))]
 fn share(function: WeightFunction, place: usize, omega: f64, a: f64, b: f64, c: f64, d: f64) -> f64
     ensures { result ≡ share_of function omega (values a b c d) place }
 {

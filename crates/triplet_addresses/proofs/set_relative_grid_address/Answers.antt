@@ -1,15 +1,17 @@
 -- `triplet_addresses::set_relative_grid_address` meets its contract.
 use Rattle.triplet_addresses.specs.Copies.{copy_questions}
+use Rattle.ask.specs.Ask.{AllYes, first_no, Question}
+use Rattle.ask.proofs.AskLaws.{all_yes, after-done, after-refused}
+use Rattle.ask.proofs.RefusalLaws.{done-is, given-is, refused-is, refused-not}
+use Rattle.question_grids.proofs.StepLaws.{product-yes}
+use Rattle.question_grids.proofs.TableLaws.{table-triples}
+use Rattle.std.proofs.lemmas.Result.{err_from_is_err_and}
 use mathlib.Core.List.{List}
 use lib.ListN.{length}
-use mathlib.Core.Path.{◌∙◌, ◌≡◌, sym}
+use mathlib.Core.Path.{◌≡◌, refl}
 use mir.Syntax.{w64}
 use mir.ValLaws.{to_z-of_z}
 use native.Mathlib.Omega.{arith}
-use Rattle.ask.proofs.AskLaws.{all_yes}
-use Rattle.question_grids.proofs.StepLaws.{product-yes}
-use Rattle.question_grids.proofs.TableLaws.{table-triples}
-use Rattle.ask.specs.Ask.{AllYes, first_no, Question}
 use Rattle.triplet_addresses.proofs.set_relative_grid_address.Goals.{Start}
 use Rattle.triplet_addresses.proofs.set_relative_grid_address.Goals as goal
 
@@ -19,7 +21,6 @@ asked s = copy_questions s.args.relative_grid_address.now s.args.tp_type (length
 pub fill_copies-requires : goal.fill_copies-requires
 fill_copies-requires c =
     let s : _ = (goal.at.fill_copies-requires c).Start in
-    let b : _ = to_z-of_z w64 c.args.tp_type c.ranges.tp_type in
-    let n : c.copy_first_no-no.result ≡ first_no (asked s) = rw b at c.copy_first_no-no.ensures in
-    let y : AllYes (asked s) = all_yes (asked s) (omega arith, (omega arith, (omega arith, tt))) (sym n ∙ c.if-no-ne0.false) in
+    let n : _ = rw (to_z-of_z w64 c.args.tp_type c.ranges.tp_type, c.in_ok-ask_copies.was) at c.ask_copies.ensures in
+    let y : AllYes (asked s) = all_yes (asked s) (omega arith, (omega arith, (omega arith, tt))) (given-is _ _ tt n).0 in
     (table-triples c.args.relative_grid_address.now y.0, product-yes 2 (length c.args.relative_grid_address.now) (length c.args.out.now) y.1.1.0)

@@ -1,8 +1,12 @@
 // Questions 8 to 11 of a study.
 ghost use Rattle.std.specs.Prelude.{◌≡◌, ◌<◌};
 ghost use Rattle.ask.specs.Ask.{first_no};
-ghost use Rattle.triplet_study.specs.Questions.{are_triplets, hold_frequencies, are_study_frequencies, value_questions};
+ghost use Rattle.ask.specs.Refusals.{answer_of};
+ghost use Rattle.triplet_study.specs.Lent.{study_of};
+ghost use Rattle.triplet_study.specs.Questions.{are_triplets, hold_frequencies, are_study_frequencies, value_questions, values_asked};
 
+use crate::Study;
+use ask::Refusal;
 use numbers::kernel::magnitude;
 use question_grids::kernel::steps;
 use question_values::kernel::{counts, frequencies};
@@ -39,41 +43,32 @@ fn study_frequencies_ok(
         & frequencies::points_ok(frequency_points)
 }
 
-// The number of the first of questions 8 to 11 that is answered no, or 0; `p` is the count of addresses.
-pub fn value_first_no(
-    p: usize,
-    tp_type: i64,
-    num_band1: i64,
-    num_band2: i64,
-    frequencies1: &[f64],
-    frequencies2: &[f64],
-    frequency_points: &[f64],
-    triplets: &[i64],
-) -> u64
-    ensures { result ≡ first_no (value_questions p tp_type num_band1 num_band2
-        frequencies1.now frequencies2.now frequency_points.now triplets.now) }
+// Questions 8 to 11 of a study.
+pub fn ask_values(study: Study) -> Result<(), Refusal>
+    ensures { result ≡ answer_of (first_no (values_asked (study_of study.entry))) tt }
 {
-    if !question_values::kernel::tp_type::tp_type_ok(tp_type) {
-        return questions::BAD_TP_TYPE;
+    let num_band1 = study.shape.num_band1;
+    let num_band2 = study.shape.num_band2;
+    let p = study.addresses.len() / 3;
+    if !question_values::kernel::tp_type::tp_type_ok(study.shape.tp_type) {
+        return Err(Refusal::TpType);
     }
-    let count = (triplets.len() + 2) / 3;
-    if !counts::counts_ok(num_band1, num_band2, frequency_points.len(), count) {
-        return questions::BAD_COUNT;
+    let count = (study.triplets.len() + 2) / 3;
+    if !counts::counts_ok(num_band1, num_band2, study.frequency_points.len(), count) {
+        return Err(Refusal::Counts);
     }
-    if !triplets_ok(p, triplets) {
-        return questions::BAD_GRID_POINT;
+    if !triplets_ok(p, study.triplets) {
+        return Err(Refusal::GridPoints);
     }
-    let bands1 = magnitude(num_band1);
-    let bands2 = magnitude(num_band2);
     if !study_frequencies_ok(
         p,
-        bands1,
-        bands2,
-        frequencies1,
-        frequencies2,
-        frequency_points,
+        magnitude(num_band1),
+        magnitude(num_band2),
+        study.frequencies1,
+        study.frequencies2,
+        study.frequency_points,
     ) {
-        return questions::BAD_FREQUENCY;
+        return Err(Refusal::Frequencies);
     }
-    0
+    Ok(())
 }

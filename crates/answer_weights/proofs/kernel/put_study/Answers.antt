@@ -2,39 +2,40 @@
 use Prim.Native.Nat.{◌*◌, ◌≤◌}
 use lib.ListN.{length, take}
 use lib.Seq.{length-take-le}
-use mathlib.Core.Path.{◌≡◌, ap, sym}
+use mathlib.Core.Path.{◌≡◌, sym}
 use native.Mathlib.Omega.{arith}
-use Rattle.answer_weights.proofs.ListedLaws.{wrote_so}
-use Rattle.answer_weights.proofs.ReadyLaws.{few-made, may-list, passed}
-use Rattle.answer_weights.specs.Answers.{listing_for}
-use Rattle.triplet_study.proofs.StudyLaws.{few-counts, study-shaped}
-use Rattle.triplet_study.specs.Study.{study}
-use Rattle.answer_weights.proofs.kernel.put_study.Goals.{After-flag_buffer-flags, After-sizes_of-z, After-weight_buffer-weights}
+use Rattle.answer_weights.proofs.ReadyLaws.{few-made, further, may-list}
+use Rattle.triplet_study.specs.Lent.{study_of}
+use Rattle.answer_weights.proofs.kernel.put_study.Goals.{After-flag_buffer-flags, After-sizes_of_passed-sizes, After-weight_buffer-weights}
 use Rattle.answer_weights.proofs.kernel.put_study.Goals as goal
 
 -- its counts are few
-few : (c : After-sizes_of-z) → (c.sizes_of-z.result.cells ≤ 4096) × (c.sizes_of-z.result.channels * c.sizes_of-z.result.cells ≤ 4096)
+few : (c : After-sizes_of_passed-sizes) → (c.sizes_of_passed-sizes.result.cells ≤ 4096) × (c.sizes_of_passed-sizes.result.channels * c.sizes_of_passed-sizes.result.cells ≤ 4096)
 few c =
-    few-made (study c.args.shape c.args.addresses.now c.args.gp_map.now c.args.steps.now c.args.frequencies1.now c.args.frequencies2.now c.args.points.now c.args.triplets.now) c.requires.triplets_value c.sizes_of-z.result c.sizes_of-z.ensures
+    few-made (study_of c.args.study) c.requires.passed c.sizes_of_passed-sizes.result c.sizes_of_passed-sizes.ensures
 
 -- the lent parts of the buffers are as long as the counts say
-weights-fit : (c : After-weight_buffer-weights) → length (take (c.sizes_of-z.result.channels * c.sizes_of-z.result.cells) c.weight_buffer-weights.result) ≡ c.sizes_of-z.result.channels * c.sizes_of-z.result.cells
-weights-fit c = length-take-le _ c.weight_buffer-weights.result (omega (arith, (few-made (study c.args.shape c.args.addresses.now c.args.gp_map.now c.args.steps.now c.args.frequencies1.now c.args.frequencies2.now c.args.points.now c.args.triplets.now) c.requires.triplets_value c.sizes_of-z.result c.sizes_of-z.ensures).1, c.weight_buffer-weights.ensures))
+weights-fit : (c : After-weight_buffer-weights) → length (take (c.sizes_of_passed-sizes.result.channels * c.sizes_of_passed-sizes.result.cells) c.weight_buffer-weights.result) ≡ c.sizes_of_passed-sizes.result.channels * c.sizes_of_passed-sizes.result.cells
+weights-fit c = length-take-le _ c.weight_buffer-weights.result (omega (arith, (few-made (study_of c.args.study) c.requires.passed c.sizes_of_passed-sizes.result c.sizes_of_passed-sizes.ensures).1, c.weight_buffer-weights.ensures))
 
-flags-fit : (c : After-flag_buffer-flags) → length (take c.sizes_of-z.result.cells c.flag_buffer-flags.result) ≡ c.sizes_of-z.result.cells
-flags-fit c = length-take-le _ c.flag_buffer-flags.result (omega (arith, (few-made (study c.args.shape c.args.addresses.now c.args.gp_map.now c.args.steps.now c.args.frequencies1.now c.args.frequencies2.now c.args.points.now c.args.triplets.now) c.requires.triplets_value c.sizes_of-z.result c.sizes_of-z.ensures).0, c.flag_buffer-flags.ensures))
+flags-fit : (c : After-flag_buffer-flags) → length (take c.sizes_of_passed-sizes.result.cells c.flag_buffer-flags.result) ≡ c.sizes_of_passed-sizes.result.cells
+flags-fit c = length-take-le _ c.flag_buffer-flags.result (omega (arith, (few-made (study_of c.args.study) c.requires.passed c.sizes_of_passed-sizes.result c.sizes_of_passed-sizes.ensures).0, c.flag_buffer-flags.ensures))
 
-pub sizes_of-z-requires : goal.sizes_of-z-requires
-sizes_of-z-requires c =
-    few-counts (passed (study c.args.shape c.args.addresses.now c.args.gp_map.now c.args.steps.now c.args.frequencies1.now c.args.frequencies2.now c.args.points.now c.args.triplets.now) c.requires.triplets_value)
+pub sizes_of_passed-sizes-requires : goal.sizes_of_passed-sizes-requires
+sizes_of_passed-sizes-requires c =
+    further (study_of c.args.study) c.requires.passed
+
+pub invariant_of-tested-clause-passed : goal.invariant_of-tested-clause-passed
+invariant_of-tested-clause-passed c =
+    further (study_of c.args.study) c.requires.passed
 
 pub overflow_mul-n : goal.overflow_mul-n
 overflow_mul-n c =
-    omega (arith, (few (goal.at.overflow_mul-n c).After-sizes_of-z).1)
+    omega (arith, (few (goal.at.overflow_mul-n c).After-sizes_of_passed-sizes).1)
 
 pub slice_bounds-weights-end : goal.slice_bounds-weights-end
 slice_bounds-weights-end c =
-    omega (arith, (few (goal.at.slice_bounds-weights-end c).After-sizes_of-z).1, c.weight_buffer-weights.ensures)
+    omega (arith, (few (goal.at.slice_bounds-weights-end c).After-sizes_of_passed-sizes).1, c.weight_buffer-weights.ensures)
 
 pub slice_bounds-put_weights-end : goal.slice_bounds-put_weights-end
 slice_bounds-put_weights-end c =
@@ -42,7 +43,7 @@ slice_bounds-put_weights-end c =
 
 pub slice_bounds-flags-end : goal.slice_bounds-flags-end
 slice_bounds-flags-end c =
-    omega (arith, (few (goal.at.slice_bounds-flags-end c).After-sizes_of-z).0, c.flag_buffer-flags.ensures)
+    omega (arith, (few (goal.at.slice_bounds-flags-end c).After-sizes_of_passed-sizes).0, c.flag_buffer-flags.ensures)
 
 pub slice_bounds-put_weights-end-2 : goal.slice_bounds-put_weights-end-2
 slice_bounds-put_weights-end-2 c =
@@ -50,8 +51,4 @@ slice_bounds-put_weights-end-2 c =
 
 pub put_weights-requires : goal.put_weights-requires
 put_weights-requires c =
-    may-list (study c.args.shape c.args.addresses.now c.args.gp_map.now c.args.steps.now c.args.frequencies1.now c.args.frequencies2.now c.args.points.now c.args.triplets.now) c.requires.triplets_value c.sizes_of-z.result c.sizes_of-z.ensures _ _ (weights-fit (goal.at.put_weights-requires c).After-weight_buffer-weights) (flags-fit (goal.at.put_weights-requires c).After-flag_buffer-flags) c.requires.points_len_bound.0 c.requires.points_len_bound.1
-
-pub returns : goal.returns
-returns c =
-    wrote_so _ _ _ _ _ c.put_weights.ensures.0 c.put_weights.ensures.1 (ap listing_for (study-shaped (study c.args.shape c.args.addresses.now c.args.gp_map.now c.args.steps.now c.args.frequencies1.now c.args.frequencies2.now c.args.points.now c.args.triplets.now) c.sizes_of-z.result c.sizes_of-z.ensures))
+    may-list (study_of c.args.study) c.requires.passed c.sizes_of_passed-sizes.result c.sizes_of_passed-sizes.ensures _ _ (weights-fit (goal.at.put_weights-requires c).After-weight_buffer-weights) (flags-fit (goal.at.put_weights-requires c).After-flag_buffer-flags) c.requires.points_len_bound.0 c.requires.points_len_bound.1

@@ -6,12 +6,12 @@ use Rattle.bzgrid_lookup.proofs.kernel.first_address.Goals as goal
 
 pub loop-k-preserved : goal.loop-k-preserved
 loop-k-preserved c =
-    c.loop-k.invariant ∙ first-miss _ c.loop-k.k c.args.hi _ (omega arith) (sym c.same_address.ensures ∙ c.if-same_address.false)
+    (c.loop-k.invariant.0, c.loop-k.invariant.1 ∙ first-miss _ c.loop-k.k c.args.hi _ (omega arith) (sym c.same_address.ensures ∙ c.if-same_address.false))
 
-pub returns-then-hi-k : goal.returns-then-hi-k
-returns-then-hi-k c =
-    sym (c.loop-k.invariant ∙ first-end _ c.loop-k.k c.args.hi c.args.lo (omega arith))
+pub returns-after-loop-k : goal.returns-after-loop-k
+returns-after-loop-k c =
+    c.loop-k.invariant.0 ∙ sym (c.loop-k.invariant.1 ∙ first-end _ c.loop-k.k c.args.hi c.args.lo (omega arith))
 
 pub returns-then-same_address : goal.returns-then-same_address
 returns-then-same_address c =
-    sym (c.loop-k.invariant ∙ first-hit _ c.loop-k.k c.args.hi c.args.lo (omega arith) (sym c.same_address.ensures ∙ c.if-same_address.true))
+    sym (c.loop-k.invariant.1 ∙ first-hit _ c.loop-k.k c.args.hi c.args.lo (omega arith) (sym c.same_address.ensures ∙ c.if-same_address.true))

@@ -7,8 +7,4 @@ use Rattle.bzgrid_lookup.proofs.kernel.first_address.Given as goal
 
 abbrev pub invariant-loop-k : goal.invariant-loop-k
 invariant-loop-k l =
-    first_at (is_address l.addresses l.w) l.lo (l.hi - l.lo) l.lo ≡ first_at (is_address l.addresses l.w) l.k (l.hi - l.k) l.lo
-
-abbrev pub decreases-loop-k : goal.decreases-loop-k
-decreases-loop-k l =
-    l.hi - l.k
+    (l.found ≡ l.lo) × (first_at (is_address l.addresses l.w) l.lo (l.hi - l.lo) l.lo ≡ first_at (is_address l.addresses l.w) l.k (l.hi - l.k) l.lo)

@@ -9,8 +9,4 @@ use Rattle.grid_point_weights.proofs.band.fill_band.Given as goal
 
 abbrev pub invariant-loop-x : goal.invariant-loop-x
 invariant-loop-x l =
-    (l.x ≤ length l.points) × Replaced nan l.bands (InColumn l.x l.band) (λ x b. corner_weight l.corners l.rows l.frequencies l.bands l.points l.function x b) l.initial.iw l.iw
-
-abbrev pub decreases-loop-x : goal.decreases-loop-x
-decreases-loop-x l =
-    length l.points - l.x
+    (l.x ≤ length l.points) × Replaced nan l.bands (InColumn l.x l.band) (λ x b. corner_weight l.corners l.rows l.study.lent.frequencies.now l.bands l.points l.function x b) l.initial.iw l.iw

@@ -9,7 +9,3 @@ use Rattle.grid_point_weights.proofs.band.vertex_frequencies.Given as goal
 abbrev pub invariant-loop-j : goal.invariant-loop-j
 invariant-loop-j l =
     (l.j ≤ l.n) × (l.vertices ≡ area 384 l.j (corner_frequency l.corners l.frequencies l.bands l.band) (of_bits binary64 0))
-
-abbrev pub decreases-loop-j : goal.decreases-loop-j
-decreases-loop-j l =
-    l.n - l.j

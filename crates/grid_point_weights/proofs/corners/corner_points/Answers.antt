@@ -1,23 +1,43 @@
 -- `grid_point_weights::corners::corner_points` meets its contract.
-use Prim.Native.Nat.{ℕ}
+use Prim.Native.Nat.{ℕ, ◌<◌}
 use lib.Signed.{mag}
 use mathlib.Core.Path.{◌∙◌, ap}
 use native.Mathlib.Omega.{arith}
 use Rattle.bzgrid_lookup.proofs.NeighbourLaws.{neighbour-lt}
 use Rattle.bzgrid_lookup.specs.Neighbours.{wanted_address}
-use Rattle.grid_point_weights.specs.Weights.{corner_of}
+use Rattle.grid_point_weights.specs.Calls.{tested_study}
+use Rattle.grid_point_weights.specs.Weights.{GridStudy, corner_of}
 use Rattle.list_laws.proofs.FillLaws.{area-next, area-none}
 use Rattle.list_laws.specs.Lists.{at}
+use Rattle.question_grids.proofs.TableLaws.{corners-whole, rows-most, table-triples}
+use Rattle.grid_point_weights.proofs.corners.corner_points.Goals.{Start}
 use Rattle.grid_point_weights.proofs.corners.corner_points.Goals as goal
+
+-- the irreducible point of corner j
+abbrev corner : Start → ℕ → ℕ
+corner s j =
+    let t = tested_study s.args.study.now in corner_of t.grid t.addresses t.gp-map t.table t.irreducible s.args.gp j
 
 pub loop-j-init : goal.loop-j-init
 loop-j-init c =
-    (omega arith, area-none 384 (corner_of c.args.grid c.args.addresses.now c.args.gp_map.now c.args.table.now c.args.gp2irgp_map.now c.args.gp) 0)
+    (omega arith, area-none 384 (corner (goal.at.loop-j-init c).Start) 0)
+
+pub neighbour-v-requires : goal.neighbour-v-requires
+neighbour-v-requires c =
+    (c.requires.0.sound-grid, (table-triples c.args.study.now.lent.relative_grid_address.now c.requires.0.tabled, (c.requires.1, c.loop-j-test.true)))
+
+pub bounds-corners-j : goal.bounds-corners-j
+bounds-corners-j c =
+    let table = c.args.study.now.lent.relative_grid_address.now in
+    omega (arith, corners-whole table c.requires.0.tabled, rows-most table c.requires.0.tabled)
 
 pub magnitude_at-requires : goal.magnitude_at-requires
 magnitude_at-requires c =
-    omega (arith, c.neighbour-v.ensures, neighbour-lt c.args.grid c.args.addresses.now c.args.gp_map.now c.requires.0 (wanted_address c.args.addresses.now c.args.table.now c.args.gp c.loop-j.j), c.requires.1.1.1.1)
+    let t : GridStudy = tested_study c.args.study.now in
+    omega (arith, c.neighbour-v.ensures, neighbour-lt t.grid t.addresses t.gp-map c.requires.0.sound-grid (wanted_address t.addresses t.table c.args.gp c.loop-j.j), c.requires.0.mapped)
 
 pub loop-j-preserved : goal.loop-j-preserved
 loop-j-preserved c =
-    (omega arith, rw c.loop-j.invariant.1 (area-next 384 (corner_of c.args.grid c.args.addresses.now c.args.gp_map.now c.args.table.now c.args.gp2irgp_map.now c.args.gp) 0 c.loop-j.j _ (omega arith) (c.magnitude_at.ensures ∙ ap (λ (k : ℕ). mag (at c.args.gp2irgp_map.now k)) c.neighbour-v.ensures)))
+    let table = c.args.study.now.lent.relative_grid_address.now in
+    let few : c.loop-j.j < 384 = omega (arith, corners-whole table c.requires.0.tabled, rows-most table c.requires.0.tabled) in
+    (omega arith, rw c.loop-j.invariant.1 (area-next 384 (corner (goal.at.loop-j-preserved c).Start) 0 c.loop-j.j _ few (c.magnitude_at.ensures ∙ ap (λ (k : ℕ). mag (at c.args.study.now.lent.gp2irgp_map.now k)) c.neighbour-v.ensures)))

@@ -1,5 +1,6 @@
 -- `grid_point_weights::corners::corner_points` meets its contract.
-use Prim.Native.Nat.{◌-◌, ◌≤◌}
+use Prim.Native.Nat.{◌/◌, ◌≤◌}
+use lib.ListN.{length}
 use mathlib.Core.Path.{◌≡◌}
 use Rattle.grid_point_weights.specs.Weights.{corner_of}
 use Rattle.list_laws.specs.Lists.{area}
@@ -7,8 +8,4 @@ use Rattle.grid_point_weights.proofs.corners.corner_points.Given as goal
 
 abbrev pub invariant-loop-j : goal.invariant-loop-j
 invariant-loop-j l =
-    (l.j ≤ l.n) × (l.corners ≡ area 384 l.j (corner_of l.grid l.addresses l.gp_map l.table l.gp2irgp_map l.gp) 0)
-
-abbrev pub decreases-loop-j : goal.decreases-loop-j
-decreases-loop-j l =
-    l.n - l.j
+    (l.j ≤ length l.table / 3) × (l.corners ≡ area 384 l.j (corner_of l.grid l.addresses l.gp_map l.table l.gp2irgp_map l.gp) 0)

@@ -9,8 +9,4 @@ use Rattle.grid_point_weights.proofs.fill.fill_point.Given as goal
 
 abbrev pub invariant-loop-band : goal.invariant-loop-band
 invariant-loop-band l =
-    (l.band ≤ l.bands) × Replaced nan l.bands (BeforeColumn (length l.points) l.band) (λ x b. corner_weight l.corners l.rows l.frequencies l.bands l.points l.function x b) l.initial.iw l.iw
-
-abbrev pub decreases-loop-band : goal.decreases-loop-band
-decreases-loop-band l =
-    l.bands - l.band
+    (l.band ≤ l.bands) × Replaced nan l.bands (BeforeColumn (length l.study.lent.frequency_points.now) l.band) (λ x b. corner_weight l.corners l.rows l.study.lent.frequencies.now l.bands l.study.lent.frequency_points.now l.study.lent.function x b) l.initial.iw l.iw

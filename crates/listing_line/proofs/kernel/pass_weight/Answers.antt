@@ -26,11 +26,11 @@ pub returns-then-text-at-lt16-clause-value : goal.returns-then-text-at-lt16-clau
 returns-then-text-at-lt16-clause-value c = passed-short (weight_text (weight_here c.args.text.now c.args.at) c.args.end) c.args.at c.args.text.now (omega (arith, weight-length (weight_here c.args.text.now c.args.at) c.args.end)) (omega arith)
 
 pub returns-then-is_printed-clause-value : goal.returns-then-is_printed-clause-value
-returns-then-is_printed-clause-value c = let e = eqb-true (to_bits binary64 (of_bits binary64 c.in-Is.pattern)) c.in-Is.pattern (sym c.is_printed.ensures ∙ c.if-is_printed.true) in
-    c.pass_byte.ensures.value ∙ weight-printed c.args.text.now c.args.at c.args.end c.parse_bits.result (read (goal.at.returns-then-is_printed-clause-value c).After-parse_bits) c.in-Is.pattern c.in-Is.is e
+returns-then-is_printed-clause-value c = let e = eqb-true (to_bits binary64 (of_bits binary64 c.in-Some.pattern)) c.in-Some.pattern (sym c.is_printed.ensures ∙ c.if-is_printed.true) in
+    c.pass_byte.ensures.value ∙ weight-printed c.args.text.now c.args.at c.args.end c.parse_bits.result (read (goal.at.returns-then-is_printed-clause-value c).After-parse_bits) c.in-Some.pattern c.in-Some.is e
 
 pub returns-else-is_printed-clause-value : goal.returns-else-is_printed-clause-value
-returns-else-is_printed-clause-value c = weight-unprinted c.args.text.now c.args.at c.args.end c.parse_bits.result (read (goal.at.returns-else-is_printed-clause-value c).After-parse_bits) c.in-Is.pattern c.in-Is.is (sym c.if-is_printed.false ∙ c.is_printed.ensures)
+returns-else-is_printed-clause-value c = weight-unprinted c.args.text.now c.args.at c.args.end c.parse_bits.result (read (goal.at.returns-else-is_printed-clause-value c).After-parse_bits) c.in-Some.pattern c.in-Some.is (sym c.if-is_printed.false ∙ c.is_printed.ensures)
 
-pub returns-in-Bad-clause-value : goal.returns-in-Bad-clause-value
-returns-in-Bad-clause-value c = weight-bad c.args.text.now c.args.at c.args.end c.parse_bits.result (read (goal.at.returns-in-Bad-clause-value c).After-parse_bits) c.in-Bad.is
+pub returns-in-None-clause-value : goal.returns-in-None-clause-value
+returns-in-None-clause-value c = weight-bad c.args.text.now c.args.at c.args.end c.parse_bits.result (read (goal.at.returns-in-None-clause-value c).After-parse_bits) c.in-None.is

@@ -10,13 +10,13 @@ use Rattle.listing_line.proofs.kernel.pass_weights.Goals as goal
 
 pub loop-c-init : goal.loop-c-init
 loop-c-init c =
-    (omega arith, c.requires, passed_none (λ k. weight_text (weight_here c.args.text.now (c.args.at + 17 * k)) (weight_end c.args.channels k)) c.args.at c.args.text.now)
+    (c.requires, passed_none (λ k. weight_text (weight_here c.args.text.now (c.args.at + 17 * k)) (weight_end c.args.channels k)) c.args.at c.args.text.now)
 
 pub loop-c-preserved : goal.loop-c-preserved
 loop-c-preserved c =
-    (omega arith, c.pass_weight-p.ensures.upper_bound, weights-next c.args.channels c.args.text.now c.args.at c.loop-c.c c.loop-c.p c.pass_weight-p.result c.weight_end.result c.loop-c.invariant.2 c.weight_end.ensures c.pass_weight-p.ensures.value)
+    (c.pass_weight-p.ensures.upper_bound, weights-next c.args.channels c.args.text.now c.args.at c.loop-c.c c.loop-c.p c.pass_weight-p.result c.weight_end.result c.loop-c.invariant.1 c.weight_end.ensures c.pass_weight-p.ensures.value)
 
 pub returns-clause-value : goal.returns-clause-value
 unfolding weights_here
 returns-clause-value c = let e : c.loop-c.c ≡ c.args.channels = omega arith in
-    rw e at c.loop-c.invariant.2
+    rw e at c.loop-c.invariant.1

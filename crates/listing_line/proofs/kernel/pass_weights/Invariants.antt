@@ -1,5 +1,5 @@
 -- `listing_line::kernel::pass_weights` meets its contract.
-use Prim.Native.Nat.{◌+◌, ◌-◌, ◌*◌, ◌≤◌}
+use Prim.Native.Nat.{◌+◌, ◌*◌, ◌≤◌}
 use lib.ListN.{length}
 use mathlib.Core.Path.{◌≡◌}
 use Rattle.list_laws.specs.Lists.{rows}
@@ -10,7 +10,4 @@ use Rattle.listing_line.proofs.kernel.pass_weights.Given as goal
 
 abbrev pub invariant-loop-c : goal.invariant-loop-c
 invariant-loop-c l =
-    (l.c ≤ l.channels) × (l.p ≤ length l.text + 1) × (l.p ≡ passed (rows l.c (λ k. weight_text (weight_here l.text (l.at + 17 * k)) (weight_end l.channels k))) l.at l.text)
-
-abbrev pub decreases-loop-c : goal.decreases-loop-c
-decreases-loop-c l = l.channels - l.c
+    (l.p ≤ length l.text + 1) × (l.p ≡ passed (rows l.c (λ k. weight_text (weight_here l.text (l.at + 17 * k)) (weight_end l.channels k))) l.at l.text)

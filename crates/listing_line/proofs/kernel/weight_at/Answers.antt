@@ -16,10 +16,10 @@ read c =
     let q : c.args.at + 16 - c.args.at ≡ 16 = omega arith in
     weight_is c.args.text.now c.args.at 0 c.parse_bits.result (c.parse_bits.ensures ∙ ap (λ (k : ℕ). bits (take k (drop c.args.at c.args.text.now))) q)
 
-pub returns-in-Is : goal.returns-in-Is
-returns-in-Is c =
-    c.float_of.ensures ∙ (sym (ap float_of c.in-Is.is) ∙ read (goal.at.returns-in-Is c).After-parse_bits)
+pub returns-in-Some : goal.returns-in-Some
+returns-in-Some c =
+    c.float_of.ensures ∙ (sym (ap float_of c.in-Some.is) ∙ read (goal.at.returns-in-Some c).After-parse_bits)
 
-pub returns-in-Bad : goal.returns-in-Bad
+pub returns-in-None : goal.returns-in-None
 unfolding of_bits div
-returns-in-Bad c = sym (ap float_of c.in-Bad.is) ∙ read (goal.at.returns-in-Bad c).After-parse_bits
+returns-in-None c = sym (ap float_of c.in-None.is) ∙ read (goal.at.returns-in-None c).After-parse_bits

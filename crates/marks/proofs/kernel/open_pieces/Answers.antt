@@ -1,30 +1,23 @@
 -- `marks::kernel::open_pieces` meets its contract.
-use mathlib.Core.Path.{◌∙◌, ◌≡◌, refl}
-use native.Mathlib.Numerals.{add-one}
+use borrow.Author.Rules.{rules}
+use borrow.Author.Tests.{tests}
+use lib.Dec.{eqb}
+use lib.ListN.{length, take}
+use mathlib.Core.Path.{◌≡◌, ◌∙◌}
+use Rattle.std.specs.List.{filter}
 use native.Mathlib.Omega.{arith}
-use Rattle.list_laws.proofs.MapLaws.{count_next}
-use Rattle.list_laws.specs.Lists.{count_below}
-use Rattle.marks.specs.Marks.{is_open_mark, open_pieces}
+use Rattle.std.proofs.lemmas.Iterator.{YieldsList-from_slice}
+use Rattle.std.proofs.lemmas.Iterator.Consumers.{count_from_yields_List, YieldsList-from_filter}
+use Rattle.std.proofs.lemmas.List.Sums.{length-filter}
+use Rattle.list_laws.proofs.ChainLaws.{count-front}
+use Rattle.marks.specs.Bytes.{mark_at}
+use Rattle.marks.specs.Marks.{open_pieces, is_open_mark}
 use Rattle.marks.proofs.kernel.open_pieces.Goals as goal
 
-pub loop-q-init : goal.loop-q-init
-unfolding count_below
-loop-q-init c =
-    (omega arith, refl)
-
-pub overflow_add-count : goal.overflow_add-count
-unfolding is_open_mark
-overflow_add-count c =
-    let loop = c.loop-q in
-    omega (arith, (count_next loop.q loop.count (is_open_mark c.args.marks.now) loop.invariant.1 c.one_if-count.result (c.one_if-count.ensures ∙ rw c.mark_at.ensures)).0)
-
-pub loop-q-preserved : goal.loop-q-preserved
-unfolding is_open_mark
-loop-q-preserved c =
-    let loop = c.loop-q in
-    (omega arith, rw add-one (count_next loop.q loop.count (is_open_mark c.args.marks.now) loop.invariant.1 c.one_if-count.result (c.one_if-count.ensures ∙ rw c.mark_at.ensures)).1)
-
 pub returns : goal.returns
-unfolding open_pieces
+unfolding open_pieces is_open_mark mark_at
 returns c =
-    let e : c.loop-q.q ≡ c.args.pieces = omega arith in c.loop-q.invariant.1 ∙ rw e
+    let counted : c.count.result ≡ length (filter (λ x. eqb x 0) (take c.args.pieces c.args.marks.now)) =
+    count_from_yields_List c.filter.result _ c.count.ensures.ran (YieldsList-from_filter _ (λ x. eqb x 0) (YieldsList-from_slice (take c.args.pieces c.args.marks.now) (search rules)) c.filter.ensures.closure (λ x b q k. search (rules, tests)))
+    in
+    counted ∙ length-filter (λ x. eqb x 0) (take c.args.pieces c.args.marks.now) ∙ count-front (λ x. eqb x 0) 1 c.args.pieces c.args.marks.now (omega arith)

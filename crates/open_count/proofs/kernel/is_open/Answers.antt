@@ -16,7 +16,7 @@ abbrev counts : List Float → ℕ → ℕ → ℕ → Bool
 counts weights cells e k = is_nonzero (get_or weights (k * cells + e) nan)
 
 pub loop-c-init : goal.loop-c-init
-loop-c-init c = (omega arith, some-none _)
+loop-c-init c = some-none _
 
 pub returns-then-is_nonzero : goal.returns-then-is_nonzero
 unfolding is_open
@@ -25,9 +25,9 @@ returns-then-is_nonzero c =
 
 pub loop-c-preserved : goal.loop-c-preserved
 loop-c-preserved c =
-    (omega arith, some_next c.loop-c.c (counts c.args.weights.now c.args.cells c.args.e) c.loop-c.invariant.1 (sym c.is_nonzero.ensures ∙ c.if-is_nonzero.false))
+    some_next c.loop-c.c (counts c.args.weights.now c.args.cells c.args.e) c.loop-c.invariant (sym c.is_nonzero.ensures ∙ c.if-is_nonzero.false)
 
 pub returns : goal.returns
 unfolding is_open
 returns c =
-    c.loop-c.invariant.1 ∙ ap (λ (n : ℕ). some_below n (counts c.args.weights.now c.args.cells c.args.e)) (omega arith)
+    c.loop-c.invariant ∙ ap (λ (n : ℕ). some_below n (counts c.args.weights.now c.args.cells c.args.e)) (omega arith)

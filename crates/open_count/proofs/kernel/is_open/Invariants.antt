@@ -1,7 +1,7 @@
 -- `open_count::kernel::is_open` meets its contract: before each turn no weight was other than zero.
 use mathlib.Core.Bool.{false}
 use mathlib.Core.Path.{◌≡◌}
-use Prim.Native.Nat.{◌+◌, ◌-◌, ◌*◌, ◌≤◌}
+use Prim.Native.Nat.{◌+◌, ◌*◌}
 use lib.Ieee.{nan}
 use lib.ListN.{get_or}
 use Rattle.list_laws.specs.Lists.{some_below}
@@ -9,8 +9,4 @@ use Rattle.open_count.specs.OpenCount.{is_nonzero}
 use Rattle.open_count.proofs.kernel.is_open.Given as goal
 
 abbrev pub invariant-loop-c : goal.invariant-loop-c
-invariant-loop-c l =
-    (l.c ≤ l.channels) × (false ≡ some_below l.c (λ k. is_nonzero (get_or l.weights (k * l.cells + l.e) nan)))
-
-abbrev pub decreases-loop-c : goal.decreases-loop-c
-decreases-loop-c l = l.channels - l.c
+invariant-loop-c l = false ≡ some_below l.c (λ k. is_nonzero (get_or l.weights (k * l.cells + l.e) nan))

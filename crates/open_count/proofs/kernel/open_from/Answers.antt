@@ -10,18 +10,17 @@ use Rattle.open_count.proofs.kernel.open_from.Goals as goal
 
 pub loop-i-init : goal.loop-i-init
 unfolding count_below
-loop-i-init c =
-    (omega arith, refl)
+loop-i-init c = refl
 
 pub overflow_add-count : goal.overflow_add-count
 overflow_add-count c =
-    omega (arith, (count_next c.loop-i.i c.loop-i.count (λ k. is_open c.args.channels c.args.cells c.args.weights.now (c.args.start + k)) c.loop-i.invariant.1 c.one_if-count.result (c.one_if-count.ensures ∙ rw c.is_open.ensures)).0)
+    omega (arith, (count_next c.loop-i.i c.loop-i.count (λ k. is_open c.args.channels c.args.cells c.args.weights.now (c.args.start + k)) c.loop-i.invariant c.one_if-count.result (c.one_if-count.ensures ∙ rw c.is_open.ensures)).0)
 
 pub loop-i-preserved : goal.loop-i-preserved
 loop-i-preserved c =
-    (omega arith, rw add-one (count_next c.loop-i.i c.loop-i.count (λ k. is_open c.args.channels c.args.cells c.args.weights.now (c.args.start + k)) c.loop-i.invariant.1 c.one_if-count.result (c.one_if-count.ensures ∙ rw c.is_open.ensures)).1)
+    rw add-one (count_next c.loop-i.i c.loop-i.count (λ k. is_open c.args.channels c.args.cells c.args.weights.now (c.args.start + k)) c.loop-i.invariant c.one_if-count.result (c.one_if-count.ensures ∙ rw c.is_open.ensures)).1
 
 pub returns : goal.returns
 unfolding open_from
 returns c =
-    let e : c.loop-i.i ≡ c.args.n = omega arith in c.loop-i.invariant.1 ∙ rw e
+    let e : c.loop-i.i ≡ c.args.n = omega arith in c.loop-i.invariant ∙ rw e

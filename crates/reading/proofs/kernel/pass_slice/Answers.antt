@@ -17,5 +17,5 @@ returns-then-text-at-3-clause-value c = passed-no c.args.src.now c.args.at c.arg
 
 pub returns-clause-value : goal.returns-clause-value
 returns-clause-value c = let e : c.loop-i.i ≡ length c.args.src.now = omega arith in
-    let s : take (length c.args.src.now) (drop c.args.at c.args.text.now) ≡ c.args.src.now = (rw e at c.loop-i.invariant.1) ∙ take-length c.args.src.now in
+    let s : take (length c.args.src.now) (drop c.args.at c.args.text.now) ≡ c.args.src.now = (rw e at c.loop-i.invariant) ∙ take-length c.args.src.now in
     omega (arith, passed-yes c.args.src.now c.args.at c.args.text.now s)

@@ -7,6 +7,3 @@ use Rattle.relative_grid_address.proofs.diagonal.get_main_diagonal.Given as goal
 abbrev pub invariant-loop-i : goal.invariant-loop-i
 invariant-loop-i l =
     (1 ≤ l.i) × (l.i ≤ 4) × (l.shortest ≡ least_up_to (length_of l.rec_lattice) (l.i - 1)) × (l.min_length ≡ length_of l.rec_lattice l.shortest)
-
-abbrev pub decreases-loop-i : goal.decreases-loop-i
-decreases-loop-i l = 4 - l.i

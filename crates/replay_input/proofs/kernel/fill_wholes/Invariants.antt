@@ -9,6 +9,3 @@ use Rattle.replay_input.proofs.kernel.fill_wholes.Given as goal
 abbrev pub invariant-loop-i : goal.invariant-loop-i
 invariant-loop-i l =
     (length l.out ≡ length l.initial.out) × (l.count ≤ length l.initial.out) × (l.i ≤ l.count) × (l.out ≡ fronted l.i (whole_from l.text l.initial.next.at) l.initial.out) × (l.next.at ≡ field_place (after_whole l.text) l.initial.next.at l.i)
-
-abbrev pub decreases-loop-i : goal.decreases-loop-i
-decreases-loop-i l = l.count - l.i

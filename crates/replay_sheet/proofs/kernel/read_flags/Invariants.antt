@@ -10,6 +10,3 @@ use Rattle.replay_sheet.proofs.kernel.read_flags.Given as goal
 abbrev pub invariant-loop-i : goal.invariant-loop-i
 invariant-loop-i l =
     (length l.out ≡ length l.initial.out) × (l.i ≤ length l.initial.out) × (l.out ≡ fronted l.i (flag_from l.text l.initial.next.at) l.initial.out) × (l.next.at ≡ field_place (after_whole l.text) l.initial.next.at l.i)
-
-abbrev pub decreases-loop-i : goal.decreases-loop-i
-decreases-loop-i l = length l.out - l.i

@@ -9,6 +9,3 @@ use Rattle.replay_sheet.proofs.kernel.read_weights.Given as goal
 abbrev pub invariant-loop-i : goal.invariant-loop-i
 invariant-loop-i l =
     (length l.out ≡ length l.initial.out) × (l.i ≤ length l.initial.out) × (l.out ≡ fronted l.i (real_from l.text l.initial.next.at) l.initial.out) × (l.next.at ≡ field_place (after_bits l.text) l.initial.next.at l.i)
-
-abbrev pub decreases-loop-i : goal.decreases-loop-i
-decreases-loop-i l = length l.out - l.i

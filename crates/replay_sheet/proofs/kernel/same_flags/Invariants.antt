@@ -12,6 +12,3 @@ use Rattle.replay_sheet.proofs.kernel.same_flags.Given as goal
 abbrev pub invariant-loop-i : goal.invariant-loop-i
 invariant-loop-i l =
     (l.i ≤ length l.flags) × (l.agrees ≡ all_below l.i (λ k. eq_z (get_or l.flags k (pos 0)) (flag_from l.text l.initial.next.at k))) × (l.next.at ≡ field_place (after_whole l.text) l.initial.next.at l.i)
-
-abbrev pub decreases-loop-i : goal.decreases-loop-i
-decreases-loop-i l = length l.flags - l.i

@@ -11,6 +11,3 @@ use Rattle.replay_sheet.proofs.kernel.same_marks.Given as goal
 abbrev pub invariant-loop-i : goal.invariant-loop-i
 invariant-loop-i l =
     (l.i ≤ length l.marks) × (l.agrees ≡ all_below l.i (λ k. eqb (get_or l.marks k 0) (mark_from l.text l.initial.next.at k))) × (l.next.at ≡ field_place (after_count l.text) l.initial.next.at l.i)
-
-abbrev pub decreases-loop-i : goal.decreases-loop-i
-decreases-loop-i l = length l.marks - l.i

@@ -11,6 +11,3 @@ use Rattle.replay_sheet.proofs.kernel.same_weights.Given as goal
 abbrev pub invariant-loop-i : goal.invariant-loop-i
 invariant-loop-i l =
     (l.i ≤ length l.weights) × (l.agrees ≡ all_below l.i (λ k. eqb (to_bits binary64 (get_or l.weights k nan)) (to_bits binary64 (real_from l.text l.initial.next.at k)))) × (l.next.at ≡ field_place (after_bits l.text) l.initial.next.at l.i)
-
-abbrev pub decreases-loop-i : goal.decreases-loop-i
-decreases-loop-i l = length l.weights - l.i

@@ -37,13 +37,13 @@ is-run c = c.is_nat.ensures ∙ ap (λ (k : ℤ). is_nat k 0) ((back c.number-ki
 is-carry : (c : After-is_nat-2) → c.is_nat-2.result ≡ is_nat (number_at c.args.list.now c.args.i 0) 1
 is-carry c = c.is_nat-2.ensures ∙ ap (λ (k : ℤ). is_nat k 1) ((back c.number-kind.result c.number-kind.type_inv ∙ c.number-kind.ensures))
 
-pub returns-then-is_nat-clause-called : goal.returns-then-is_nat-clause-called
-returns-then-is_nat-clause-called c = rw (call-run c.args.list.now c.args.ids.now c.args.i (sym (is-run (goal.at.returns-then-is_nat-clause-called c).After-is_nat) ∙ c.if-is_nat.true)) (rw (arg1 (goal.at.returns-then-is_nat-clause-called c).After-number-c, arg2 (goal.at.returns-then-is_nat-clause-called c).After-number-c, arg3 (goal.at.returns-then-is_nat-clause-called c).After-number-c, arg4 (goal.at.returns-then-is_nat-clause-called c).After-number-d) at c.run_asked.ensures.called)
+pub returns-then-is_nat-clause-did : goal.returns-then-is_nat-clause-did
+returns-then-is_nat-clause-did c = rw (call-run c.args.list.now c.args.ids.now c.args.i (sym (is-run (goal.at.returns-then-is_nat-clause-did c).After-is_nat) ∙ c.if-is_nat.true)) (rw (arg1 (goal.at.returns-then-is_nat-clause-did c).After-number-c, arg2 (goal.at.returns-then-is_nat-clause-did c).After-number-c, arg3 (goal.at.returns-then-is_nat-clause-did c).After-number-c, arg4 (goal.at.returns-then-is_nat-clause-did c).After-number-d) at c.run_asked.ensures.did)
 
-pub returns-then-is_nat-2-clause-called : goal.returns-then-is_nat-2-clause-called
-returns-then-is_nat-2-clause-called c = rw (call-carry c.args.list.now c.args.ids.now c.args.i (sym (is-run (goal.at.returns-then-is_nat-2-clause-called c).After-is_nat) ∙ c.if-is_nat.false) (sym (is-carry (goal.at.returns-then-is_nat-2-clause-called c).After-is_nat-2) ∙ c.if-is_nat-2.true)) (rw (arg1 (goal.at.returns-then-is_nat-2-clause-called c).After-number-c) at c.carry_asked.ensures.called)
+pub returns-then-is_nat-2-clause-did : goal.returns-then-is_nat-2-clause-did
+returns-then-is_nat-2-clause-did c = rw (call-carry c.args.list.now c.args.ids.now c.args.i (sym (is-run (goal.at.returns-then-is_nat-2-clause-did c).After-is_nat) ∙ c.if-is_nat.false) (sym (is-carry (goal.at.returns-then-is_nat-2-clause-did c).After-is_nat-2) ∙ c.if-is_nat-2.true)) (rw (arg1 (goal.at.returns-then-is_nat-2-clause-did c).After-number-c) at c.carry_asked.ensures.did)
 
-pub returns-clause-called : goal.returns-clause-called
-returns-clause-called c = let i1 : c.ids_from-ids1.result.now ≡ ids_from c.args.ids.now (number_at c.args.list.now c.args.i 2) (number_at c.args.list.now c.args.i 3) = c.ids_from-ids1.ensures ∙ (λ k. ids_from c.args.ids.now (arg2 (goal.at.returns-clause-called c).After-number-c k) (arg3 (goal.at.returns-clause-called c).After-number-c k)) in
-    let i2 : c.ids_from-ids2.result.now ≡ ids_from c.args.ids.now (number_at c.args.list.now c.args.i 4) (number_at c.args.list.now c.args.i 5) = c.ids_from-ids2.ensures ∙ (λ k. ids_from c.args.ids.now (arg4 (goal.at.returns-clause-called c).After-number-d k) (arg5 (goal.at.returns-clause-called c).After-number-e k)) in
-    rw (call-average c.args.list.now c.args.ids.now c.args.i (sym (is-run (goal.at.returns-clause-called c).After-is_nat) ∙ c.if-is_nat.false) (sym (is-carry (goal.at.returns-clause-called c).After-is_nat-2) ∙ c.if-is_nat-2.false)) (rw (arg1 (goal.at.returns-clause-called c).After-number-c, i1, i2) at c.average_asked-no.ensures)
+pub returns-clause-did : goal.returns-clause-did
+returns-clause-did c = let i1 : c.ids_from-ids1.result.now ≡ ids_from c.args.ids.now (number_at c.args.list.now c.args.i 2) (number_at c.args.list.now c.args.i 3) = c.ids_from-ids1.ensures ∙ (λ k. ids_from c.args.ids.now (arg2 (goal.at.returns-clause-did c).After-number-c k) (arg3 (goal.at.returns-clause-did c).After-number-c k)) in
+    let i2 : c.ids_from-ids2.result.now ≡ ids_from c.args.ids.now (number_at c.args.list.now c.args.i 4) (number_at c.args.list.now c.args.i 5) = c.ids_from-ids2.ensures ∙ (λ k. ids_from c.args.ids.now (arg4 (goal.at.returns-clause-did c).After-number-d k) (arg5 (goal.at.returns-clause-did c).After-number-e k)) in
+    rw (call-average c.args.list.now c.args.ids.now c.args.i (sym (is-run (goal.at.returns-clause-did c).After-is_nat) ∙ c.if-is_nat.false) (sym (is-carry (goal.at.returns-clause-did c).After-is_nat-2) ∙ c.if-is_nat-2.false)) (rw (arg1 (goal.at.returns-clause-did c).After-number-c, i1, i2) at c.average_asked.ensures)

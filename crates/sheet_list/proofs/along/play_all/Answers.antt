@@ -1,19 +1,38 @@
 -- `sheet_list::along::play_all` meets its contract.
+use Rattle.ask.proofs.RefusalLaws.{first-low, given-is, refused-not, refused-told}
 use Rattle.sheet_list.proofs.ListLaws.{outcome-refused}
-use Rattle.sheet_play.specs.Outcomes.{outcome}
+use Rattle.sheet_play.specs.Outcomes.{outcome, outcome_of}
+use Rattle.sheet_calls.specs.Calls.{calls_of}
+use Rattle.sheet_step.proofs.EntryLaws.{tested-yes}
+use Rattle.sheet_step.proofs.StepLaws.{common_of}
 use Rattle.sheet_step.specs.Steps.{Sheet, sheet}
-use Rattle.triplet_study.specs.Study.{Study, study}
+use Rattle.sheet_turn.specs.Turns.{common_no}
+use Rattle.triplet_study.specs.Lent.{study_of}
+use Rattle.triplet_study.specs.declared.Study.{Study as LentStudy}
+use Prim.Native.Nat.{ℕ}
 use lib.ListN.{length}
-use mathlib.Core.Path.{◌∙◌}
+use mathlib.Core.Path.{◌≡◌, ◌∙◌, ap, refl, sym}
 use Rattle.sheet_list.proofs.along.play_all.Goals.{Start}
 use Rattle.sheet_list.proofs.along.play_all.Goals as goal
-
-abbrev asked : Start → Study
-asked s = study s.args.shape s.args.addresses.now s.args.gp_map.now s.args.steps.now s.args.frequencies1.now s.args.frequencies2.now s.args.points.now s.args.triplets.now
 
 abbrev start : Start → Sheet
 start s = sheet s.args.weights.now s.args.flags.now s.args.marks.now s.args.before.runs
 
-pub returns-then-no-ne0 : goal.returns-then-no-ne0
-returns-then-no-ne0 c =
-    (λ i. outcome (start (goal.at.returns-then-no-ne0 c).Start) (c.fill_with.ensures i) (c.fill_tallies.ensures i)) ∙ outcome-refused (asked (goal.at.returns-then-no-ne0 c).Start) (start (goal.at.returns-then-no-ne0 c).Start) c.args.list.now c.args.ids.now (length c.args.answers.now) c.requires.0 c.common_first_no-no.result c.common_first_no-no.ensures c.if-no-ne0.true
+pub play_tested-requires-clause-common : goal.play_tested-requires-clause-common
+play_tested-requires-clause-common c =
+    let same : c.in-Ok.tested.study ≡ c.args.study = rw c.in-Ok.is at c.ask_common.ensures.same in
+    let told : _ = rw c.in-Ok.is at c.ask_common.ensures.asked in
+    tested-yes c.in-Ok.tested same (start (goal.at.play_tested-requires-clause-common c).Start) (given-is _ _ tt told).0
+
+pub returns-in-Ok : goal.returns-in-Ok
+returns-in-Ok c =
+    let same : c.in-Ok.tested.study ≡ c.args.study = rw c.in-Ok.is at c.ask_common.ensures.same in
+    c.play_tested.ensures ∙ ap (λ (s : LentStudy). outcome_of (study_of s) (start (goal.at.returns-in-Ok c).Start) (calls_of c.args.list.now c.args.ids.now)) same
+
+pub returns-in-Err : goal.returns-in-Err
+returns-in-Err c =
+    let s : Sheet = start (goal.at.returns-in-Err c).Start in
+    let told : _ = rw c.in-Err.is at c.ask_common.ensures.asked in
+    let e : c.number.result ≡ common_no (study_of c.args.study) s = c.number.ensures ∙ (refused-told {B = ℕ} _ c.in-Err.why tt 0 0 (first-low (common_of (study_of c.args.study) s) refl) told).0 in
+    (λ i. outcome s (c.fill_with.ensures i) (c.fill_tallies.ensures i))
+    ∙ outcome-refused (study_of c.args.study) s c.args.list.now c.args.ids.now (length c.args.answers.now) c.requires.0 c.number.result e (λ z. refused-not _ _ tt told (sym e ∙ z))

@@ -1,21 +1,24 @@
 -- `statuses::triplets::num_channels` meets its contract: the answer as a status and a count.
-use mathlib.Core.Path.{◌∙◌, ap, sym}
+use Rattle.ask.proofs.RefusalLaws.{first-low}
+use Rattle.statuses.proofs.StatusLaws.{value-done, value-refused}
+use Rattle.triplet_types.specs.Types.{channel_count, type_questions, tp_type_answer}
+use mathlib.Core.Path.{◌∙◌, ap, refl, sym}
 use mir.Syntax.{w64}
 use mir.ValLaws.{to_z-of_z}
-use Rattle.statuses.proofs.ChoiceLaws.{type-done, type-refused}
-use Rattle.triplet_types.specs.Types.{channel_count, tp_type_answer}
 use Rattle.statuses.proofs.triplets.num_channels.Goals as goal
 
-pub returns-in-Known-clause-value : goal.returns-in-Known-clause-value
-returns-in-Known-clause-value c = let d = type-done c.args.tp_type channel_count c.args.channels.now _ (sym c.in-Known.is ∙ (c.try_from_i64.ensures ∙ ap tp_type_answer (to_z-of_z w64 c.args.tp_type c.ranges.tp_type))) in d.0
+pub returns-in-Ok-clause-value : goal.returns-in-Ok-clause-value
+returns-in-Ok-clause-value c =
+    (value-done _ _ c.in-Ok.tp channel_count c.args.channels.now (sym c.in-Ok.is ∙ (c.try_from.ensures ∙ ap tp_type_answer (to_z-of_z w64 c.args.tp_type c.ranges.tp_type)))).0
 
-pub returns-in-Known-clause-channels_after : goal.returns-in-Known-clause-channels_after
-returns-in-Known-clause-channels_after c = let d = type-done c.args.tp_type channel_count c.args.channels.now _ (sym c.in-Known.is ∙ (c.try_from_i64.ensures ∙ ap tp_type_answer (to_z-of_z w64 c.args.tp_type c.ranges.tp_type))) in c.num_channels.ensures ∙ d.1
+pub returns-in-Ok-clause-channels_after : goal.returns-in-Ok-clause-channels_after
+returns-in-Ok-clause-channels_after c =
+    c.num_channels.ensures ∙ (value-done _ _ c.in-Ok.tp channel_count c.args.channels.now (sym c.in-Ok.is ∙ (c.try_from.ensures ∙ ap tp_type_answer (to_z-of_z w64 c.args.tp_type c.ranges.tp_type)))).1
 
-pub returns-in-Refused-clause-value : goal.returns-in-Refused-clause-value
-returns-in-Refused-clause-value c =
-    (type-refused c.args.tp_type channel_count c.args.channels.now _ (sym c.in-Refused.is ∙ (c.try_from_i64.ensures ∙ ap tp_type_answer (to_z-of_z w64 c.args.tp_type c.ranges.tp_type)))).0
+pub returns-in-Err-clause-value : goal.returns-in-Err-clause-value
+returns-in-Err-clause-value c =
+    c.number.ensures ∙ (value-refused _ _ c.in-Err.why c.args.channels.now c.args.channels.now (first-low (type_questions c.args.tp_type) refl) (sym c.in-Err.is ∙ (c.try_from.ensures ∙ ap tp_type_answer (to_z-of_z w64 c.args.tp_type c.ranges.tp_type)))).0
 
-pub returns-in-Refused-clause-channels_after : goal.returns-in-Refused-clause-channels_after
-returns-in-Refused-clause-channels_after c =
-    (type-refused c.args.tp_type channel_count c.args.channels.now _ (sym c.in-Refused.is ∙ (c.try_from_i64.ensures ∙ ap tp_type_answer (to_z-of_z w64 c.args.tp_type c.ranges.tp_type)))).1
+pub returns-in-Err-clause-channels_after : goal.returns-in-Err-clause-channels_after
+returns-in-Err-clause-channels_after c =
+    (value-refused _ _ c.in-Err.why _ c.args.channels.now (first-low (type_questions c.args.tp_type) refl) (sym c.in-Err.is ∙ (c.try_from.ensures ∙ ap tp_type_answer (to_z-of_z w64 c.args.tp_type c.ranges.tp_type)))).1

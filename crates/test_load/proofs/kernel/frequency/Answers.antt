@@ -6,4 +6,4 @@ use Rattle.test_load.proofs.kernel.frequency.Goals as goal
 
 pub returns : goal.returns
 unfolding frequency of_bits of_int
-returns c = refl
+returns c = rw c.from.ensures refl

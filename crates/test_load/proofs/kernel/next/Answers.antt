@@ -5,4 +5,4 @@ use Rattle.test_load.proofs.kernel.next.Goals as goal
 
 pub returns : goal.returns
 unfolding next
-returns c = refl
+returns c = rw c.from.ensures refl

@@ -1,24 +1,17 @@
--- A number of any table: the four readers put together.
-use mathlib.Core.Path.{◌≡◌}
-use native.Mathlib.Omega.{arith}
+-- A number of a table: the constant is the definition's lists, in rows of twelve.
+use mathlib.Core.Path.{◌∙◌, ap}
+use mathlib.Core.List.{List, [], flatten}
+use lib.IntN.{ℤ, pos}
+use lib.ListN.{get_or}
 use mir.Syntax.{w8}
 use mir.ValLaws.{to_z-of_z}
-use Rattle.tetrahedron_tables.specs.Tables.{table_of}
+use Rattle.tetrahedron_tables.specs.Tables.{table_of, table0, table1, table2, table3}
+use Rattle.tetrahedron_tables.proofs.TableLaws.{twelves, all_twelves, twelves-at, place}
 use Rattle.tetrahedron_tables.proofs.kernel.entry.Goals as goal
 
-pub returns-in-0 : goal.returns-in-0
-unfolding table_of
-returns-in-0 c = rw (to_z-of_z w8 c.entry0.result (record { sfits = c.entry0.type_inv }), c.in-0.is) c.entry0.ensures
-
-pub returns-in-1 : goal.returns-in-1
-unfolding table_of
-returns-in-1 c = rw (to_z-of_z w8 c.entry1.result (record { sfits = c.entry1.type_inv }), c.in-1.is) c.entry1.ensures
-
-pub returns-in-2 : goal.returns-in-2
-unfolding table_of
-returns-in-2 c = rw (to_z-of_z w8 c.entry2.result (record { sfits = c.entry2.type_inv }), c.in-2.is) c.entry2.ensures
-
-pub returns-in_default : goal.returns-in_default
-unfolding table_of
-returns-in_default c = let e : c.args.diagonal ≡ 3 = omega arith in
-    rw (to_z-of_z w8 c.entry3.result (record { sfits = c.entry3.type_inv }), e) c.entry3.ensures
+pub returns : goal.returns
+unfolding table_of table0 table1 table2 table3 twelves flatten
+returns c =
+    to_z-of_z w8 (get_or (get_or (get_or all_twelves c.args.diagonal []) c.args.r []) c.args.j (pos 0)) (record { sfits = c.result-2-1.given })
+    ∙ ap (λ (t : List (List ℤ)). get_or (get_or t c.args.r []) c.args.j (pos 0)) (twelves-at c.args.diagonal c.requires.0)
+    ∙ place c.args.diagonal c.args.r c.args.j c.requires.1.0 c.requires.1.1

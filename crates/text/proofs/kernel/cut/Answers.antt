@@ -1,16 +1,19 @@
 -- `text::kernel::cut` meets its contract.
-use mathlib.Core.Path.{sym, ◌∙◌}
+use mathlib.Core.Path.{ap, ◌∙◌}
+use Prim.Native.Nat.{ℕ, ◌+◌}
 use native.Mathlib.Omega.{arith}
-use Rattle.text.proofs.PieceLaws.{index-hit, index-miss, index-none}
+use lib.ListN.{length, length-drop}
+use Rattle.text.specs.Pieces.{index}
+use Rattle.text.proofs.FieldLaws.{part-from}
 use Rattle.text.proofs.kernel.cut.Goals as goal
 
-pub returns-then-s-i : goal.returns-then-s-i
-returns-then-s-i c =
-    (index-hit c.args.b c.args.s.now c.loop-i.i (omega arith) c.if-s-i.true ∙ c.loop-i.invariant.0, omega arith, omega arith)
-
-pub loop-i-preserved : goal.loop-i-preserved
-loop-i-preserved c =
-    (sym (index-miss c.args.b c.args.s.now c.loop-i.i (omega arith) c.if-s-i.false) ∙ c.loop-i.invariant.0, omega arith, omega arith)
-
 pub returns : goal.returns
-returns c = (index-none c.args.b c.args.s.now c.loop-i.i (omega arith) ∙ c.loop-i.invariant.0, omega arith, omega arith)
+returns c = (
+  ap (λ (n : ℕ). c.args.p + n) (c.index_of.ensures.value ∙ ap (index c.args.b) (part-from c.args.s.now c.args.p)),
+  omega arith,
+  omega (arith, c.index_of.ensures.within, ap length (part-from c.args.s.now c.args.p), length-drop c.args.p c.args.s.now),
+)
+
+pub overflow_add-result : goal.overflow_add-result
+overflow_add-result c =
+    omega (arith, c.index_of.ensures.within, ap length (part-from c.args.s.now c.args.p), length-drop c.args.p c.args.s.now)

@@ -1,18 +1,21 @@
 -- `text::kernel::negative_whole` meets its contract.
-use native.Mathlib.Omega.{arith}
-use Rattle.text.proofs.FieldLaws.{negative-zero, negative-in, negative-out, negative-bad}
+use mathlib.Core.Path.{◌∙◌, sym}
+use mir.Syntax.{w64}
+use mir.Facts.{to_z-of_z}
+use lib.IntN.{negsuc, ◌-ℤ◌}
+use borrow.Author.Rules.{rules}
+use Rattle.text.proofs.FieldLaws.{converted, negative-zero, negative-in, negative-out}
 use Rattle.text.proofs.kernel.negative_whole.Goals as goal
 
 pub returns-then-n-eq0 : goal.returns-then-n-eq0
-returns-then-n-eq0 c = negative-zero c.args.m c.in-Is.n c.in-Is.is c.if-n-eq0.true
+returns-then-n-eq0 c = negative-zero c.args.n c.if-n-eq0.true
 
-pub returns-then-n-lt9223372036854775808 : goal.returns-then-n-lt9223372036854775808
-returns-then-n-lt9223372036854775808 c =
-    negative-in c.args.m c.in-Is.n c.in-Is.is c.if-n-eq0.false (omega arith)
+pub returns-in_err-below : goal.returns-in_err-below
+returns-in_err-below c =
+    c.from_residual.ensures
+    ∙ negative-out c.args.n c.if-n-eq0.false (sym (converted c.try_from.result _ c.try_from.ensures) ∙ sym c.ok.ensures.value ∙ c.in_err-below.was)
 
-pub returns-else-n-lt9223372036854775808 : goal.returns-else-n-lt9223372036854775808
-returns-else-n-lt9223372036854775808 c =
-    negative-out c.args.m c.in-Is.n c.in-Is.is (omega arith)
-
-pub returns-in-Bad : goal.returns-in-Bad
-returns-in-Bad c = negative-bad c.args.m c.in-Bad.is
+pub returns : goal.returns
+returns c =
+    let known : _ = negative-in c.args.n c.if-n-eq0.false c.in_ok-below.below (sym (converted c.try_from.result _ c.try_from.ensures) ∙ sym c.ok.ensures.value ∙ c.in_ok-below.was) in
+    rw (to_z-of_z {w = w64} {z = c.in_ok-below.below} (search rules), to_z-of_z {w = w64} {z = negsuc 0 -ℤ c.in_ok-below.below} known.0) known.1

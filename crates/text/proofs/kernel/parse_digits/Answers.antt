@@ -6,16 +6,16 @@ use Rattle.text.proofs.kernel.parse_digits.Goals as goal
 
 pub returns-then-base-d : goal.returns-then-base-d
 returns-then-base-d c =
-    sym (sym c.loop-i.invariant.2 ∙ value-bad c.args.base c.args.limit c.args.s.now c.loop-i.i c.loop-i.n c.digit_of-d.result (omega arith) c.digit_of-d.ensures.value (omega arith))
+    sym (sym c.loop-b.invariant.1 ∙ value-bad c.args.base c.args.limit c.args.s.now c.loop-b.b-index c.loop-b.n c.digit_of-d.result (omega arith) c.digit_of-d.ensures.value (omega arith))
 
 pub returns-then-most-n : goal.returns-then-most-n
 returns-then-most-n c =
-    sym (sym c.loop-i.invariant.2 ∙ value-over c.args.base c.args.limit c.args.s.now c.loop-i.i c.loop-i.n c.digit_of-d.result (omega arith) c.digit_of-d.ensures.value (omega arith) (omega arith) (omega arith))
+    sym (sym c.loop-b.invariant.1 ∙ value-over c.args.base c.args.limit c.args.s.now c.loop-b.b-index c.loop-b.n c.digit_of-d.result (omega arith) c.digit_of-d.ensures.value (omega arith) (omega arith) (omega arith))
 
-pub loop-i-preserved : goal.loop-i-preserved
-loop-i-preserved c =
-    (omega arith, within c.args.base c.args.limit c.loop-i.n c.digit_of-d.result (omega arith) (omega arith) (omega arith), sym (value-step c.args.base c.args.limit c.args.s.now c.loop-i.i c.loop-i.n c.digit_of-d.result (omega arith) c.digit_of-d.ensures.value (omega arith)) ∙ c.loop-i.invariant.2)
+pub loop-b-preserved : goal.loop-b-preserved
+loop-b-preserved c =
+    (within c.args.base c.args.limit c.loop-b.n c.digit_of-d.result (omega arith) (omega arith) (omega arith), sym (value-step c.args.base c.args.limit c.args.s.now c.loop-b.b-index c.loop-b.n c.digit_of-d.result (omega arith) c.digit_of-d.ensures.value (omega arith)) ∙ c.loop-b.invariant.1)
 
 pub returns : goal.returns
 returns c =
-    value-end c.args.base c.args.limit c.args.s.now c.loop-i.i c.loop-i.n (omega arith) (omega arith) ∙ c.loop-i.invariant.2
+    value-end c.args.base c.args.limit c.args.s.now c.loop-b.b-index c.loop-b.n (omega arith) (omega arith) ∙ c.loop-b.invariant.1

@@ -4,4 +4,4 @@ use Rattle.triplet_addresses.proofs.copies.fill_copies.Goals as goal
 
 pub returns : goal.returns
 returns c =
-    copies-are c.args.table.now c.args.out.now c.args.negated c.fill_copy.new.out c.fill_copy-2.new.out c.requires.1 c.fill_copy.ensures c.fill_copy-2.ensures
+    rw c.copy_from_slice.ensures.after (copies-are c.args.table.now c.args.out.now c.args.negated c.fill_copy.new.out c.requires.1 c.fill_copy.ensures)

@@ -1,6 +1,6 @@
 -- `triplet_addresses::copies::fill_copy` meets its contract.
-use lib.ListN.{length, length-set}
-use mathlib.Core.Path.{◌∙◌, refl}
+use lib.ListN.{length}
+use mathlib.Core.Path.{◌∙◌}
 use native.Mathlib.Omega.{arith}
 use Rattle.list_laws.proofs.FillLaws.{fill_end, fill-next, fill_none}
 use Rattle.list_laws.proofs.SignedLaws.{back}
@@ -11,12 +11,12 @@ use Rattle.triplet_addresses.proofs.copies.fill_copy.Goals as goal
 
 pub loop-k-init : goal.loop-k-init
 loop-k-init c =
-    (omega arith, refl, fill_none (λ k. step_of c.args.negated (at c.args.table.now k)) c.args.out.now)
+    fill_none (λ k. step_of c.args.negated (at c.args.table.now k)) c.args.out.now
 
 pub loop-k-preserved : goal.loop-k-preserved
 loop-k-preserved c =
-    (simp length-set (omega arith), simp length-set c.loop-k.invariant.1, fill-next _ c.loop-k.out c.loop-k.k _ (omega arith) c.loop-k.invariant.2 (back c.step_at-v.result c.step_at-v.type_inv ∙ c.step_at-v.ensures))
+    fill-next _ c.loop-k.out c.loop-k.k _ (omega (arith, c.requires.1)) c.loop-k.invariant (back c.step_at.result c.step_at.type_inv ∙ c.step_at.ensures)
 
 pub returns : goal.returns
 returns c =
-    fill_end (λ k. step_of c.args.negated (at c.args.table.now k)) c.loop-k.out c.loop-k.k (length c.args.table.now) c.loop-k.invariant.2 (omega arith) (omega (arith, c.requires.1)) ∙ copy-tabulated c.args.negated c.args.table.now
+    fill_end (λ k. step_of c.args.negated (at c.args.table.now k)) c.loop-k.out c.loop-k.k (length c.args.table.now) c.loop-k.invariant (omega arith) (omega (arith, c.requires.1)) ∙ copy-tabulated c.args.negated c.args.table.now

@@ -1,22 +1,34 @@
 -- `degenerate_sets::kernel::sets::set_end` meets its contract: what is left to look for starts at e.
-use mathlib.Core.Path.{sym, ◌∙◌}
+use borrow.Author.Rules.{rules}
+use mathlib.Core.Path.{◌≡◌, sym, ap, ◌∙◌}
+use lib.IntN.{ℤ}
+use lib.ListN.{length}
 use native.Mathlib.Omega.{arith}
+use Rattle.list_laws.specs.Lists.{at}
+use Rattle.list_laws.specs.Signed.{is_nat}
+use Rattle.list_laws.proofs.SignedLaws.{back}
 use Rattle.degenerate_sets.specs.Sets.{starts_at}
 use Rattle.degenerate_sets.proofs.SetLaws.{next-hit, next-step, next-end, end-first}
+use Rattle.degenerate_sets.proofs.kernel.sets.set_end.Goals.{After-is_nat}
 use Rattle.degenerate_sets.proofs.kernel.sets.set_end.Goals as goal
 
 pub loop-e-init : goal.loop-e-init
-loop-e-init c = (omega arith, end-first _ _ _)
+loop-e-init c = end-first _ _ _
 
-pub returns-then-nat_at : goal.returns-then-nat_at
+-- the test tells whether e starts a set
+told : (c : After-is_nat) → starts_at c.args.ids.now c.loop-e.e ≡ c.is_nat.result
 unfolding starts_at
-returns-then-nat_at c =
-    sym (c.loop-e.invariant.1 ∙ next-hit _ _ c.loop-e.e (sym c.nat_at.ensures ∙ c.if-nat_at.true))
+told c = sym (c.is_nat.ensures ∙ ap (λ (z : ℤ). is_nat z c.loop-e.e) (back (at c.args.ids.now c.loop-e.e) (search rules)))
+
+pub returns-then-is_nat : goal.returns-then-is_nat
+returns-then-is_nat c =
+    sym (c.loop-e.invariant ∙ next-hit _ _ c.loop-e.e (told (goal.at.returns-then-is_nat c).After-is_nat ∙ c.if-is_nat.true))
 
 pub loop-e-preserved : goal.loop-e-preserved
-unfolding starts_at
 loop-e-preserved c =
-    (omega arith, c.loop-e.invariant.1 ∙ next-step _ _ c.loop-e.e (omega arith) (sym c.nat_at.ensures ∙ c.if-nat_at.false))
+    c.loop-e.invariant ∙ next-step _ _ c.loop-e.e (omega arith) (told (goal.at.loop-e-preserved c).After-is_nat ∙ c.if-is_nat.false)
 
 pub returns : goal.returns
-returns c = sym (c.loop-e.invariant.1 ∙ next-end _ _ _ (omega arith))
+returns c =
+    let all : length c.args.ids.now ≡ c.loop-e.e = omega arith in
+    all ∙ sym (c.loop-e.invariant ∙ next-end _ _ c.loop-e.e (omega arith))

@@ -1,5 +1,4 @@
 -- `listing_read::kernel::restore::restore` meets its contract: before each turn the flags and weights of the entries before are restored.
-use Prim.Native.Nat.{◌-◌, ◌≤◌}
 use lib.Ieee.{nan}
 use lib.IntN.{pos}
 use lib.ListN.{length, take}
@@ -13,9 +12,6 @@ use Rattle.listing_read.proofs.kernel.restore.restore.Given as goal
 
 abbrev pub invariant-loop-e : goal.invariant-loop-e
 invariant-loop-e l =
-    (l.e ≤ length l.initial.flags) × (l.at ≡ line_start l.points l.bands1 l.bands2 l.channels l.e) × (l.place ≡ place_of l.points l.bands1 l.bands2 l.e) × (length l.flags ≡ length l.initial.flags)
-    × (take l.e l.flags ≡ tabulate l.e (λ k. pos (flag_here l.text (flag_place l.points l.bands1 l.bands2 l.channels k))))
-    × Replaced nan (length l.initial.flags) (BeforeColumn l.channels l.e) (λ c k. weight_here l.text (weight_place l.points l.bands1 l.bands2 l.channels c k)) l.initial.weights l.weights
-
-abbrev pub decreases-loop-e : goal.decreases-loop-e
-decreases-loop-e l = length l.initial.flags - l.e
+    (l.at ≡ line_start l.form.points l.form.bands1 l.form.bands2 l.form.channels l.e) × (l.place ≡ place_of l.form.points l.form.bands1 l.form.bands2 l.e) × (length l.flags ≡ length l.initial.flags)
+    × (take l.e l.flags ≡ tabulate l.e (λ k. pos (flag_here l.text (flag_place l.form.points l.form.bands1 l.form.bands2 l.form.channels k))))
+    × Replaced nan (length l.initial.flags) (BeforeColumn l.form.channels l.e) (λ c k. weight_here l.text (weight_place l.form.points l.form.bands1 l.form.bands2 l.form.channels c k)) l.initial.weights l.weights

@@ -6,14 +6,14 @@ use native.Mathlib.Omega.{arith}
 use Rattle.list_laws.proofs.ColumnLaws.{column-next}
 use Rattle.list_laws.proofs.ProductLaws.{digit_lt}
 use Rattle.listing_line.specs.Lines.{weight_here}
-use Rattle.listing_read.proofs.kernel.restore.restore_weights.Goals.{After-weight_at-w}
+use Rattle.listing_read.proofs.kernel.restore.restore_weights.Goals.{After-weight_at}
 use Rattle.listing_read.proofs.kernel.restore.restore_weights.Goals as goal
 
 -- the place of the channel's weight is one of the buffer
-room : (c : After-weight_at-w) → c.loop-c.c * c.args.cells + c.args.e < length c.loop-c.weights
+room : (c : After-weight_at) → c.loop-c.c * c.args.cells + c.args.e < length c.loop-c.weights
 room c =
-    omega (arith, c.loop-c.invariant.1.same_length, c.requires.1, digit_lt c.loop-c.c c.args.channels c.args.e c.args.cells (omega arith) c.requires.0)
+    omega (arith, c.loop-c.invariant.same_length, c.requires.1, digit_lt c.loop-c.c c.args.channels c.args.e c.args.cells (omega arith) c.requires.0)
 
 pub loop-c-preserved : goal.loop-c-preserved
 loop-c-preserved c =
-    (omega arith, column-next nan c.args.cells c.args.e (λ r k. weight_here c.args.text.now (c.args.at + 17 * r)) c.args.weights.now c.loop-c.c c.loop-c.weights _ c.requires.0 (room (goal.at.loop-c-preserved c).After-weight_at-w) c.weight_at-w.ensures c.loop-c.invariant.1)
+    column-next nan c.args.cells c.args.e (λ r k. weight_here c.args.text.now (c.args.at + 17 * r)) c.args.weights.now c.loop-c.c c.loop-c.weights _ c.requires.0 (room (goal.at.loop-c-preserved c).After-weight_at) c.weight_at.ensures c.loop-c.invariant

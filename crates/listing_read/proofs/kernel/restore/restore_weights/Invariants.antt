@@ -1,5 +1,5 @@
 -- `listing_read::kernel::restore::restore_weights` meets its contract.
-use Prim.Native.Nat.{◌+◌, ◌-◌, ◌*◌, ◌≤◌}
+use Prim.Native.Nat.{◌+◌, ◌*◌}
 use lib.Ieee.{nan}
 use Rattle.list_laws.specs.Columns.{InColumn}
 use Rattle.list_laws.specs.Matrix.{Replaced}
@@ -8,7 +8,4 @@ use Rattle.listing_read.proofs.kernel.restore.restore_weights.Given as goal
 
 abbrev pub invariant-loop-c : goal.invariant-loop-c
 invariant-loop-c l =
-    (l.c ≤ l.channels) × Replaced nan l.cells (InColumn l.c l.e) (λ c k. weight_here l.text (l.at + 17 * c)) l.initial.weights l.weights
-
-abbrev pub decreases-loop-c : goal.decreases-loop-c
-decreases-loop-c l = l.channels - l.c
+    Replaced nan l.cells (InColumn l.c l.e) (λ c k. weight_here l.text (l.at + 17 * c)) l.initial.weights l.weights

@@ -1,18 +1,17 @@
 -- `question_grids::kernel::steps::grid_points_ok` meets its contract.
-use native.Mathlib.Omega.{arith}
-use Rattle.list_laws.proofs.BelowLaws.{below_end, below_next, below_none}
+use borrow.Author.Tests.{tests}
+use lib.IntN.{pos}
+use mathlib.Core.Path.{◌∙◌}
+use Rattle.std.proofs.Common.{rules}
+use Rattle.std.proofs.lemmas.Iterator.{YieldsList-from_slice}
+use Rattle.std.proofs.lemmas.Iterator.Search.{all_from_yields_List}
+use Rattle.list_laws.proofs.ChainLaws.{all-list}
+use Rattle.list_laws.specs.Signed.{is_below}
 use Rattle.question_grids.specs.Steps.{are_grid_points}
 use Rattle.question_grids.proofs.kernel.steps.grid_points_ok.Goals as goal
-
-pub loop-i-init : goal.loop-i-init
-loop-i-init c =
-    (omega arith, below_none _)
-
-pub loop-i-preserved : goal.loop-i-preserved
-loop-i-preserved c =
-    (omega arith, below_next c.loop-i.i _ c.loop-i.invariant.1 c.below_at-ok.ensures)
 
 pub returns : goal.returns
 unfolding are_grid_points
 returns c =
-    below_end _ c.loop-i.invariant.1 (omega arith)
+    all_from_yields_List (λ v. is_below v c.args.p) _ _ _ c.all.ensures.ran (YieldsList-from_slice c.args.grid_points.now cc) (λ x b q k. search (rules, tests))
+    ∙ all-list (λ v. is_below v c.args.p) (pos 0) c.args.grid_points.now

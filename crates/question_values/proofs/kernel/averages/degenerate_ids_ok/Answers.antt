@@ -1,22 +1,22 @@
--- `question_values::kernel::averages::degenerate_ids_ok` meets its contract: at each turn `ok` speaks of the first k ids.
+-- `question_values::kernel::averages::degenerate_ids_ok` meets its contract.
+use borrow.Author.Tests.{tests, eq-eqb, ne_eqb}
+use mathlib.Core.Path.{◌∙◌, refl}
 use native.Mathlib.Omega.{arith}
-use lib.ListN.{length}
-use borrow.Author.Tests.{ne_eqb, eq-eqb}
-use Rattle.list_laws.proofs.BelowLaws.{below_end, below_next, below_none}
-use Rattle.question_values.specs.Averages.{are_degenerate_ids}
+use Rattle.std.proofs.Common.{rules}
+use Rattle.std.proofs.lemmas.Iterator.{YieldsList-from_range}
+use Rattle.std.proofs.lemmas.Iterator.Search.{all_from_yields_List}
+use Rattle.list_laws.proofs.ChainLaws.{all-upto}
+use Rattle.question_values.specs.Averages.{is_degenerate_id, are_degenerate_ids}
 use Rattle.question_values.proofs.kernel.averages.degenerate_ids_ok.Goals as goal
 
 pub returns-then-ids-bands : goal.returns-then-ids-bands
 unfolding are_degenerate_ids
-returns-then-ids-bands c = rw (ne_eqb _ _ c.if-ids-bands.true)
+returns-then-ids-bands c =
+    rw (eq-eqb _ _ c.if-ids-bands.true)
+    (all_from_yields_List (is_degenerate_id c.args.ids.now) _ _ _ c.all.ensures.ran (YieldsList-from_range 0 c.args.bands c.args.bands refl (omega arith)) (λ x b q k. search (rules, tests))
+    ∙ all-upto (is_degenerate_id c.args.ids.now) c.args.bands)
 
-pub loop-k-init : goal.loop-k-init
-loop-k-init c = (omega arith, below_none _)
-
-pub loop-k-preserved : goal.loop-k-preserved
-loop-k-preserved c = (omega arith, below_next c.loop-k.k _ c.loop-k.invariant.1 c.id_ok-ok.ensures)
-
-pub returns : goal.returns
+pub returns-else-ids-bands : goal.returns-else-ids-bands
 unfolding are_degenerate_ids
-returns c =
-    rw (eq-eqb (length c.args.ids.now) c.args.bands (omega arith)) (below_end _ c.loop-k.invariant.1 (omega arith))
+returns-else-ids-bands c =
+    rw (ne_eqb _ _ c.if-ids-bands.false)

@@ -1,16 +1,16 @@
--- `question_values::kernel::averages::weights_ok` meets its contract: at each turn `ok` speaks of the first k weights.
-use native.Mathlib.Omega.{arith}
-use Rattle.list_laws.proofs.BelowLaws.{below_end, below_next, below_none}
-use Rattle.question_values.specs.Averages.{are_weights}
+-- `question_values::kernel::averages::weights_ok` meets its contract.
+use borrow.Author.Tests.{tests}
+use lib.Ieee.{nan}
+use mathlib.Core.Path.{◌∙◌}
+use Rattle.std.proofs.Common.{rules}
+use Rattle.std.proofs.lemmas.Iterator.{YieldsList-from_slice}
+use Rattle.std.proofs.lemmas.Iterator.Search.{all_from_yields_List}
+use Rattle.list_laws.proofs.ChainLaws.{all-list}
+use Rattle.question_values.specs.Averages.{is_weight, are_weights}
 use Rattle.question_values.proofs.kernel.averages.weights_ok.Goals as goal
-
-pub loop-k-init : goal.loop-k-init
-loop-k-init c = (omega arith, below_none _)
-
-pub loop-k-preserved : goal.loop-k-preserved
-loop-k-preserved c =
-    (omega arith, below_next c.loop-k.k _ c.loop-k.invariant.1 c.weight_ok-ok.ensures)
 
 pub returns : goal.returns
 unfolding are_weights
-returns c = below_end _ c.loop-k.invariant.1 (omega arith)
+returns c =
+    all_from_yields_List is_weight _ _ _ c.all.ensures.ran (YieldsList-from_slice c.args.w.now cc) (λ x b q k. search (rules, tests))
+    ∙ all-list is_weight nan c.args.w.now

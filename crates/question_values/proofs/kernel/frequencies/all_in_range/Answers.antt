@@ -1,18 +1,16 @@
 -- `question_values::kernel::frequencies::all_in_range` meets its contract.
-use native.Mathlib.Omega.{arith}
-use Rattle.list_laws.proofs.BelowLaws.{below_end, below_next, below_none}
-use Rattle.question_values.specs.Frequencies.{are_in_range}
+use borrow.Author.Tests.{tests}
+use lib.Ieee.{nan}
+use mathlib.Core.Path.{◌∙◌}
+use Rattle.std.proofs.Common.{rules}
+use Rattle.std.proofs.lemmas.Iterator.{YieldsList-from_slice}
+use Rattle.std.proofs.lemmas.Iterator.Search.{all_from_yields_List}
+use Rattle.list_laws.proofs.ChainLaws.{all-list}
+use Rattle.question_values.specs.Frequencies.{in_range, are_in_range}
 use Rattle.question_values.proofs.kernel.frequencies.all_in_range.Goals as goal
-
-pub loop-i-init : goal.loop-i-init
-loop-i-init c =
-    (omega arith, below_none _)
-
-pub loop-i-preserved : goal.loop-i-preserved
-loop-i-preserved c =
-    (omega arith, below_next c.loop-i.i _ c.loop-i.invariant.1 c.in_range_at-ok.ensures)
 
 pub returns : goal.returns
 unfolding are_in_range
 returns c =
-    below_end _ c.loop-i.invariant.1 (omega arith)
+    all_from_yields_List (in_range c.args.low c.args.high) _ _ _ c.all.ensures.ran (YieldsList-from_slice c.args.xs.now cc) (λ x b q k. search (rules, tests))
+    ∙ all-list (in_range c.args.low c.args.high) nan c.args.xs.now

@@ -10,13 +10,13 @@ use Rattle.replay_input.proofs.kernel.stamps.is_marked.Goals as goal
 
 pub loop-i-init : goal.loop-i-init
 loop-i-init c =
-    (omega arith, below_none _)
+    below_none _
 
 pub loop-i-preserved : goal.loop-i-preserved
 loop-i-preserved c =
-    (omega arith, below_next c.loop-i.i _ c.loop-i.invariant.1 (c.same_bits-ok.ensures ∙ ap (λ (x : Float). eqb (to_bits binary64 (get_or c.args.out.now c.loop-i.i nan)) (to_bits binary64 x)) c.mark_at.ensures))
+    below_next c.loop-i.i _ c.loop-i.invariant (c.same_bits-ok.ensures ∙ ap (λ (x : Float). eqb (to_bits binary64 (get_or c.args.out.now c.loop-i.i nan)) (to_bits binary64 x)) c.mark_at.ensures)
 
 pub returns : goal.returns
 unfolding is_marked
 returns c =
-    below_end _ c.loop-i.invariant.1 (omega arith)
+    below_end _ c.loop-i.invariant (omega arith)

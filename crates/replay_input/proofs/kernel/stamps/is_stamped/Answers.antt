@@ -12,13 +12,13 @@ use Rattle.replay_input.proofs.kernel.stamps.is_stamped.Goals as goal
 
 pub loop-i-init : goal.loop-i-init
 loop-i-init c =
-    (omega arith, below_none _)
+    below_none _
 
 pub loop-i-preserved : goal.loop-i-preserved
 loop-i-preserved c =
-    (omega arith, below_next c.loop-i.i _ c.loop-i.invariant.1 (c.equal_at-ok.ensures ∙ ap (eq_z (at c.args.out.now c.loop-i.i)) (to_z-of_z {w = w64} {z = c.stamp_at-z.result} (search rules) ∙ c.stamp_at-z.ensures)))
+    below_next c.loop-i.i _ c.loop-i.invariant (c.equal_at-ok.ensures ∙ ap (eq_z (at c.args.out.now c.loop-i.i)) (to_z-of_z {w = w64} {z = c.stamp_at.result} (search rules) ∙ c.stamp_at.ensures))
 
 pub returns : goal.returns
 unfolding is_stamped
 returns c =
-    below_end _ c.loop-i.invariant.1 (omega arith)
+    below_end _ c.loop-i.invariant (omega arith)

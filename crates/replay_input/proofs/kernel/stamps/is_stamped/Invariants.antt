@@ -1,6 +1,4 @@
 -- `replay_input::kernel::stamps::is_stamped` meets its contract: at each turn `ok` speaks of the first i places.
-use Prim.Native.Nat.{◌-◌, ◌≤◌}
-use lib.ListN.{length}
 use mathlib.Core.Path.{◌≡◌}
 use Rattle.list_laws.specs.Lists.{all_below, at}
 use Rattle.list_laws.specs.Signed.{eq_z}
@@ -9,8 +7,4 @@ use Rattle.replay_input.proofs.kernel.stamps.is_stamped.Given as goal
 
 abbrev pub invariant-loop-i : goal.invariant-loop-i
 invariant-loop-i l =
-    (l.i ≤ length l.out) × (l.ok ≡ all_below l.i (λ k. eq_z (at l.out k) (stamp_at k)))
-
-abbrev pub decreases-loop-i : goal.decreases-loop-i
-decreases-loop-i l =
-    length l.out - l.i
+    (l.ok ≡ all_below l.i (λ k. eq_z (at l.out k) (stamp_at k)))

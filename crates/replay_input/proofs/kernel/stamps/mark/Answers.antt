@@ -11,12 +11,12 @@ use Rattle.replay_input.proofs.kernel.stamps.mark.Goals as goal
 
 pub loop-i-init : goal.loop-i-init
 loop-i-init c =
-    (refl, omega arith, front-none _ _)
+    (refl, front-none _ _)
 
 pub loop-i-preserved : goal.loop-i-preserved
 loop-i-preserved c =
-    (simp length-set (omega arith), omega arith, list-next c.args.out.now mark_at c.loop-i.i (omega arith) c.loop-i.invariant.2 c.mark_at-value.ensures)
+    (simp length-set (omega arith), list-next c.args.out.now mark_at c.loop-i.i (omega arith) c.loop-i.invariant.1 c.mark_at.ensures)
 
 pub returns : goal.returns
 returns c =
-    c.loop-i.invariant.2 ∙ front-all mark_at c.args.out.now c.loop-i.i (omega arith) ∙ ap (λ (n : ℕ). tabulate n mark_at) (omega arith)
+    c.loop-i.invariant.1 ∙ front-all mark_at c.args.out.now c.loop-i.i (omega arith) ∙ ap (λ (n : ℕ). tabulate n mark_at) (omega arith)

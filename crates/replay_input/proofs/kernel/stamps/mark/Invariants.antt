@@ -1,5 +1,4 @@
 -- `replay_input::kernel::stamps::mark` meets its contract: at each turn the front of the buffer holds the marks.
-use Prim.Native.Nat.{◌-◌, ◌≤◌}
 use lib.ListN.{length}
 use mathlib.Core.Path.{◌≡◌}
 use Rattle.list_laws.specs.Lists.{fronted}
@@ -8,8 +7,4 @@ use Rattle.replay_input.proofs.kernel.stamps.mark.Given as goal
 
 abbrev pub invariant-loop-i : goal.invariant-loop-i
 invariant-loop-i l =
-    (length l.out ≡ length l.initial.out) × (l.i ≤ length l.initial.out) × (l.out ≡ fronted l.i mark_at l.initial.out)
-
-abbrev pub decreases-loop-i : goal.decreases-loop-i
-decreases-loop-i l =
-    length l.out - l.i
+    (length l.out ≡ length l.initial.out) × (l.out ≡ fronted l.i mark_at l.initial.out)

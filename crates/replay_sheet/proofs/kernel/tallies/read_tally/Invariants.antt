@@ -10,6 +10,3 @@ use Rattle.replay_sheet.proofs.kernel.tallies.read_tally.Given as goal
 abbrev pub invariant-loop-i : goal.invariant-loop-i
 invariant-loop-i l =
     (l.i ≤ 16) × (l.counts ≡ fronted l.i (bits_from l.text l.initial.next.at) (replicate 16 0)) × (l.next.at ≡ field_place (after_bits l.text) l.initial.next.at l.i)
-
-abbrev pub decreases-loop-i : goal.decreases-loop-i
-decreases-loop-i l = 16 - l.i

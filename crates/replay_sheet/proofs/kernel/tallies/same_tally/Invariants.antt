@@ -11,6 +11,3 @@ use Rattle.replay_sheet.proofs.kernel.tallies.same_tally.Given as goal
 abbrev pub invariant-loop-i : goal.invariant-loop-i
 invariant-loop-i l =
     (l.i ≤ 16) × (l.agrees ≡ all_below l.i (λ k. eqb (get_or l.counts k 0) (bits_from l.text l.initial.next.at k))) × (l.next.at ≡ field_place (after_bits l.text) l.initial.next.at l.i)
-
-abbrev pub decreases-loop-i : goal.decreases-loop-i
-decreases-loop-i l = 16 - l.i

@@ -14,46 +14,39 @@ use Rattle.sheet_fill.proofs.OpenLaws.{open_none, open_more, shut_one, closed_no
 use Rattle.sheet_fill.specs.Piece.{is_open_piece}
 use Rattle.sheet_step.specs.Steps.{pieces_of}
 use Rattle.triplet_piece.proofs.WeightLaws.{computed-join, computed-lengths, computed-none}
-use Rattle.triplet_study.specs.Study.{Study, study}
+use Rattle.sheet_fill.specs.Kept.{study_in}
 use Rattle.sheet_fill.proofs.kernel.carry.fill_open.Goals.{Start}
 use Rattle.sheet_fill.proofs.kernel.carry.fill_open.Goals as goal
-
--- the study that the arguments make
-abbrev studied : Start → Study
-studied s =
-    study s.args.z.shape s.args.addresses.now s.args.gp_map.now s.args.steps.now s.args.frequencies1.now s.args.frequencies2.now s.args.points.now s.args.triplets.now
 
 -- the marks of a turn are as many as at the start
 marks-long : (s : Start) (q : ℕ) (m : List ℕ) → m ≡ carried_marks q s.args.marks.now → length m ≡ length s.args.marks.now
 marks-long s q m e = ap length e ∙ length-carried q s.args.marks.now
 
 -- the marks of a turn are enough
-marks-hold : (s : Start) (q : ℕ) (m : List ℕ) → m ≡ carried_marks q s.args.marks.now → Holds (pieces_of s.args.z) m
-marks-hold s q m e = holds_same (pieces_of s.args.z) s.args.marks.now m (marks-long s q m e) s.requires.second_value.1
+marks-hold : (s : Start) (q : ℕ) (m : List ℕ) → m ≡ carried_marks q s.args.marks.now → Holds (pieces_of s.args.prepared.now.tested.sizes) m
+marks-hold s q m e = holds_same (pieces_of s.args.prepared.now.tested.sizes) s.args.marks.now m (marks-long s q m e) s.requires.held
 
 pub loop-q-init : goal.loop-q-init
 loop-q-init c =
-    (zero-le, closed_none c.args.marks.now, computed-none (studied (goal.at.loop-q-init c).Start) _ (open_none c.args.marks.now) c.args.weights.now c.args.flags.now, c.requires.kept)
+    (closed_none c.args.marks.now, computed-none (study_in c.args.prepared.now) _ (open_none c.args.marks.now) c.args.weights.now c.args.flags.now, c.requires.kept)
 
 pub loop-q-preserved-then-mark_at-ne-OPEN : goal.loop-q-preserved-then-mark_at-ne-OPEN
 unfolding is_open_mark
 loop-q-preserved-then-mark_at-ne-OPEN c =
     let o : is_open_mark c.loop-q.marks c.loop-q.q ≡ false = ne_eqb _ 0 (λ e. c.if-mark_at-ne-OPEN.true (c.mark_at.ensures ∙ e)) in (
-      omega (arith, c.loop-q-test.true),
-      kept-one c.loop-q.marks c.loop-q.q o ∙ closed-more c.args.marks.now c.loop-q.marks c.loop-q.q c.loop-q.invariant.1,
-      computed-join (studied (goal.at.loop-q-preserved-then-mark_at-ne-OPEN c).Start) (is_open_at c.loop-q.q c.args.marks.now) (is_open_piece c.loop-q.marks c.loop-q.q) (is_open_at (c.loop-q.q + 1) c.args.marks.now) (open_more c.args.marks.now c.loop-q.marks c.loop-q.q c.loop-q.invariant.1) c.loop-q.invariant.2 (computed-none (studied (goal.at.loop-q-preserved-then-mark_at-ne-OPEN c).Start) _ (shut_one c.loop-q.marks c.loop-q.q o) c.loop-q.weights c.loop-q.flags),
-      c.loop-q.invariant.3,
+      kept-one c.loop-q.marks c.loop-q.q o ∙ closed-more c.args.marks.now c.loop-q.marks c.loop-q.q c.loop-q.invariant.0,
+      computed-join (study_in c.args.prepared.now) (is_open_at c.loop-q.q c.args.marks.now) (is_open_piece c.loop-q.marks c.loop-q.q) (is_open_at (c.loop-q.q + 1) c.args.marks.now) (open_more c.args.marks.now c.loop-q.marks c.loop-q.q c.loop-q.invariant.0) c.loop-q.invariant.1 (computed-none (study_in c.args.prepared.now) _ (shut_one c.loop-q.marks c.loop-q.q o) c.loop-q.weights c.loop-q.flags),
+      c.loop-q.invariant.2,
     )
 
-pub fill_piece-last-requires-clause-second_value : goal.fill_piece-last-requires-clause-second_value
+pub fill_piece-requires-clause-on_sheet : goal.fill_piece-requires-clause-on_sheet
 unfolding is_open_mark
-fill_piece-last-requires-clause-second_value c = let long = computed-lengths c.loop-q.invariant.2 in
-    let o : is_open_mark c.loop-q.marks c.loop-q.q ≡ true = eq-eqb _ 0 (sym c.mark_at.ensures ∙ c.if-mark_at-ne-OPEN.false) in (c.requires.second_value.0, (omega (arith, c.loop-q-test.true), (marks-hold (goal.at.fill_piece-last-requires-clause-second_value c).Start c.loop-q.q c.loop-q.marks c.loop-q.invariant.1, o)))
+fill_piece-requires-clause-on_sheet c =
+    let o : is_open_mark c.loop-q.marks c.loop-q.q ≡ true = eq-eqb _ 0 (sym c.mark_at.ensures ∙ c.if-mark_at-ne-OPEN.false) in (omega (arith, c.loop-q-test.true), (marks-hold (goal.at.fill_piece-requires-clause-on_sheet c).Start c.loop-q.q c.loop-q.marks c.loop-q.invariant.0, o))
 
 pub loop-q-preserved : goal.loop-q-preserved
 loop-q-preserved c = (
-  omega (arith, c.loop-q-test.true),
-  c.fill_piece-last.ensures.marks_after ∙ closed-more c.args.marks.now c.loop-q.marks c.loop-q.q c.loop-q.invariant.1,
-  computed-join (studied (goal.at.loop-q-preserved c).Start) (is_open_at c.loop-q.q c.args.marks.now) (is_open_piece c.loop-q.marks c.loop-q.q) (is_open_at (c.loop-q.q + 1) c.args.marks.now) (open_more c.args.marks.now c.loop-q.marks c.loop-q.q c.loop-q.invariant.1) c.loop-q.invariant.2 c.fill_piece-last.ensures.computes,
-  c.fill_piece-last.ensures.kept_2,
+  c.fill_piece.ensures.marks_after ∙ closed-more c.args.marks.now c.loop-q.marks c.loop-q.q c.loop-q.invariant.0,
+  computed-join (study_in c.args.prepared.now) (is_open_at c.loop-q.q c.args.marks.now) (is_open_piece c.loop-q.marks c.loop-q.q) (is_open_at (c.loop-q.q + 1) c.args.marks.now) (open_more c.args.marks.now c.loop-q.marks c.loop-q.q c.loop-q.invariant.0) c.loop-q.invariant.1 c.fill_piece.ensures.computes,
+  c.fill_piece.ensures.keeps,
 )

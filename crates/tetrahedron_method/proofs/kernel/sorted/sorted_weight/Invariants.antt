@@ -1,11 +1,8 @@
 -- `tetrahedron_method::kernel::sorted::sorted_weight` meets its contract.
 use Rattle.tetrahedron_method.specs.Sorted.{sorted_sum}
-use Prim.Native.Nat.{◌-◌, ◌≤◌}
+use Prim.Native.Nat.{◌≤◌}
 use mathlib.Core.Path.{◌≡◌}
 use Rattle.tetrahedron_method.proofs.kernel.sorted.sorted_weight.Given as goal
 
 abbrev pub invariant-loop-k : goal.invariant-loop-k
 invariant-loop-k l = (l.k ≤ l.rows) × (l.sum ≡ sorted_sum l.function l.omega l.area l.places l.k)
-
-abbrev pub decreases-loop-k : goal.decreases-loop-k
-decreases-loop-k l = l.rows - l.k

@@ -1,2 +1,0 @@
-// For the crates above.
-pub mod flags;

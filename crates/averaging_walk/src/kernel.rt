@@ -1,0 +1,5 @@
+// For the crates above.
+pub mod block;
+mod flags;
+pub mod walk;
+mod weights;

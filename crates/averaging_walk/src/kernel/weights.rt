@@ -1,0 +1,50 @@
+// Weights: the mean of each block of more than one entry.
+ghost use Rattle.std.specs.Prelude.{◌≡◌, ◌+◌, ◌-◌, ◌*◌, ◌≤◌, length};
+ghost use Rattle.std.specs.Float.{nan};
+ghost use Rattle.ieee_laws.specs.Zeros.{plus_zero};
+ghost use Rattle.averaging_blocks.specs.Weights.{row_sum, averaged_in};
+ghost use Rattle.averaging_blocks.proofs.WeightLaws.{averaged-local};
+ghost use Rattle.averaging_walk.specs.Parts.{LiesIn, part_of, part_sum};
+
+use crate::kernel::block::{Averaged, Block};
+
+// The sum of n weights from `from` on, left to right.
+fn row_sum(m: &[f64], from: usize, n: usize) -> f64
+    requires { from + n ≤ length m.now }
+    ensures { result ≡ row_sum plus_zero m.now from n }
+{
+    let mut sum = 0.0;
+    for weight in &m[from..from + n] {
+        sum = sum + *weight;
+    }
+    sum
+}
+
+// The sum of the row sums of a block.
+fn block_sum(m: &[f64], n: usize, block: Block) -> f64
+    requires m_len { (length m.now ≡ n * n) × (n ≤ 64) }
+    requires block_in { LiesIn n block }
+    ensures { result ≡ part_sum n block m.now }
+{
+    let mut sum = 0.0;
+    for r in block.top..block.bottom {
+        sum = sum + row_sum(m, r * n + block.left, block.right - block.left);
+    }
+    sum
+}
+
+impl Averaged for f64 {
+    ghost past_end = { nan };
+
+    ghost rule = { averaged_in plus_zero };
+
+    ghost local = { averaged-local plus_zero };
+
+    fn block_value(m: &[f64], n: usize, block: Block) -> Option<f64> {
+        let count = (block.bottom - block.top) * (block.right - block.left);
+        if 1 < count {
+            return Some(block_sum(m, n, block) / (count as f64));
+        }
+        None
+    }
+}

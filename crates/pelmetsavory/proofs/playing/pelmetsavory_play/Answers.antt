@@ -1,0 +1,7 @@
+-- `pelmetsavory::playing::pelmetsavory_play` meets its contract.
+use Rattle.pelmetsavory.proofs.SheetLaws.{called-play}
+use Rattle.pelmetsavory.proofs.playing.pelmetsavory_play.Goals as goal
+
+pub returns : goal.returns
+returns c =
+    called-play _ _ _ _ _ _ _ _ c.play-done.result _ _ _ _ _ _ _ c.play-done.ensures c.new-said.ensures.tally _ c.new-said.ensures.number

@@ -1,0 +1,10 @@
+-- `pelmetsavory::sheets::pelmetsavory_carry_on` meets its contract.
+use mathlib.Core.Path.{refl}
+use mir.Syntax.{w64}
+use mir.ValLaws.{to_z-of_z}
+use Rattle.pelmetsavory.proofs.SheetLaws.{called}
+use Rattle.pelmetsavory.proofs.sheets.pelmetsavory_carry_on.Goals as goal
+
+pub returns : goal.returns
+returns c =
+    called _ _ _ _ (rw (to_z-of_z w64 c.args.worker c.ranges.worker) refl) c.carry_on-done.result _ _ _ _ _ c.carry_on-done.ensures c.new-said.ensures.tally _ c.new-said.ensures.number

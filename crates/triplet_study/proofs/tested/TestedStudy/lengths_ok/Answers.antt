@@ -1,0 +1,17 @@
+-- `triplet_study::tested::TestedStudy::lengths_ok` meets its contract.
+use native.Mathlib.Nat.{mul-le-mul}
+use native.Mathlib.Omega.{arith}
+use Rattle.std.proofs.Common.{rules}
+use Rattle.triplet_study.proofs.TestedLaws.{tested-counted}
+use Rattle.triplet_study.specs.Questions.{are_lengths}
+use Rattle.triplet_study.proofs.tested.TestedStudy.lengths_ok.Goals as goal
+
+pub overflow_mul-entries : goal.overflow_mul-entries
+overflow_mul-entries c =
+    let k : _ = tested-counted c.args.self.now in
+    let m : _ = mul-le-mul k.channels-few k.cells-few in
+    omega arith
+
+pub returns : goal.returns
+unfolding are_lengths
+returns c = search rules
