@@ -1,5 +1,5 @@
 // Questions 3 to 6: the grid kind, the mesh, the addresses and the map.
-ghost use Rattle.std.specs.Prelude.{◌≡◌, ◌+◌, ◌≤◌, ◌<◌, length};
+ghost use Rattle.std.specs.Prelude.{◌≡◌, ◌+◌, ◌<◌, length};
 ghost use Rattle.std.specs.Int.Signed.{lt_z};
 ghost use Rattle.list_laws.specs.Lists.{all_below, at};
 ghost use Rattle.list_laws.specs.Signed.{within};
@@ -47,13 +47,12 @@ pub fn triples_ok(xs: &[i64]) -> bool
     (xs.len() % 3 == 0) & all_small(xs)
 }
 
-// Question 5, of a mesh of `n` points.
+// Question 5, of a mesh of `n` points: p at most 8 n, said by a division, since 8 n could be too large.
 pub fn addresses_ok(n: usize, addresses: &[i64]) -> bool
-    requires { n ≤ 16777216 }
     ensures { result ≡ are_addresses n addresses.now }
 {
     let p = addresses.len() / 3;
-    triples_ok(addresses) & (n <= p) & (p <= 8 * n)
+    triples_ok(addresses) & (n <= p) & ((p + 7) / 8 <= n)
 }
 
 // A value of the map of kind 1, of `p` addresses: one of them, or `missing`.
@@ -76,11 +75,9 @@ fn all_places(p: usize, missing: usize, values: &[i64]) -> bool
 
 // Question 6, kind 1.
 fn sparse_map_ok(n: usize, p: usize, gp_map: &[i64]) -> bool
-    requires { n ≤ 16777216 }
     ensures { result ≡ is_sparse_map n p gp_map.now }
 {
-    let missing = 8 * n;
-    missing <= gp_map.len() && all_places(p, missing, &gp_map[..missing])
+    n <= gp_map.len() / 8 && all_places(p, 8 * n, &gp_map[..8 * n])
 }
 
 // The first n values are each below the next.
@@ -105,7 +102,6 @@ fn dense_map_ok(n: usize, p: usize, gp_map: &[i64]) -> bool
 
 // Question 6.
 pub fn map_ok(bz_grid_type: i64, n: usize, p: usize, gp_map: &[i64]) -> bool
-    requires { n ≤ 16777216 }
     ensures { result ≡ is_map bz_grid_type n p gp_map.now }
 {
     if kernel::is_nat(bz_grid_type, 1) {
