@@ -8,4 +8,4 @@ use Rattle.questions.proofs.kernel.irreducible.irreducible_ok.Goals as goal
 pub returns : goal.returns
 unfolding are_irreducible
 returns c =
-    let b : _ = to_z-of_z w64 c.args.num_ir c.ranges.num_ir in rw (c.length_ok.ensures, c.frequencies_ok.ensures, c.irreducible_map_ok.ensures, le_z-zero c.args.num_ir, rw b at c.magnitude-r.ensures)
+    cc (le_z-zero c.args.num_ir, to_z-of_z w64 c.args.num_ir c.ranges.num_ir)
