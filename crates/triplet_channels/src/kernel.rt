@@ -4,6 +4,7 @@ ghost use Rattle.triplet_values.specs.Values.{area_at, channel_values};
 ghost use Rattle.triplet_channels.specs.Ordered.{further_rows, ordered_channel_at, ordered_further_at, outputs_ordered, Prepared};
 
 use tetrahedron_method::WeightFunction;
+use tetrahedron_sort::Rows;
 use triplet_outputs::Outputs;
 use triplet_outputs::kernel::{combine_outputs, is_open};
 use triplet_types::TpType;
@@ -23,7 +24,7 @@ pub fn prepare_channel(
     let n = rows * 4;
     triplet_values::kernel::fill_channel(area, channel, &frequencies[0], &frequencies[1], n);
     let b = triplet_values::kernel::box_of(area, n);
-    tetrahedron_method::kernel::sorted::sort_rows(area, places, rows);
+    tetrahedron_method::kernel::sorted::sort_rows(area, places, Rows { count: rows });
     b
 }
 
@@ -44,7 +45,7 @@ fn channel_at(
             f0,
             s,
             places,
-            rows,
+            Rows { count: rows },
         ))
     } else {
         None
