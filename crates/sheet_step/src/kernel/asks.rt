@@ -55,19 +55,19 @@ fn piece_ok(tested: &TestedStudy, piece: NamedPiece) -> bool
 // Questions 14, 15, 21 and 20, of a run.
 pub fn ask_run(
     tested: &TestedStudy,
-    marks: &[u8],
+    sheet: &SheetMut,
     tally: Tally,
     worker: i64,
     piece: NamedPiece,
 ) -> Result<(), Refusal>
-    requires { Holds (pieces_of tested.now.sizes) marks.now }
-    ensures { result ≡ answer_of (first_no (piece_questions tested.now.sizes marks.now piece.triplet piece.b1 piece.b2 ++ tally_questions tally.runs worker 1)) tt }
+    requires { Holds (pieces_of tested.now.sizes) sheet.now.marks.now }
+    ensures { result ≡ answer_of (first_no (piece_questions tested.now.sizes sheet.now.marks.now piece.triplet piece.b1 piece.b2 ++ tally_questions tally.runs worker 1)) tt }
 {
     if !piece_ok(tested, piece) {
         return Err(Refusal::NotOnSheet);
     }
     let t = magnitude(piece.triplet);
-    if !mark::not_averaged(tested.sizes.pairs, marks, t) {
+    if !mark::not_averaged(tested.sizes.pairs, sheet.marks, t) {
         return Err(Refusal::AlreadyAveraged);
     }
     sheet_tally::kernel::ask_tally(tally, worker, 1)
