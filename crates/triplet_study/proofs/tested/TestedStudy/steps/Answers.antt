@@ -1,0 +1,6 @@
+-- `triplet_study::tested::TestedStudy::steps` meets its contract.
+use Rattle.triplet_study.proofs.TestedLaws.{tested-keeps, tested-few}
+use Rattle.triplet_study.proofs.tested.TestedStudy.steps.Goals as goal
+
+pub invariant_of-result : goal.invariant_of-result
+invariant_of-result c = record { small = (tested-keeps c.args.self.now).table; few = tested-few c.args.self.now }
