@@ -2,4 +2,29 @@
 
 #![tactic(auto)]
 
+use triplet_channels::Channels;
+
 pub mod kernel;
+
+// A piece of a tested study: a triplet and a band of each list of frequencies.
+#[derive(Clone, Copy)]
+pub struct Piece {
+    pub triplet: usize,
+    pub b1: usize,
+    pub b2: usize,
+}
+
+// The corners of a triplet: of its second point by the neighbour table, of its third by the second copy of the table.
+#[derive(Clone, Copy)]
+pub struct Corners {
+    pub first: [usize; 384],
+    pub second: [usize; 384],
+}
+
+// What pieces are worked out in: the frequencies of both bands at the corners, and the three channels.
+#[derive(Clone, Copy)]
+pub struct WorkAreas {
+    pub frequencies1: [f64; 384],
+    pub frequencies2: [f64; 384],
+    pub channels: Channels,
+}
