@@ -2,3 +2,4 @@
 pub mod Layout
 pub mod Weights
 pub mod Pieces
+pub mod Zeros

@@ -1,12 +1,17 @@
 -- A piece of a tested study, and its outputs by the corners of its triplet.
-use Rattle.std.specs.Prelude.{ℕ, ◌+◌, ◌*◌, ◌<◌, length}
+use Rattle.std.specs.Prelude.{◌≡◌, ℕ, ◌+◌, ◌*◌, ◌<◌, length}
 use Rattle.triplet_values.specs.Values.{Held}
 use Rattle.triplet_outputs.specs.declared.Outputs.{Outputs}
 use Rattle.triplet_study.specs.declared.Sizes.{Sizes}
+use Rattle.triplet_study.specs.Study.{Study}
 use Rattle.triplet_study.specs.declared.tested.TestedStudy.{TestedStudy}
 use Rattle.triplet_piece.specs.declared.Corners.{Corners}
 use Rattle.triplet_piece.specs.declared.Piece.{Piece}
-use Rattle.triplet_piece.specs.Weights.{outputs_of_corners}
+use Rattle.triplet_piece.specs.Weights.{outputs_of_corners, first_corners, second_corners}
+
+-- the corners of triplet t
+abbrev pub AreCornersOf : Study → ℕ → Corners → Type 0
+AreCornersOf s t c = (c.first ≡ first_corners s t) × (c.second ≡ second_corners s t)
 
 -- the triplet and the bands are among those of the study
 abbrev pub IsPiece : Sizes → Piece → Type 0

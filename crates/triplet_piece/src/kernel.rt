@@ -1,17 +1,36 @@
 // For the crates above, on a tested study.
 ghost use Rattle.std.specs.Prelude.{◌≡◌, ◌+◌, ◌*◌, ◌<◌, length};
+ghost use Rattle.triplet_study.specs.Lent.{study_of};
+ghost use Rattle.triplet_corners.specs.Corners.{second_steps};
 ghost use Rattle.triplet_study.specs.Tested.{Counted, Fitting};
 ghost use Rattle.triplet_piece.specs.Layout.{channel_of, cell_weights, WritesPiece};
 ghost use Rattle.triplet_piece.specs.Weights.{outputs_of_sorted};
-ghost use Rattle.triplet_piece.specs.Pieces.{IsPiece, IsHeld, number_of, outputs_of_piece};
+ghost use Rattle.triplet_piece.specs.Pieces.{AreCornersOf, IsPiece, IsHeld, number_of, outputs_of_piece};
 
 use crate::{Corners, Piece, WorkAreas};
 use triplet_channels::Channels;
 use triplet_channels::kernel::{further_rows, prepare_channel};
 use triplet_outputs::Outputs;
-use triplet_study::TestedStudy;
+use triplet_study::{TestedSteps, TestedStudy};
 use triplet_values::kernel::fill_frequencies;
 use triplet_values::{Band, Rows};
+
+// The corners of triplet `t`, looked up; `second` is the second copy of the steps.
+pub fn corners_of(tested: &TestedStudy, second: &[i64], t: usize) -> Corners
+    requires copied { second.now ≡ second_steps tested.now.sizes.tp tested.now.study.relative_grid_address.now }
+    requires t_in_bounds { t < tested.now.sizes.triplets }
+    ensures { AreCornersOf (study_of tested.now.study) t result }
+{
+    let triplets = tested.study.triplets;
+    let g1 = numbers::kernel::magnitude_at(triplets, 3 * t + 1);
+    let g2 = numbers::kernel::magnitude_at(triplets, 3 * t + 2);
+    let grid = tested.grid();
+    let copy = TestedSteps { steps: second };
+    Corners {
+        first: triplet_corners::kernel::corner_numbers(grid, tested.steps(), g1),
+        second: triplet_corners::kernel::corner_numbers(grid, copy, g2),
+    }
+}
 
 // The weight of an output channel.
 fn channel_of(o: Outputs, c: usize) -> f64

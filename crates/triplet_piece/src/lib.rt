@@ -2,7 +2,10 @@
 
 #![tactic(auto)]
 
-use triplet_channels::Channels;
+ghost use Rattle.triplet_piece.specs.Zeros.{AreZeros};
+
+use triplet_channels::{Channel, Channels};
+use triplet_values::ValueBox;
 
 pub mod kernel;
 
@@ -27,4 +30,33 @@ pub struct WorkAreas {
     pub frequencies1: [f64; 384],
     pub frequencies2: [f64; 384],
     pub channels: Channels,
+}
+
+impl WorkAreas {
+    // Areas of zeros.
+    pub fn new() -> WorkAreas
+        ensures { AreZeros result }
+    {
+        let zeros = [0.0; 384];
+        let places = [0usize; 96];
+        let bounds = ValueBox {
+            fmin: 0.0,
+            fmax: 0.0,
+        };
+        let channel = Channel {
+            values: zeros,
+            places,
+            bounds,
+        };
+        let channels = Channels {
+            first: channel,
+            second: channel,
+            third: channel,
+        };
+        WorkAreas {
+            frequencies1: zeros,
+            frequencies2: zeros,
+            channels,
+        }
+    }
 }

@@ -18,7 +18,7 @@ use Rattle.question_values.specs.Counts.{are_counts, is_product}
 use Rattle.question_values.specs.Frequencies.{are_frequencies, are_points}
 use Rattle.question_values.specs.Rows.{has_rows}
 use Rattle.question_grids.specs.Grids.{are_triples, triples_in, grid_questions}
-use Rattle.question_grids.specs.Tables.{is_table}
+use Rattle.question_grids.specs.Tables.{is_table, rows_in}
 use Rattle.question_grids.specs.Steps.{are_grid_points}
 use Rattle.question_grids.proofs.StepLaws.{grid-points-at, product-yes}
 use Rattle.question_values.proofs.RowsLaws.{table-rows}
@@ -167,9 +167,31 @@ points-are : (s : Study) → length s.points ≡ (sizes_of s).points
 unfolding sizes_by
 points-are s = refl
 
-pub grid-of : (s : Study) → (sizes_of s).grid ≡ grid_in s
-unfolding sizes_by
-grid-of s = refl
+-- by the study's parts
+module _ (s : Study) where
+  pub tp-of : (sizes_of s).tp ≡ tp_in s
+  unfolding sizes_by
+  tp-of = refl
+
+  pub grid-of : (sizes_of s).grid ≡ grid_in s
+  unfolding sizes_by
+  grid-of = refl
+
+  pub rows_of : (sizes_of s).rows ≡ rows_in s.steps
+  unfolding sizes_by
+  rows_of = refl
+
+  pub bands1-of : (sizes_of s).bands1 ≡ bands1_in s
+  unfolding sizes_by
+  bands1-of = refl
+
+  pub bands2-of : (sizes_of s).bands2 ≡ bands2_in s
+  unfolding sizes_by
+  bands2-of = refl
+
+  pub triplets-of : (sizes_of s).triplets ≡ triplet_count s
+  unfolding sizes_by
+  triplets-of = refl
 
 pub ready : (s : Study) (z : Sizes) (w f : ℕ) → first_no (study_questions s) ≡ 0 → z ≡ sizes_of s → are_lengths z w f ≡ true → Ready s z w f
 ready s z w f e c y =
