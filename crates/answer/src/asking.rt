@@ -55,7 +55,7 @@ pub fn table_of(head: Head) -> [i64; 288]
     let diag = head.diag;
     let diagonal = numbers::kernel::magnitude(diag);
     let mut table = [0i64; 288];
-    tetrahedron_tables::kernel::copy_table(diagonal, &mut table);
+    table.copy_from_slice(tetrahedron_tables::kernel::table(diagonal));
     table
 }
 

@@ -41,7 +41,7 @@ module _ (bands : ℤ) (points gridPoints : ℕ) (e : are_counts bands bands (po
 
 -- a call whose questions are answered yes: its study is sound, its grid points lie on the grid, and its buffer has their entries
 pub passed : (g : GridPointCall) (iw : ℕ) → first_no (grid_point_questions g iw) ≡ 0
-    → Sound (study_of g) × ((are_grid_points (triples_in g.addresses) g.grid-points ≡ true) × (iw ≡ length g.grid-points * (length g.points * mag g.bands)))
+    → Sound (mag g.num-ir) (study_of g) × ((are_grid_points (triples_in g.addresses) g.grid-points ≡ true) × (iw ≡ length g.grid-points * (length g.points * mag g.bands)))
 passed g iw z =
     let p : ℕ = triples_in g.addresses in
     let numbered : Numbered (grid_point_questions g iw) = (omega arith, (omega arith, (omega arith, (omega arith, (omega arith, (omega arith, (omega arith, (omega arith, (omega arith, tt))))))))) in
@@ -54,7 +54,6 @@ passed g iw z =
         tabled = y.0;
         mapped = irreducible-length g.num-ir (mag g.bands) p g.frequencies g.irreducible q;
         few = size_few g.bands (length g.points) (length g.grid-points) y.1.0;
-        count = mag g.num-ir;
         held = frequencies-held g.num-ir (mag g.bands) p g.frequencies g.irreducible q;
         below = irreducible-at g.num-ir (mag g.bands) p g.frequencies g.irreducible q;
       },

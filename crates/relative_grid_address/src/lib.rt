@@ -6,6 +6,7 @@ ghost use Rattle.std.specs.Prelude.{◌≡◌};
 ghost use Rattle.relative_grid_address.specs.Answer.{table_answer, all_tables};
 
 pub use ask::Refusal;
+use tetrahedron_tables::kernel::{table, tables};
 
 mod diagonal;
 pub mod kernel;
@@ -26,7 +27,7 @@ pub fn relative_grid_address(rec_lattice: [[f64; 3]; 3]) -> Result<NeighbourTabl
     }
     let index = diagonal::get_main_diagonal(rec_lattice);
     let mut numbers = [0i64; 288];
-    tetrahedron_tables::kernel::copy_table(index, &mut numbers);
+    numbers.copy_from_slice(table(index));
     Ok(NeighbourTable { index, numbers })
 }
 
@@ -35,6 +36,6 @@ pub fn all_relative_grid_address() -> [i64; 1152]
     ensures { result ≡ all_tables }
 {
     let mut all = [0i64; 1152];
-    diagonal::copy_all(&mut all);
+    all.copy_from_slice(tables());
     all
 }

@@ -1,6 +1,6 @@
 // The quotients that every formula is made of, the guard of a denominator, and the branch of omega, for the crates above.
 ghost use Rattle.std.specs.Prelude.{◌≡◌};
-ghost use Rattle.tetrahedron_fractions.specs.Branch.{values, branch_of};
+ghost use Rattle.tetrahedron_fractions.specs.Branch.{branch_of};
 ghost use Rattle.tetrahedron_fractions.specs.Fraction.{is_small, fraction, guarded};
 
 const THM_EPSILON: f64 = 1e-10;
@@ -40,10 +40,11 @@ pub fn guard(denominator: f64, value: f64) -> f64
     }
 }
 
-// The branch of omega. At a vertex it is the branch above.
-pub fn branch(omega: f64, a: f64, b: f64, c: f64, d: f64) -> usize
-    ensures { result ≡ branch_of omega (values a b c d) }
+// The branch of omega among four sorted values. At a vertex it is the branch above.
+pub fn branch(omega: f64, v: &[f64; 4]) -> usize
+    ensures { result ≡ branch_of omega v.now }
 {
+    let [a, b, c, d] = *v;
     if omega < a {
         0
     } else if omega < b {

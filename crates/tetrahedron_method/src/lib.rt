@@ -35,6 +35,5 @@ pub fn integration_weight(
     if !question_values::kernel::frequencies::point_ok(omega) {
         return Err(Refusal::Frequencies);
     }
-    let rows = tetrahedra_omegas.len() / 4;
-    Ok(kernel::weight::get_integration_weight(function, omega, tetrahedra_omegas, rows))
+    Ok(kernel::weight::get_integration_weight(function, omega, tetrahedra_omegas))
 }

@@ -5,10 +5,11 @@ ghost use Rattle.triplet_channels.specs.Ordered.{further_rows, ordered_channel_a
 
 use crate::{Channel, Channels};
 use tetrahedron_method::WeightFunction;
+use tetrahedron_method::kernel::sorted::{sort_rows, sorted_weight};
+use tetrahedron_sort::Rows;
 use triplet_outputs::Outputs;
 use triplet_outputs::kernel::{combine_outputs, is_open};
 use triplet_types::TpType;
-use triplet_values::Rows;
 
 // Makes a channel ready: its values at the corners, of frequencies f1 and f2 there, their box, and then the rows in order.
 pub fn prepare_channel(
@@ -22,11 +23,7 @@ pub fn prepare_channel(
 {
     triplet_values::kernel::fill_channel(&mut channel.values, number, f1, f2, rows);
     channel.bounds = triplet_values::kernel::box_of(&channel.values, rows);
-    tetrahedron_method::kernel::sorted::sort_rows(
-        &mut channel.values,
-        &mut channel.places,
-        rows.count,
-    );
+    sort_rows(&mut channel.values, &mut channel.places, rows);
 }
 
 // A channel: closed, `None`, or open with its weight I where the point lies in the box.
@@ -34,13 +31,8 @@ fn channel_at(f0: f64, channel: &Channel, rows: Rows) -> Option<f64>
     ensures { result ≡ ordered_channel_at f0 channel.now rows.count }
 {
     if is_open(channel.bounds, f0) {
-        Some(tetrahedron_method::kernel::sorted::sorted_weight(
-            WeightFunction::I,
-            f0,
-            &channel.values,
-            &channel.places,
-            rows.count,
-        ))
+        let w = sorted_weight(WeightFunction::I, f0, &channel.values, &channel.places, rows);
+        Some(w)
     } else {
         None
     }

@@ -8,12 +8,13 @@ ghost use Rattle.triplet_piece.specs.Weights.{outputs_of_sorted};
 ghost use Rattle.triplet_piece.specs.Pieces.{AreCornersOf, IsPiece, IsHeld, number_of, outputs_of_piece};
 
 use crate::{Corners, Piece, WorkAreas};
+use tetrahedron_sort::Rows;
 use triplet_channels::Channels;
 use triplet_channels::kernel::{further_rows, prepare_channel};
 use triplet_outputs::Outputs;
 use triplet_study::{TestedSteps, TestedStudy};
 use triplet_values::kernel::fill_frequencies;
-use triplet_values::{Band, Rows};
+use triplet_values::Band;
 
 // The corners of triplet `t`, looked up; `second` is the second copy of the steps.
 pub fn corners_of(tested: &TestedStudy, second: &[i64], t: usize) -> Corners

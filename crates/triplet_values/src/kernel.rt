@@ -2,7 +2,8 @@
 ghost use Rattle.std.specs.Prelude.{◌≡◌, ◌+◌, ◌*◌, ◌<◌, ◌≤◌, length};
 ghost use Rattle.triplet_values.specs.Values.{clamped, corner_frequency, corner_frequencies, combined, channel_values, Held, Begun, lesser, greater, box_of};
 
-use crate::{Band, Rows, ValueBox};
+use crate::{Band, ValueBox};
+use tetrahedron_sort::Rows;
 use triplet_types::TpType;
 
 // A value below 0 replaced by 0. Not std's `max`: that gives 0 for a NaN, and may give either of two zeros.

@@ -1,9 +1,9 @@
 -- `grid_point_weights::asks::ask_points` meets its contract: what each test found, in order.
-use mathlib.Core.Path.{◌≡◌, ap, ◌∙◌}
+use mathlib.Core.Path.{◌≡◌}
 use mathlib.Core.Bool.{true}
-use Prim.Native.Nat.{◌*◌, ◌≤◌}
+use Prim.Native.Nat.{◌*◌}
 use native.Mathlib.Omega.{arith}
-use lib.IntN.{ℤ, pos}
+use lib.IntN.{pos}
 use lib.ListN.{length}
 use lib.Signed.{mag}
 use mir.Syntax.{w64}
@@ -35,7 +35,7 @@ bands-are c = rw (band-back (goal.at.After-magnitude-bands c).Start) at c.magnit
 told-irreducible : (c : After-irreducible_ok) → c.irreducible_ok.result ≡ are_irreducible c.args.study.num_ir (mag c.args.study.num_band) (triples_in c.args.study.grid.addresses.now) c.args.study.frequencies.now c.args.study.gp2irgp_map.now
 told-irreducible c = rw (r-back (goal.at.After-irreducible_ok c).Start, bands-are (goal.at.After-irreducible_ok c).After-magnitude-bands) at c.irreducible_ok.ensures
 
-told-12 : (c : After-length_ok) → c.length_ok.result ≡ is_product (length c.args.grid_points.now) (length c.args.study.frequency_points.now * mag c.args.study.num_band) c.args.iw_len
+told-12 : (c : After-length_ok) → c.length_ok.result ≡ is_product (length c.args.grid_points.now) (length c.args.study.frequency_points.now * mag c.args.study.num_band) (length c.args.iw.now)
 told-12 c = rw (bands-are (goal.at.After-length_ok c).After-magnitude-bands) at c.length_ok.ensures
 
 pub returns-then-not-table_ok : goal.returns-then-not-table_ok
