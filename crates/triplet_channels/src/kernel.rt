@@ -31,7 +31,13 @@ fn channel_at(f0: f64, channel: &Channel, rows: Rows) -> Option<f64>
     ensures { result ≡ ordered_channel_at f0 channel.now rows.count }
 {
     if is_open(channel.bounds, f0) {
-        let w = sorted_weight(WeightFunction::I, f0, &channel.values, &channel.places, rows);
+        let w = sorted_weight(
+            WeightFunction::I,
+            f0,
+            &channel.values,
+            &channel.places,
+            rows,
+        );
         Some(w)
     } else {
         None

@@ -37,12 +37,13 @@ pub fn step_of(negated: bool, z: i64) -> i64
 
 // The second copy of the steps, in front of an array.
 pub fn second_steps(tp: TpType, steps: TestedSteps) -> [i64; 1152]
-    ensures { result ≡ second_area tp steps.entry.steps.now }
+    ensures { result ≡ second_area tp steps.entry.triples.numbers.now }
 {
     let negated = is_negated(tp);
+    let numbers = steps.triples.numbers;
     let mut a = [0i64; 1152];
-    for k in 0..steps.steps.len() {
-        let v = step_of(negated, steps.steps[k]);
+    for k in 0..numbers.len() {
+        let v = step_of(negated, numbers[k]);
         a[k] = v;
     }
     a
@@ -51,11 +52,11 @@ pub fn second_steps(tp: TpType, steps: TestedSteps) -> [i64; 1152]
 // The numbers of the neighbours of the grid point `g`, one for each step, in front of an array.
 pub fn corner_numbers(grid: TestedGrid, steps: TestedSteps, g: usize) -> [usize; 384]
     requires { g < triples_in grid.addresses.now }
-    ensures { result ≡ corner_numbers grid.entry.grid grid.entry.addresses.now grid.entry.gp_map.now steps.entry.steps.now g }
+    ensures { result ≡ corner_numbers grid.entry.grid grid.entry.addresses.now grid.entry.gp_map.now steps.entry.triples.numbers.now g }
 {
     let mut a = [0usize; 384];
-    for j in 0..steps.steps.len() / 3 {
-        a[j] = grid.neighbour(steps.steps, g, j);
+    for j in 0..steps.triples.numbers.len() / 3 {
+        a[j] = grid.neighbour(steps.triples, g, j);
     }
     a
 }

@@ -8,6 +8,7 @@ ghost use Rattle.triplet_piece.specs.Weights.{outputs_of_sorted};
 ghost use Rattle.triplet_piece.specs.Pieces.{AreCornersOf, IsPiece, IsHeld, number_of, outputs_of_piece};
 
 use crate::{Corners, Piece, WorkAreas};
+use question_grids::Triples;
 use tetrahedron_sort::Rows;
 use triplet_channels::Channels;
 use triplet_channels::kernel::{further_rows, prepare_channel};
@@ -26,7 +27,9 @@ pub fn corners_of(tested: &TestedStudy, second: &[i64], t: usize) -> Corners
     let g1 = numbers::kernel::magnitude_at(triplets, 3 * t + 1);
     let g2 = numbers::kernel::magnitude_at(triplets, 3 * t + 2);
     let grid = tested.grid();
-    let copy = TestedSteps { steps: second };
+    let copy = TestedSteps {
+        triples: Triples { numbers: second },
+    };
     Corners {
         first: triplet_corners::kernel::corner_numbers(grid, tested.steps(), g1),
         second: triplet_corners::kernel::corner_numbers(grid, copy, g2),

@@ -1,20 +1,19 @@
 // A study that has passed its questions.
-ghost use Rattle.std.specs.Prelude.{◌≡◌, true, ◌≤◌, length};
+ghost use Rattle.std.specs.Prelude.{◌≡◌, ◌≤◌, length};
 ghost use Rattle.ask.specs.Ask.{first_no};
-ghost use Rattle.question_grids.specs.Grids.{are_triples};
 ghost use Rattle.triplet_study.specs.Study.{sizes_of};
 ghost use Rattle.triplet_study.specs.Questions.{study_questions, are_lengths};
 ghost use Rattle.triplet_study.specs.Lent.{study_of};
 
 use crate::{Sizes, Study};
 use bzgrid_lookup::TestedGrid;
+use question_grids::Triples;
 
-// Steps that have passed question 7, or a copy of them: whole triples of small numbers.
+// Steps that have passed question 7, or a copy of them.
 #[derive(Clone, Copy)]
 pub struct TestedSteps<'a> {
-    pub steps: &'a [i64],
-    pub ghost small: { are_triples steps.now ≡ true },
-    pub ghost few: { length steps.now ≤ 1152 },
+    pub triples: Triples<'a>,
+    pub ghost few: { length triples.numbers.now ≤ 1152 },
 }
 
 // A study that has passed questions 3 to 11, with its counts.
@@ -41,11 +40,12 @@ impl<'a> TestedStudy<'a> {
 
     // The steps of its neighbour table.
     pub fn steps(&self) -> TestedSteps<'a>
-        ensures { result.steps ≡ self.now.study.relative_grid_address }
+        ensures { result.triples.numbers ≡ self.now.study.relative_grid_address }
     {
-        TestedSteps {
-            steps: self.study.relative_grid_address,
-        }
+        let triples = Triples {
+            numbers: self.study.relative_grid_address,
+        };
+        TestedSteps { triples }
     }
 
     // Question 12, of weights and flags.

@@ -11,7 +11,7 @@ use Rattle.triplet_corners.proofs.kernel.corner_numbers.Goals as goal
 
 -- the number at each place
 abbrev number : Start → ℕ → ℕ
-number s = entry s.args.grid.grid s.args.grid.addresses.now s.args.grid.gp_map.now s.args.steps.steps.now s.args.g
+number s = entry s.args.grid.grid s.args.grid.addresses.now s.args.grid.gp_map.now s.args.steps.triples.numbers.now s.args.g
 
 pub loop-j-init : goal.loop-j-init
 loop-j-init c =
@@ -24,5 +24,5 @@ loop-j-preserved c =
 pub returns : goal.returns
 unfolding corner_numbers
 returns c =
-    let e : c.loop-j.j ≡ length c.args.steps.steps.now / 3 = omega arith in
+    let e : c.loop-j.j ≡ length c.args.steps.triples.numbers.now / 3 = omega arith in
     c.loop-j.invariant ∙ rw e

@@ -13,4 +13,4 @@ entry grid addresses gp-map steps g j = neighbour_of grid addresses gp-map (want
 
 abbrev pub invariant-loop-j : goal.invariant-loop-j
 invariant-loop-j l =
-    l.a ≡ area 384 l.j (entry l.grid.grid l.grid.addresses.now l.grid.gp_map.now l.steps.steps.now l.g) 0
+    l.a ≡ area 384 l.j (entry l.grid.grid l.grid.addresses.now l.grid.gp_map.now l.steps.triples.numbers.now l.g) 0

@@ -13,4 +13,4 @@ entry negated steps k = step_of negated (at steps k)
 
 abbrev pub invariant-loop-k : goal.invariant-loop-k
 invariant-loop-k l =
-    l.a ≡ area 1152 l.k (entry l.negated l.steps.steps.now) (pos 0)
+    l.a ≡ area 1152 l.k (entry l.negated l.steps.triples.numbers.now) (pos 0)
