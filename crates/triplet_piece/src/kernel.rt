@@ -14,8 +14,8 @@ use triplet_channels::Channels;
 use triplet_channels::kernel::{further_rows, prepare_channel};
 use triplet_outputs::Outputs;
 use triplet_study::{TestedSteps, TestedStudy};
-use triplet_values::kernel::fill_frequencies;
 use triplet_values::Band;
+use triplet_values::kernel::fill_frequencies;
 
 // The corners of triplet `t`, looked up; `second` is the second copy of the steps.
 pub fn corners_of(tested: &TestedStudy, second: &[i64], t: usize) -> Corners

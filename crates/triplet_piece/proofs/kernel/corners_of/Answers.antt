@@ -25,7 +25,10 @@ pub corner_numbers-requires : goal.corner_numbers-requires
 corner_numbers-requires c = rw (c.grid-grid.ensures.1.0, c.magnitude_at-g1.ensures) (point-in c.args.tested.now c.args.t 1 c.requires.t_in_bounds (omega arith))
 
 pub invariant_of-copy : goal.invariant_of-copy
-invariant_of-copy c = record { small = copy-triples c.args.tested.now c.args.second.now c.requires.copied; few = copy-few c.args.tested.now c.args.second.now c.requires.copied }
+invariant_of-copy c = record { tested = copy-triples c.args.tested.now c.args.second.now c.requires.copied }
+
+pub invariant_of-copy-2 : goal.invariant_of-copy-2
+invariant_of-copy-2 c = record { few = copy-few c.args.tested.now c.args.second.now c.requires.copied }
 
 pub corner_numbers-requires-2 : goal.corner_numbers-requires-2
 corner_numbers-requires-2 c = rw (c.grid-grid.ensures.1.0, c.magnitude_at-g2.ensures) (point-in c.args.tested.now c.args.t 2 c.requires.t_in_bounds (omega arith))
