@@ -1,76 +1,58 @@
 // For the crates above, on a tested study and sheet: the averages of one triplet.
-ghost use Rattle.std.specs.Prelude.{◌≡◌, ◌+◌, ◌*◌, ◌<◌, length};
-ghost use Rattle.std.specs.Float.{nan};
-ghost use Rattle.list_laws.specs.Groups.{group_made};
-ghost use Rattle.averaging_blocks.specs.Weights.{averaged};
-ghost use Rattle.triplet_study.specs.Tested.{Counted};
+ghost use Rattle.std.specs.Prelude.{◌≡◌, ◌*◌, ◌<◌, length};
 ghost use Rattle.sheet_step.specs.Steps.{triplet_averaged, triplet_flags_averaged};
 
-use triplet_study::Sizes;
-
-// The weights of triplet `t` in channel `c`.
-fn average_channel(
-    z: Sizes,
-    weights: &mut [f64],
-    t: usize,
-    c: usize,
-    degenerate_ids1: &[i64],
-    degenerate_ids2: &[i64],
-)
-    requires counted { Counted z × (((t < z.triplets) × (c < z.channels)) × (z.bands1 ≡ z.bands2)) }
-    requires weights_len { (length weights.old ≡ z.channels * z.cells) × ((length degenerate_ids1.now ≡ z.bands1) × (length degenerate_ids2.now ≡ z.bands1)) }
-    ensures { weights.new ≡ group_made z.points z.pairs (averaged z.bands1 degenerate_ids1.now degenerate_ids2.now) nan (c * z.triplets + t) weights.old }
-{
-    let points = z.points;
-    let bands = z.bands1;
-    let size = points * z.pairs;
-    let start = c * z.cells + t * size;
-    let end = start + size;
-    averaging_walk::kernel::walk::average_points(
-        &mut weights[start..end],
-        degenerate_ids1,
-        degenerate_ids2,
-        bands,
-        points,
-    );
-}
+use averaging_walk::kernel::walk::average_points;
+use triplet_study::TestedStudy;
 
 // The weights of triplet `t`, channel by channel.
 pub fn average_weights(
-    z: Sizes,
+    tested: &TestedStudy,
     weights: &mut [f64],
     t: usize,
     degenerate_ids1: &[i64],
     degenerate_ids2: &[i64],
 )
-    requires counted { Counted z × ((t < z.triplets) × (z.bands1 ≡ z.bands2)) }
-    requires weights_len { (length weights.old ≡ z.channels * z.cells) × ((length degenerate_ids1.now ≡ z.bands1) × (length degenerate_ids2.now ≡ z.bands1)) }
-    ensures { weights.new ≡ triplet_averaged z t degenerate_ids1.now degenerate_ids2.now weights.old }
+    requires on_sheet { (t < tested.now.sizes.triplets) × (tested.now.sizes.bands1 ≡ tested.now.sizes.bands2) }
+    requires lengths { (length weights.old ≡ tested.now.sizes.channels * tested.now.sizes.cells) × ((length degenerate_ids1.now ≡ tested.now.sizes.bands1) × (length degenerate_ids2.now ≡ tested.now.sizes.bands1)) }
+    ensures { weights.new ≡ triplet_averaged tested.now.sizes t degenerate_ids1.now degenerate_ids2.now weights.old }
 {
-    let channels = z.channels;
+    let points = tested.sizes.points;
+    let bands = tested.sizes.bands1;
+    let channels = tested.sizes.channels;
+    let cells = tested.sizes.cells;
+    let size = points * tested.sizes.pairs;
     for c in 0..channels {
-        average_channel(z, weights, t, c, degenerate_ids1, degenerate_ids2);
+        let start = c * cells + t * size;
+        let end = start + size;
+        average_points(
+            &mut weights[start..end],
+            degenerate_ids1,
+            degenerate_ids2,
+            bands,
+            points,
+        );
     }
 }
 
 // The flags of triplet `t`.
 pub fn average_flags(
-    z: Sizes,
+    tested: &TestedStudy,
     flags: &mut [i8],
     t: usize,
     degenerate_ids1: &[i64],
     degenerate_ids2: &[i64],
 )
-    requires counted { Counted z × ((t < z.triplets) × (z.bands1 ≡ z.bands2)) }
-    requires flags_len { (length flags.old ≡ z.cells) × ((length degenerate_ids1.now ≡ z.bands1) × (length degenerate_ids2.now ≡ z.bands1)) }
-    ensures { flags.new ≡ triplet_flags_averaged z t degenerate_ids1.now degenerate_ids2.now flags.old }
+    requires on_sheet { (t < tested.now.sizes.triplets) × (tested.now.sizes.bands1 ≡ tested.now.sizes.bands2) }
+    requires lengths { (length flags.old ≡ tested.now.sizes.cells) × ((length degenerate_ids1.now ≡ tested.now.sizes.bands1) × (length degenerate_ids2.now ≡ tested.now.sizes.bands1)) }
+    ensures { flags.new ≡ triplet_flags_averaged tested.now.sizes t degenerate_ids1.now degenerate_ids2.now flags.old }
 {
-    let points = z.points;
-    let bands = z.bands1;
-    let size = points * z.pairs;
+    let points = tested.sizes.points;
+    let bands = tested.sizes.bands1;
+    let size = points * tested.sizes.pairs;
     let start = t * size;
     let end = start + size;
-    averaging_walk::kernel::walk::average_points(
+    average_points(
         &mut flags[start..end],
         degenerate_ids1,
         degenerate_ids2,
