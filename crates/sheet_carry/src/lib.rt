@@ -28,7 +28,7 @@ pub fn carry_on(
 {
     let tested = sheet_step::kernel::asks::ask_common(study, sheet)?;
     let steps = tested.study.relative_grid_address;
-    let second = triplet_corners::kernel::second_steps(tested.sizes.tp, steps);
+    let second = triplet_corners::kernel::second_steps(tested.sizes.tp, tested.steps());
     let prepared = PreparedStudy {
         tested,
         second: &second[..steps.len()],

@@ -29,7 +29,7 @@ fn play_tested(
         ≡ outcome_of (study_of tested.entry.study) (sheet_in weights flags marks before.runs) (calls_of list.now ids.now) }
 {
     let steps = tested.study.relative_grid_address;
-    let second = triplet_corners::kernel::second_steps(tested.sizes.tp, steps);
+    let second = triplet_corners::kernel::second_steps(tested.sizes.tp, tested.steps());
     let prepared = PreparedStudy {
         tested,
         second: &second[..steps.len()],

@@ -30,7 +30,7 @@ pub fn run_piece(
     let tested = asks::ask_common(study, sheet)?;
     asks::ask_run(&tested, sheet, tally, worker, piece)?;
     let steps = tested.study.relative_grid_address;
-    let second = triplet_corners::kernel::second_steps(tested.sizes.tp, steps);
+    let second = triplet_corners::kernel::second_steps(tested.sizes.tp, tested.steps());
     let prepared = PreparedStudy {
         tested,
         second: &second[..steps.len()],

@@ -13,6 +13,7 @@ use sheet_fill::{PreparedStudy, Work};
 use sheet_step::kernel::asks;
 use sheet_step::{NamedPiece, SheetMut};
 use sheet_tally::Tally;
+use triplet_piece::Piece;
 
 // Runs a named piece, to which 14, 15, 21 and 20 say yes.
 pub fn run_accepted(
@@ -33,7 +34,12 @@ pub fn run_accepted(
     let t = numbers::kernel::magnitude(piece.triplet);
     let n1 = numbers::kernel::magnitude(piece.b1);
     let n2 = numbers::kernel::magnitude(piece.b2);
-    sheet_fill::kernel::run::fill_named(work, sheet.weights, sheet.flags, prepared, t, n1, n2);
+    let accepted = Piece {
+        triplet: t,
+        b1: n1,
+        b2: n2,
+    };
+    sheet_fill::kernel::run::fill_named(work, sheet.weights, sheet.flags, prepared, accepted);
     let pairs = prepared.tested.sizes.pairs;
     let bands2 = prepared.tested.sizes.bands2;
     mark::set_mark(sheet.marks, t * pairs + (n1 * bands2 + n2), mark::COMPUTED);

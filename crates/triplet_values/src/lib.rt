@@ -10,3 +10,11 @@ pub struct ValueBox {
     pub fmin: f64,
     pub fmax: f64,
 }
+
+// One band of a list of frequencies, which lie by grid point and band.
+#[derive(Clone, Copy)]
+pub struct Band<'a> {
+    pub frequencies: &'a [f64],
+    pub bands: usize,
+    pub band: usize,
+}

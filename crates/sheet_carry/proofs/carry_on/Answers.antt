@@ -24,21 +24,17 @@ returns-in_err-tested-clause-did c =
     let p = err_from_is_err_and c.from_residual.result c.from_residual.ensures.1 in
     rw (p.1, p.2) (common-refused (study_of c.args.study) (start (goal.at.returns-in_err-tested-clause-did c).Start) (carry c.args.worker) _ told)
 
-pub second_steps-second-requires : goal.second_steps-second-requires
-second_steps-second-requires c =
-    tested-steps c.in_ok-tested.tested
-
 pub slice_bounds-second-end : goal.slice_bounds-second-end
 slice_bounds-second-end c =
     omega (arith, (tested-steps c.in_ok-tested.tested).0)
 
 pub slice_bounds-prepared-end : goal.slice_bounds-prepared-end
 slice_bounds-prepared-end c =
-    sym (ap length (second-lent c.in_ok-tested.tested.sizes.tp c.in_ok-tested.tested.study.relative_grid_address.now c.second_steps-second.result c.second_steps-second.ensures) ∙ second-length c.in_ok-tested.tested.sizes.tp c.in_ok-tested.tested.study.relative_grid_address.now)
+    sym (ap length (second-lent c.in_ok-tested.tested.sizes.tp c.in_ok-tested.tested.study.relative_grid_address.now c.second_steps-second.result (rw c.steps.ensures at c.second_steps-second.ensures)) ∙ second-length c.in_ok-tested.tested.sizes.tp c.in_ok-tested.tested.study.relative_grid_address.now)
 
 pub invariant_of-prepared : goal.invariant_of-prepared
 invariant_of-prepared c =
-    record { copy = second-lent c.in_ok-tested.tested.sizes.tp c.in_ok-tested.tested.study.relative_grid_address.now c.second_steps-second.result c.second_steps-second.ensures }
+    record { copy = second-lent c.in_ok-tested.tested.sizes.tp c.in_ok-tested.tested.study.relative_grid_address.now c.second_steps-second.result (rw c.steps.ensures at c.second_steps-second.ensures) }
 
 pub carry_asked-requires-clause-common : goal.carry_asked-requires-clause-common
 carry_asked-requires-clause-common c =

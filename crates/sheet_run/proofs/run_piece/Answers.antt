@@ -41,21 +41,17 @@ returns-in_err-ask_run-clause-did c =
     let p = err_from_is_err_and c.from_residual-in_err-ask_run.result c.from_residual-in_err-ask_run.ensures.1 in
     rw (p.1, p.2) (tested-did c.in_ok-tested.tested same (start (goal.at.returns-in_err-ask_run-clause-did c).Start) (run-no (study_of c.in_ok-tested.tested.study) (start (goal.at.returns-in_err-ask_run-clause-did c).Start) yes c.in_ok-tested.tested.counts c.args.worker c.args.piece.triplet c.args.piece.b1 c.args.piece.b2 _ own))
 
-pub second_steps-second-requires : goal.second_steps-second-requires
-second_steps-second-requires c =
-    tested-steps c.in_ok-tested.tested
-
 pub slice_bounds-second-end : goal.slice_bounds-second-end
 slice_bounds-second-end c =
     omega (arith, (tested-steps c.in_ok-tested.tested).0)
 
 pub slice_bounds-prepared-end : goal.slice_bounds-prepared-end
 slice_bounds-prepared-end c =
-    sym (ap length (second-lent c.in_ok-tested.tested.sizes.tp c.in_ok-tested.tested.study.relative_grid_address.now c.second_steps-second.result c.second_steps-second.ensures) ∙ second-length c.in_ok-tested.tested.sizes.tp c.in_ok-tested.tested.study.relative_grid_address.now)
+    sym (ap length (second-lent c.in_ok-tested.tested.sizes.tp c.in_ok-tested.tested.study.relative_grid_address.now c.second_steps-second.result (rw c.steps.ensures at c.second_steps-second.ensures)) ∙ second-length c.in_ok-tested.tested.sizes.tp c.in_ok-tested.tested.study.relative_grid_address.now)
 
 pub invariant_of-prepared : goal.invariant_of-prepared
 invariant_of-prepared c =
-    record { copy = second-lent c.in_ok-tested.tested.sizes.tp c.in_ok-tested.tested.study.relative_grid_address.now c.second_steps-second.result c.second_steps-second.ensures }
+    record { copy = second-lent c.in_ok-tested.tested.sizes.tp c.in_ok-tested.tested.study.relative_grid_address.now c.second_steps-second.result (rw c.steps.ensures at c.second_steps-second.ensures) }
 
 pub run_accepted-requires-clause-common : goal.run_accepted-requires-clause-common
 run_accepted-requires-clause-common c =
