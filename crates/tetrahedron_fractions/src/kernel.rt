@@ -41,10 +41,10 @@ pub fn guard(denominator: f64, value: f64) -> f64
 }
 
 // The branch of omega among four sorted values. At a vertex it is the branch above.
-pub fn branch(omega: f64, v: &[f64; 4]) -> usize
-    ensures { result ≡ branch_of omega v.now }
+pub fn branch(omega: f64, v: [f64; 4]) -> usize
+    ensures { result ≡ branch_of omega v }
 {
-    let [a, b, c, d] = *v;
+    let [a, b, c, d] = v;
     if omega < a {
         0
     } else if omega < b {

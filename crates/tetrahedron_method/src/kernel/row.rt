@@ -16,8 +16,8 @@ fn or_zero(product: f64) -> f64
 
 // The weight of the vertex at a place in a tetrahedron with the sorted values v.
 #[tactic(auto, unfolding(crate::specs::Weight::share_of))]
-fn share(function: WeightFunction, place: usize, omega: f64, v: &[f64; 4]) -> f64
-    ensures { result ≡ share_of function omega v.now place }
+fn share(function: WeightFunction, place: usize, omega: f64, v: [f64; 4]) -> f64
+    ensures { result ≡ share_of function omega v place }
 {
     let branch = tetrahedron_fractions::kernel::branch(omega, v);
     match function {
@@ -27,8 +27,8 @@ fn share(function: WeightFunction, place: usize, omega: f64, v: &[f64; 4]) -> f6
 }
 
 // What a row with the sorted values v adds, the place of its first value known.
-pub fn sorted_row_weight(function: WeightFunction, place: usize, omega: f64, v: &[f64; 4]) -> f64
-    ensures { result ≡ sorted_row_weight function omega v.now place }
+pub fn sorted_row_weight(function: WeightFunction, place: usize, omega: f64, v: [f64; 4]) -> f64
+    ensures { result ≡ sorted_row_weight function omega v place }
 {
     or_zero(share(function, place, omega, v))
 }
@@ -39,5 +39,5 @@ pub fn row_weight(function: WeightFunction, omega: f64, row: [f64; 4]) -> f64
     ensures { result ≡ row_weight function omega row }
 {
     let sorted = sort_omegas(row);
-    sorted_row_weight(function, sorted.place, omega, &sorted.omegas)
+    sorted_row_weight(function, sorted.place, omega, sorted.omegas)
 }

@@ -35,7 +35,7 @@ pub fn sorted_weight(
     let (omegas, _) = area.as_chunks::<4>();
     let mut sum = 0.0;
     for k in 0..rows.count {
-        sum = sum + sorted_row_weight(function, places[k], omega, &omegas[k]);
+        sum = sum + sorted_row_weight(function, places[k], omega, omegas[k]);
     }
     sum / (rows.count as f64 / 4.0)
 }
