@@ -8,6 +8,7 @@ const THM_EPSILON: f64 = 1e-10;
 const MINUS_THM_EPSILON: f64 = -1e-10;
 
 // Under 1e-10 in magnitude, by two comparisons: most often the first one tells.
+#[tactic(auto, using(crate::proofs::FractionLaws::small_is))]
 fn is_small(delta: f64) -> bool
     ensures { result ≡ is_small delta }
 {
@@ -19,6 +20,7 @@ fn is_small(delta: f64) -> bool
 }
 
 // (omega - m) / (n - m), or 0 where the difference is under 1e-10 in magnitude.
+#[tactic(auto, unfolding(tetrahedron_paper::specs::Paper::fraction))]
 pub fn _f(omega: f64, n: f64, m: f64) -> f64
     ensures { result ≡ fraction omega n m }
 {
@@ -41,6 +43,7 @@ pub fn guard(denominator: f64, value: f64) -> f64
 }
 
 // The branch of omega among four sorted values. At a vertex it is the branch above.
+#[tactic(auto, unfolding(crate::specs::Branch::branch_of))]
 pub fn branch(omega: f64, v: [f64; 4]) -> usize
     ensures { result ≡ branch_of omega v }
 {

@@ -42,7 +42,7 @@ next-row a k =
     rw (e (k * 4) (suc k * 4) (omega arith), e (k * 4 + 1) (suc k * 4 + 1) (omega arith), e (k * 4 + 2) (suc k * 4 + 2) (omega arith), e (k * 4 + 3) (suc k * 4 + 3) (omega arith))
 
 -- a chunk of four values is a row
-pub chunk-row : (n k : ℕ) (a : List Float) → k < n → n * 4 ≤ length a → get_or (first_chunks 4 n a) k [] ≡ row_of a k
-chunk-row zero k a l h = absurd (omega arith)
-chunk-row (suc n) zero a l h = first-row a (omega (arith, h))
-chunk-row (suc n) (suc k) a l h = chunk-row n k (drop 4 a) (omega arith) (omega (arith, h, length-drop 4 a)) ∙ next-row a k
+pub chunk_row : (n k : ℕ) (a : List Float) → k < n → n * 4 ≤ length a → get_or (first_chunks 4 n a) k [] ≡ row_of a k
+chunk_row zero k a l h = absurd (omega arith)
+chunk_row (suc n) zero a l h = first-row a (omega (arith, h))
+chunk_row (suc n) (suc k) a l h = chunk_row n k (drop 4 a) (omega arith) (omega (arith, h, length-drop 4 a)) ∙ next-row a k

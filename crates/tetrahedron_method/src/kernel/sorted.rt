@@ -23,6 +23,7 @@ pub fn sort_rows(area: &mut [f64; 384], places: &mut [usize; 96], rows: Rows)
 }
 
 // The weight at omega over rows that are in order.
+#[tactic(auto, unfolding(crate::specs::Sorted::sorted_sum, crate::specs::Sorted::sorted_weight))]
 pub fn sorted_weight(
     function: WeightFunction,
     omega: f64,

@@ -6,6 +6,7 @@ use crate::WeightFunction;
 use crate::kernel::row::row_weight;
 
 // The weight at omega over the rows of a flat list, each four values.
+#[tactic(auto, using(crate::proofs::RowLaws::chunk_row), unfolding(crate::specs::Weight::sum_of, crate::specs::Weight::weight_of))]
 pub fn get_integration_weight(function: WeightFunction, omega: f64, omegas: &[f64]) -> f64
     requires { length omegas.now ≤ 384 }
     ensures { result ≡ weight_of function omega omegas.now (length omegas.now / 4) }
