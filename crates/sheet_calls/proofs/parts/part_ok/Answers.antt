@@ -1,8 +1,8 @@
--- `sheet_calls::calls::part_ok` meets its contract.
+-- `sheet_calls::parts::part_ok` meets its contract.
 use mir.Syntax.{w64}
 use mir.ValLaws.{to_z-of_z}
 use Rattle.sheet_calls.specs.Calls.{is_part}
-use Rattle.sheet_calls.proofs.calls.part_ok.Goals as goal
+use Rattle.sheet_calls.proofs.parts.part_ok.Goals as goal
 
 pub returns : goal.returns
 unfolding is_part

@@ -1,4 +1,4 @@
--- `sheet_calls::calls::ids_from` meets its contract.
+-- `sheet_calls::parts::ids_from` meets its contract.
 use lib.Signed.{mag}
 use mathlib.Core.Bool.{true}
 use mathlib.Core.Path.{◌∙◌, ◌≡◌, ap, sym}
@@ -7,7 +7,7 @@ use mir.ValLaws.{to_z-of_z}
 use native.Mathlib.Omega.{arith}
 use Rattle.sheet_calls.proofs.CallLaws.{ids-none, ids-part, part-within}
 use Rattle.sheet_calls.specs.Calls.{is_part}
-use Rattle.sheet_calls.proofs.calls.ids_from.Goals as goal
+use Rattle.sheet_calls.proofs.parts.ids_from.Goals as goal
 
 pub offset_bounds-ids-s : goal.offset_bounds-ids-s
 offset_bounds-ids-s c =
