@@ -98,7 +98,7 @@ impl<'a> Lines<'a> {
         ensures same { self.new.text ≡ self.old.text }
     {
         let mut count = 0;
-        // by lines, which only the reading tells apart
+        // `while let`: a `for` would need an iterator over `self`, a struct and a contract more for this one loop
         while let Some(fields) = self.tagged(tag) {
             fields.read(&mut out[count..count + n])?;
             count += n;

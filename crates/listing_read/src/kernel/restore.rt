@@ -49,6 +49,7 @@ pub fn restore(text: &[u8], form: Form, weights: &mut [f64], flags: &mut [i8])
         b2: 0,
     };
     for e in 0..cells {
+        // they stand there, as the text passed question 22
         pass_numbers(&mut reader, place);
         flags[e] = flag_at(&reader);
         reader.skip(2);

@@ -1,8 +1,8 @@
--- `listing::kernel::put_sheet` meets its contract.
+-- `listing::kernel::put_listing` meets its contract.
 use Rattle.listing.specs.Listings.{header, listing_of}
 use Rattle.listing.specs.Sheets.{lines_in}
 use Rattle.writing.proofs.WrittenLaws.{room-first, room-next, wrote-both}
-use Rattle.listing.proofs.kernel.put_sheet.Goals as goal
+use Rattle.listing.proofs.kernel.put_listing.Goals as goal
 
 pub put_slice-requires : goal.put_slice-requires
 unfolding listing_of header

@@ -1,9 +1,9 @@
--- `listing::kernel::put_refused` meets its contract.
+-- `listing::kernel::put_refusal` meets its contract.
 use native.Mathlib.Omega.{arith}
 use Rattle.listing.proofs.ListingLaws.{refusal-length}
 use Rattle.listing.specs.Listings.{number, refusal_of}
 use Rattle.writing.proofs.WrittenLaws.{room-next, wrote-both}
-use Rattle.listing.proofs.kernel.put_refused.Goals as goal
+use Rattle.listing.proofs.kernel.put_refusal.Goals as goal
 
 pub put_slice-requires : goal.put_slice-requires
 put_slice-requires c = omega (arith, refusal-length c.args.number, c.requires)
