@@ -44,6 +44,16 @@ impl Compared for u8 {
     }
 }
 
+impl Compared for i64 {
+    ghost use Rattle.list_laws.specs.Signed.{eq_z};
+
+    ghost agrees = { eq_z };
+
+    fn agrees(self, stored: i64) -> bool {
+        self == stored
+    }
+}
+
 impl Compared for i8 {
     ghost use Rattle.list_laws.specs.Signed.{eq_z};
 

@@ -1,10 +1,10 @@
--- `replay_sheet::kernel::flag_of` meets its contract: each flag that occurs is itself.
+-- `replay_input::kernel::flag_of` meets its contract: each flag that occurs is itself.
 use borrow.Author.Rules.{rules}
 use mathlib.Core.Path.{refl}
 use lib.IntN.{pos, negsuc}
-use Rattle.replay_sheet.specs.Content.{is_flag, flag_of}
-use Rattle.replay_sheet.proofs.ContentLaws.{a-flag, no_flag}
-use Rattle.replay_sheet.proofs.kernel.flag_of.Goals as goal
+use Rattle.replay_input.specs.Fields.{is_flag, flag_of}
+use Rattle.replay_input.proofs.FlagLaws.{a-flag, no_flag}
+use Rattle.replay_input.proofs.kernel.flag_of.Goals as goal
 
 pub returns-in-0 : goal.returns-in-0
 unfolding flag_of is_flag
