@@ -44,9 +44,13 @@ module _ {A : Type 0} (agrees : A → A → Bool) where
     entries-all {i} e k =
         k ∙ ap (λ (n : ℕ). entries_agree agrees (take n xs) (tabulate n f)) (sym e) ∙ ap (λ (l : List A). entries_agree agrees l (tabulate (length xs) f)) (take-length xs)
 
-    -- by their places
-    pub entries-below : (d : A) (n : ℕ) → n ≤ length xs → entries_agree agrees (take n xs) (tabulate n f) ≡ all_below n (λ k. agrees (get_or xs k d) (f k))
+    front-below : (d : A) (n : ℕ) → n ≤ length xs → entries_agree agrees (take n xs) (tabulate n f) ≡ all_below n (λ k. agrees (get_or xs k d) (f k))
     unfolding tabulate all_below
-    entries-below d zero h = refl
-    entries-below d (suc n) h =
-        entries-suc d n (omega (arith, h)) ∙ ap (λ (q : Bool). q && agrees (get_or xs n d) (f n)) (entries-below d n (omega (arith, h)))
+    front-below d zero h = refl
+    front-below d (suc n) h =
+        entries-suc d n (omega (arith, h)) ∙ ap (λ (q : Bool). q && agrees (get_or xs n d) (f n)) (front-below d n (omega (arith, h)))
+
+    -- by their places
+    pub entries-below : (d : A) → entries_agree agrees xs (tabulate (length xs) f) ≡ all_below (length xs) (λ k. agrees (get_or xs k d) (f k))
+    entries-below d =
+        ap (λ (l : List A). entries_agree agrees l (tabulate (length xs) f)) (sym (take-length xs)) ∙ front-below d (length xs) (omega arith)

@@ -113,7 +113,7 @@ struct ManyPoints {
 }
 
 // The neighbours of many points, in a buffer of the length, held to the stored numbers.
-fn many_judged(alloc: Global, grid: &OwnGrid, many: &ManyPoints) -> Result<Judged, AllocError> {
+fn many_case(many: &ManyPoints, alloc: Global, grid: &OwnGrid) -> Result<Judged, AllocError> {
     let mut out = stamped(alloc, many.length)?;
     let before = out.clone()?;
     let answer = bzgrid::neighboring_grid_points_many(
@@ -128,50 +128,44 @@ fn many_judged(alloc: Global, grid: &OwnGrid, many: &ManyPoints) -> Result<Judge
     Ok(Judged { refusal, agrees })
 }
 
-fn many_case(reader: &mut Reader<'_>, alloc: Global, grid: &OwnGrid) -> Result<Judged, AllocError> {
+fn next_many(reader: &mut Reader<'_>, alloc: Global) -> Result<ManyPoints, AllocError> {
     let refusal = reader.next_count();
     let points = next_list(reader, alloc)?;
     let steps = next_list(reader, alloc)?;
     let length = reader.next_count() as usize;
     let numbers = next_list(reader, alloc)?;
-    let many = ManyPoints {
+    Ok(ManyPoints {
         points,
         steps,
         length,
         refusal,
         numbers,
-    };
-    many_judged(alloc, grid, &many)
+    })
 }
 
-fn repeated_case(
-    reader: &mut Reader<'_>,
-    alloc: Global,
-    grid: &OwnGrid,
-) -> Result<Judged, AllocError> {
+fn next_repeated(reader: &mut Reader<'_>, alloc: Global) -> Result<ManyPoints, AllocError> {
     let refusal = reader.next_count();
     let times = reader.next_count() as usize;
     let points = vec![in alloc; reader.next_whole(); times]?;
     let steps = next_list(reader, alloc)?;
     let length = reader.next_count() as usize;
     let numbers = vec![in alloc; reader.next_whole(); length]?;
-    let many = ManyPoints {
+    Ok(ManyPoints {
         points,
         steps,
         length,
         refusal,
         numbers,
-    };
-    many_judged(alloc, grid, &many)
+    })
 }
 
 // The grid of the calls after it.
 #[derive(Debug, Default, Drop)]
-struct Lent {
+struct Kept {
     grid: Option<OwnGrid>,
 }
 
-impl Replay for Lent {
+impl Replay for Kept {
     type Counts = Counts;
 
     fn next_record(
@@ -187,13 +181,19 @@ impl Replay for Lent {
             Record::Grid => self.grid = Some(next_grid(reader, alloc)?),
             Record::Index => counts.index.add(rt, index_case(reader))?,
             Record::OnePoint => counts.one.add(rt, one_case(reader, alloc, grid?)?)?,
-            Record::ManyPoints => counts.many.add(rt, many_case(reader, alloc, grid?)?)?,
-            Record::RepeatedPoint => counts.many.add(rt, repeated_case(reader, alloc, grid?)?)?,
+            Record::ManyPoints => {
+                let many = next_many(reader, alloc)?;
+                counts.many.add(rt, many_case(&many, alloc, grid?)?)?;
+            }
+            Record::RepeatedPoint => {
+                let many = next_repeated(reader, alloc)?;
+                counts.many.add(rt, many_case(&many, alloc, grid?)?)?;
+            }
         }
         Ok(())
     }
 }
 
 fn main(rt: HostRuntime) -> Result<()> {
-    replay_blocks::<Lent>(&rt, rt.alloc(), Counts::new())
+    replay_blocks::<Kept>(&rt, rt.alloc(), Counts::new())
 }

@@ -1,4 +1,5 @@
 // What is counted and printed: the answers by kind of call, and the differences.
+use replay_report::kinds::kind_of;
 use std::fmt;
 use thiserror::Error;
 
@@ -11,7 +12,7 @@ pub enum CallKind {
     Play,
 }
 
-// In the order of their numbers, 1 to 5.
+// In the order in which they are printed.
 const KINDS: [CallKind; 5] = [
     CallKind::RunPiece,
     CallKind::CarryOn,
@@ -25,17 +26,19 @@ const KINDS: [CallKind; 5] = [
 #[error("no call is of kind {0}")]
 pub struct UnknownCall(pub u64);
 
+// The calls of a list; an open count is none of them.
+const CALLS: [(u64, CallKind); 4] = [
+    (1, CallKind::RunPiece),
+    (2, CallKind::CarryOn),
+    (3, CallKind::Average),
+    (5, CallKind::Play),
+];
+
 impl TryFrom<u64> for CallKind {
     type Error = UnknownCall;
 
-    fn try_from(kind: u64) -> Result<Self, UnknownCall> {
-        match kind {
-            1 => Ok(CallKind::RunPiece),
-            2 => Ok(CallKind::CarryOn),
-            3 => Ok(CallKind::Average),
-            5 => Ok(CallKind::Play),
-            _ => Err(UnknownCall(kind)),
-        }
+    fn try_from(number: u64) -> Result<Self, UnknownCall> {
+        kind_of(&CALLS, number).ok_or(UnknownCall(number))
     }
 }
 
