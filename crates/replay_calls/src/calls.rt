@@ -8,7 +8,8 @@ use replay_input::reader::Reader;
 use replay_sheet::content::Sheet;
 use replay_sheet::counts::CallKind;
 use replay_study::owned::next_list;
-use sheet::{Answered, NamedPiece, Refusal, Study, Tally};
+use sheet::{NamedPiece, Refusal, SheetMut, Study, Tally};
+use sheet_list::Calls;
 use std::alloc::{AllocError, Global};
 
 // The number of an answer whose own answers are not the stored ones: no refusal has it.
@@ -92,9 +93,7 @@ fn answered(sheet: &mut Sheet, answer: Result<Tally, Refusal>) -> u64
     ensures number { result ≡ number_of answer }
     ensures tally { sheet.new.tally.runs ≡ runs_after answer sheet.old.tally.runs }
 {
-    let after = Answered::new(answer, sheet.tally);
-    sheet.tally = after.tally;
-    after.number
+    sheet.tally.settle(answer)
 }
 
 impl Played {
@@ -108,17 +107,17 @@ impl Played {
     ) -> Result<u64, AllocError> {
         let mut answers = vec![in alloc; 0; self.answers]?;
         let mut tallies = vec![in alloc; 0; self.answers.saturating_mul(16)]?;
-        let answer = sheet_list::play(
-            study,
-            &mut sheet.weights,
-            &mut sheet.flags,
-            &mut sheet.marks,
-            sheet.tally,
-            &self.list,
-            &self.ids,
-            &mut answers,
-            &mut tallies,
-        );
+        let tally = sheet.tally;
+        let calls = Calls {
+            list: &self.list,
+            ids: &self.ids,
+        };
+        let mut lent = SheetMut {
+            weights: &mut sheet.weights,
+            flags: &mut sheet.flags,
+            marks: &mut sheet.marks,
+        };
+        let answer = sheet_list::play(study, &mut lent, tally, calls, &mut answers, &mut tallies);
         let number = answered(sheet, answer);
         if stored.agrees_with(&answers) & stored.agrees_with(&tallies) {
             Ok(number)
@@ -137,20 +136,22 @@ impl Call {
         stored: &mut Reader<'_>,
         alloc: Global,
     ) -> Result<u64, AllocError> {
-        let (weights, flags, marks) = (&mut sheet.weights, &mut sheet.flags, &mut sheet.marks);
         let tally = sheet.tally;
+        let mut lent = SheetMut {
+            weights: &mut sheet.weights,
+            flags: &mut sheet.flags,
+            marks: &mut sheet.marks,
+        };
         let answer = match self {
             Call::RunPiece { worker, piece } => {
-                sheet::run_piece(study, weights, flags, marks, tally, *worker, *piece)
+                sheet::run_piece(study, &mut lent, tally, *worker, *piece)
             }
-            Call::CarryOn { worker } => {
-                sheet::carry_on(study, weights, flags, marks, tally, *worker)
-            }
+            Call::CarryOn { worker } => { sheet::carry_on(study, &mut lent, tally, *worker) }
             Call::Average {
                 triplet,
                 ids1,
                 ids2,
-            } => sheet::average_triplet(study, weights, flags, marks, tally, *triplet, ids1, ids2),
+            } => sheet::average_triplet(study, &mut lent, tally, *triplet, ids1, ids2),
             Call::Play(played) => return played.play(study, sheet, stored, alloc),
         };
         Ok(answered(sheet, answer))

@@ -24,6 +24,7 @@ impl Tally {
         kernel::ask_tally(self, worker, runs)?;
         Ok(kernel::with_runs(self, worker, runs))
     }
+
     // The number of an answer to a call that took this tally, 0 where the call is done; it becomes the tally that the caller then holds.
     pub fn settle(&mut self, answer: Result<Tally, Refusal>) -> u64
         ensures number { result ≡ number_of answer }
