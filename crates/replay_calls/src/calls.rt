@@ -12,9 +12,6 @@ use sheet::{NamedPiece, Refusal, SheetMut, Study, Tally};
 use sheet_list::Calls;
 use std::alloc::{AllocError, Global};
 
-// The number of an answer whose own answers are not the stored ones: no refusal has it.
-const NOT_STORED: u64 = 30;
-
 // A list of calls that a call plays: its numbers, the lists of ids, and how many answers it has.
 #[derive(Debug, Drop)]
 pub struct Played {
@@ -78,6 +75,7 @@ fn next_run(reader: &mut Reader<'_>) -> Call
 pub fn next_call(reader: &mut Reader<'_>, alloc: Global, kind: CallKind) -> Result<Call, AllocError>
     ensures same_text { reader.new.text ≡ reader.old.text }
 {
+    // kind is an enum: CallKind::try_from has read its number
     match kind {
         CallKind::RunPiece => Ok(next_run(reader)),
         CallKind::CarryOn => Ok(Call::CarryOn {
@@ -97,14 +95,14 @@ fn answered(sheet: &mut Sheet, answer: Result<Tally, Refusal>) -> u64
 }
 
 impl Played {
-    // Plays the list. Its answers and the tallies after them are held to those stored next.
+    // Plays the list. None where its answers and the tallies after them are not those stored next.
     fn play(
         &self,
         study: Study<'_>,
         sheet: &mut Sheet,
         stored: &mut Reader<'_>,
         alloc: Global,
-    ) -> Result<u64, AllocError> {
+    ) -> Result<Option<u64>, AllocError> {
         let mut answers = vec![in alloc; 0; self.answers]?;
         let mut tallies = vec![in alloc; 0; self.answers.saturating_mul(16)]?;
         let tally = sheet.tally;
@@ -119,23 +117,20 @@ impl Played {
         };
         let answer = sheet_list::play(study, &mut lent, tally, calls, &mut answers, &mut tallies);
         let number = answered(sheet, answer);
-        if stored.agrees_with(&answers) & stored.agrees_with(&tallies) {
-            Ok(number)
-        } else {
-            Ok(NOT_STORED)
-        }
+        let are_stored = stored.agrees_with(&answers) & stored.agrees_with(&tallies);
+        Ok(are_stored.then_some(number))
     }
 }
 
 impl Call {
-    // Makes the call on a study's sheet: its number, 0 where it is done. The answers of a list of calls are held to those stored next.
+    // Makes the call on a study's sheet: its number, 0 where it is done; none for a list of calls whose answers are not those stored next.
     pub fn make(
         &self,
         study: Study<'_>,
         sheet: &mut Sheet,
         stored: &mut Reader<'_>,
         alloc: Global,
-    ) -> Result<u64, AllocError> {
+    ) -> Result<Option<u64>, AllocError> {
         let tally = sheet.tally;
         let mut lent = SheetMut {
             weights: &mut sheet.weights,
@@ -154,6 +149,6 @@ impl Call {
             } => sheet::average_triplet(study, &mut lent, tally, *triplet, ids1, ids2),
             Call::Play(played) => return played.play(study, sheet, stored, alloc),
         };
-        Ok(answered(sheet, answer))
+        Ok(Some(answered(sheet, answer)))
     }
 }

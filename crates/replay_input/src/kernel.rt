@@ -1,4 +1,4 @@
-// The readers.
+// What the readers stand on: signs, counts, flags and blocks.
 pub mod stamps;
 
 ghost use Rattle.std.specs.Prelude.{◌≤◌, min, ◌≡◌, length, take};

@@ -69,10 +69,12 @@ impl AnswerCounts {
         }
     }
 
-    // One answer more; a number past the refusals differs from any stored one.
-    pub fn add(&mut self, kind: CallKind, number: u64, agrees: bool) {
-        if let Some(count) = self.by_kind[kind as usize].get_mut(number as usize) {
-            *count = count.saturating_add(1);
+    // One answer more; none where its own answers are not the stored ones, so that it differs.
+    pub fn add(&mut self, kind: CallKind, number: Option<u64>, agrees: bool) {
+        if let Some(number) = number {
+            if let Some(count) = self.by_kind[kind as usize].get_mut(number as usize) {
+                *count = count.saturating_add(1);
+            }
         }
         if !agrees {
             self.differences = self.differences.saturating_add(1);

@@ -5,15 +5,6 @@ use replay_study::owned::next_list;
 use sheet::Counts;
 use std::alloc::{AllocError, Global};
 
-fn next_counts(reader: &mut Reader<'_>) -> Counts {
-    Counts {
-        num_triplets: reader.next_whole(),
-        num_band0: reader.next_whole(),
-        num_band1: reader.next_whole(),
-        num_band2: reader.next_whole(),
-    }
-}
-
 // An open count: type, triplets, points, both band counts, list of the weights, named triplet, then refusal and count.
 pub fn open_case(
     reader: &mut Reader<'_>,
@@ -21,7 +12,12 @@ pub fn open_case(
     answered: &mut AnswerCounts,
 ) -> Result<(), AllocError> {
     let tp_type = reader.next_whole();
-    let open = next_counts(reader);
+    let open = Counts {
+        num_triplets: reader.next_whole(),
+        num_band0: reader.next_whole(),
+        num_band1: reader.next_whole(),
+        num_band2: reader.next_whole(),
+    };
     let weights: Vec<f64> = next_list(reader, alloc)?;
     let triplet = reader.next_whole();
     let refusal = reader.next_count();
@@ -33,10 +29,7 @@ pub fn open_case(
     };
     // the count of an accepted call, 0 of a refused one
     let entries = answer.unwrap_or(0);
-    answered.add(
-        CallKind::OpenCount,
-        number,
-        number == refusal && entries == count,
-    );
+    let agrees = number == refusal && entries == count;
+    answered.add(CallKind::OpenCount, Some(number), agrees);
     Ok(())
 }

@@ -108,8 +108,7 @@ struct ManyPoints {
     points: Vec<i64>,
     steps: Vec<i64>,
     length: usize,
-    refusal: u64,
-    numbers: Vec<i64>,
+    stored: Result<Vec<i64>, u64>,
 }
 
 // The neighbours of many points, in a buffer of the length, held to the stored numbers.
@@ -122,9 +121,12 @@ fn many_case(many: &ManyPoints, alloc: Global, grid: &OwnGrid) -> Result<Judged,
         &many.steps,
         grid.lent(),
     );
-    let refusal = many.refusal;
-    let agrees = status_of(answer) == refusal
-        && out.as_slice() == after_call(refusal, &many.numbers, &before);
+    // a refused call leaves the buffer
+    let (refusal, numbers) = match &many.stored {
+        Ok(numbers) => (0, numbers.as_slice()),
+        Err(refusal) => (*refusal, before.as_slice()),
+    };
+    let agrees = status_of(answer) == refusal && out.as_slice() == numbers;
     Ok(Judged { refusal, agrees })
 }
 
@@ -138,8 +140,7 @@ fn next_many(reader: &mut Reader<'_>, alloc: Global) -> Result<ManyPoints, Alloc
         points,
         steps,
         length,
-        refusal,
-        numbers,
+        stored: stored(refusal, numbers),
     })
 }
 
@@ -154,8 +155,7 @@ fn next_repeated(reader: &mut Reader<'_>, alloc: Global) -> Result<ManyPoints, A
         points,
         steps,
         length,
-        refusal,
-        numbers,
+        stored: stored(refusal, numbers),
     })
 }
 

@@ -105,8 +105,7 @@ struct Asked {
     num_ir: i64,
     grid_points: Vec<i64>,
     length: usize,
-    refusal: u64,
-    weights: Vec<f64>,
+    stored: Result<Vec<f64>, u64>,
 }
 
 fn function_of(number: u64) -> WeightFunction {
@@ -145,8 +144,11 @@ fn weights_judged(
     mark(iw.as_mut_slice());
     let before = iw.clone()?;
     let number = weights_called(iw.as_mut_slice(), grid, study, asked);
-    let refusal = asked.refusal;
-    let agrees = number == refusal && agree(&iw, after_call(refusal, &asked.weights, &before));
+    let (refusal, weights) = match &asked.stored {
+        Ok(weights) => (0, weights.as_slice()),
+        Err(refusal) => (*refusal, before.as_slice()),
+    };
+    let agrees = number == refusal && agree(&iw, weights);
     Ok(Judged { refusal, agrees })
 }
 
@@ -164,8 +166,7 @@ fn next_weights(reader: &mut Reader<'_>, alloc: Global) -> Result<Asked, AllocEr
         num_ir,
         grid_points,
         length,
-        refusal,
-        weights,
+        stored: stored(refusal, weights),
     })
 }
 
@@ -184,8 +185,7 @@ fn next_repeated(reader: &mut Reader<'_>, alloc: Global) -> Result<Asked, AllocE
         num_ir,
         grid_points,
         length,
-        refusal,
-        weights,
+        stored: stored(refusal, weights),
     })
 }
 

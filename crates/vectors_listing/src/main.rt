@@ -35,20 +35,16 @@ fn are_stored(reader: &mut Reader<'_>, weights: &[f64], flags: &[i8]) -> bool {
     reader.agrees_with(weights) & reader.agrees_with(flags)
 }
 
-fn next_counts(reader: &mut Reader<'_>) -> Counts {
-    Counts {
-        num_triplets: reader.next_whole(),
-        num_band0: reader.next_whole(),
-        num_band1: reader.next_whole(),
-        num_band2: reader.next_whole(),
-    }
-}
-
 // The call on two buffers, compared with what is stored for it.
 fn listing_case(reader: &mut Reader<'_>, alloc: Global) -> Result<Judged, AllocError> {
     let refusal = reader.next_count();
     let tp_type = reader.next_whole();
-    let counts = next_counts(reader);
+    let counts = Counts {
+        num_triplets: reader.next_whole(),
+        num_band0: reader.next_whole(),
+        num_band1: reader.next_whole(),
+        num_band2: reader.next_whole(),
+    };
     let num_weights = at_most(reader.next_count(), MOST);
     let num_flags = at_most(reader.next_count(), MOST);
     let size = reader.next_count();

@@ -104,7 +104,7 @@ impl<'a> Run<'a> {
         let refusal = self.record.next_count();
         let tally = self.record.agrees_with(&self.sheet.tally.runs);
         let content = self.agrees();
-        counts.add(kind, number, number == refusal && tally && content);
+        counts.add(kind, number, number == Some(refusal) && tally && content);
         Ok(())
     }
 }
