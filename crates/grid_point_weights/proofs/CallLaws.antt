@@ -23,8 +23,8 @@ use Rattle.grid_point_weights.specs.Weights.{Sound}
 use Rattle.grid_point_weights.specs.Calls.{GridPointCall, study_of, points_asked, grid_point_questions}
 
 module _ (bands : ℤ) (points gridPoints : ℕ) (e : are_counts bands bands (pos points) (pos gridPoints) ≡ true) where
-  pub bands-some : 1 ≤ mag bands
-  bands-some = bands1-low bands bands (pos points) (pos gridPoints) e
+  pub bands_some : 1 ≤ mag bands
+  bands_some = bands1-low bands bands (pos points) (pos gridPoints) e
 
   points-some : 1 ≤ points
   points-some = points-low bands bands (pos points) (pos gridPoints) e
@@ -33,8 +33,8 @@ module _ (bands : ℤ) (points gridPoints : ℕ) (e : are_counts bands bands (po
   points-few = points-high bands bands (pos points) (pos gridPoints) e
 
   -- the entries of one grid point: some, and not many
-  pub size-some : 1 ≤ points * mag bands
-  size-some = omega (arith, mul-le-mul points-some bands-some)
+  pub size_some : 1 ≤ points * mag bands
+  size_some = omega (arith, mul-le-mul points-some bands_some)
 
   pub size_few : points * mag bands ≤ 65536
   size_few = omega (arith, mul-le-mul points-few (bands1-high bands bands (pos points) (pos gridPoints) e))
