@@ -10,6 +10,7 @@ use numbers::kernel::magnitude;
 use question_values::kernel::counts;
 
 // Questions 7 and 9 to 12.
+#[tactic(auto, using(list_laws::proofs::BoolLaws::yes_of, list_laws::proofs::BoolLaws::no_of, crate::proofs::CallLaws::bands_some, crate::proofs::CallLaws::size_some, crate::proofs::CallLaws::size_few), unfolding(ask::specs::Ask::first_no))]
 fn ask_points(study: GridPointStudy, grid_points: &[i64], iw: &[f64]) -> Result<(), Refusal>
     ensures { result ≡ answer_of (first_no (points_asked (call_of study.entry grid_points.now) (length iw.now))) tt }
 {

@@ -20,6 +20,7 @@ fn norm_squared(a: [f64; 3]) -> f64
 }
 
 // The squared length of main diagonal i.
+#[tactic(auto, unfolding(crate::specs::Diagonal::length_of))]
 fn length_of(rec_lattice: [[f64; 3]; 3], i: usize) -> f64
     requires { i < 4 }
     ensures { result ≡ length_of rec_lattice i }

@@ -19,6 +19,7 @@ pub struct NeighbourTable {
 }
 
 // The table whose main diagonal is shortest. Question 2.
+#[tactic(auto, using(list_laws::proofs::BoolLaws::yes_of, list_laws::proofs::BoolLaws::no_of, crate::proofs::DiagonalLaws::main_diagonal_lt), unfolding(ask::specs::Ask::first_no, crate::specs::Answer::table_answer))]
 pub fn relative_grid_address(rec_lattice: [[f64; 3]; 3]) -> Result<NeighbourTable, Refusal>
     ensures { result ≡ table_answer rec_lattice }
 {
@@ -32,6 +33,7 @@ pub fn relative_grid_address(rec_lattice: [[f64; 3]; 3]) -> Result<NeighbourTabl
 }
 
 // All four tables, one after the other.
+#[tactic(auto, unfolding(crate::specs::Answer::all_tables))]
 pub fn all_relative_grid_address() -> [i64; 1152]
     ensures { result ≡ all_tables }
 {

@@ -8,8 +8,7 @@ use Rattle.std.proofs.Common.{rules}
 use Rattle.std.proofs.lemmas.Result.{err_from_is_err_and}
 use Rattle.ask.proofs.AskLaws.{after-done, after-refused}
 use Rattle.ask.proofs.RefusalLaws.{done-is, given-is, refused-not}
-use Rattle.question_grids.proofs.TableLaws.{rows-most}
-use Rattle.grid_point_weights.proofs.CallLaws.{passed}
+use Rattle.grid_point_weights.proofs.CallLaws.{ok_rows, ok_sound, ok_fits}
 use Rattle.grid_point_weights.specs.Calls.{call_of}
 use Rattle.grid_point_weights.proofs.integration_weights_at_grid_points.Goals as goal
 
@@ -21,8 +20,7 @@ returns-in_err-ask_weights c =
 
 pub invariant_of-rows : goal.invariant_of-rows
 invariant_of-rows c =
-    let g : _ = rw c.in_ok-ask_weights.was at c.ask_weights.ensures in
-    record { few = rows-most c.args.study.relative_grid_address.now (passed (call_of c.args.study c.args.grid_points.now) (length c.args.iw.now) (given-is _ _ tt g).0).0.tabled }
+    record { few = ok_rows (call_of c.args.study c.args.grid_points.now) (length c.args.iw.now) c.ask_weights.ensures c.in_ok-ask_weights.was }
 
 pub invariant_of-tested-clause-sound : goal.invariant_of-tested-clause-sound
 invariant_of-tested-clause-sound c =
@@ -30,15 +28,13 @@ invariant_of-tested-clause-sound c =
     let b : SFits w64 c.args.study.num_band = search rules in
     let e : _ = rw (to_z-of_z w64 c.args.study.grid.bz_grid_type k) at c.grid_of.ensures in
     let f : _ = rw (to_z-of_z w64 c.args.study.num_band b) at c.magnitude.ensures in
-    let g : _ = rw c.in_ok-ask_weights.was at c.ask_weights.ensures in
-    rw (e, f) (passed (call_of c.args.study c.args.grid_points.now) (length c.args.iw.now) (given-is _ _ tt g).0).0
+    rw (e, f) (ok_sound (call_of c.args.study c.args.grid_points.now) (length c.args.iw.now) c.ask_weights.ensures c.in_ok-ask_weights.was)
 
 pub fill_all-requires : goal.fill_all-requires
 fill_all-requires c =
     let b : SFits w64 c.args.study.num_band = search rules in
     let f : _ = rw (to_z-of_z w64 c.args.study.num_band b) at c.magnitude.ensures in
-    let g : _ = rw c.in_ok-ask_weights.was at c.ask_weights.ensures in
-    rw f (passed (call_of c.args.study c.args.grid_points.now) (length c.args.iw.now) (given-is _ _ tt g).0).1
+    rw f (ok_fits (call_of c.args.study c.args.grid_points.now) (length c.args.iw.now) c.ask_weights.ensures c.in_ok-ask_weights.was)
 
 pub returns : goal.returns
 returns c =

@@ -33,9 +33,6 @@ room c =
 pub loop-i-init : goal.loop-i-init
 loop-i-init c = (omega arith, refl, rw (zero-mul (size_of (goal.at.loop-i-init c).Start)) (rows_none (filled (goal.at.loop-i-init c).Start) c.args.iw.now))
 
-pub overflow_mul-start : goal.overflow_mul-start
-overflow_mul-start c = omega (arith, room (goal.at.overflow_mul-start c).In-loop-i)
-
 pub fill_point-requires : goal.fill_point-requires
 fill_point-requires c =
     let on-grid = grid-points-at (triples_in c.args.study.now.lent.grid.addresses.now) c.args.grid_points.now c.requires.0 c.loop-i.i c.loop-i-test.true in
