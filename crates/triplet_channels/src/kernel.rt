@@ -1,6 +1,6 @@
 // Channels and outputs at a frequency point, of work areas whose rows are in order.
 ghost use Rattle.std.specs.Prelude.{◌≡◌, ◌*◌};
-ghost use Rattle.triplet_values.specs.Values.{channel_values};
+ghost use Rattle.triplet_values.specs.Values.{channel_values, number_of};
 ghost use Rattle.triplet_channels.specs.Ordered.{further_rows, ordered_channel_at, ordered_further_at, outputs_ordered, Prepared};
 
 use crate::{Channel, Channels};
@@ -10,18 +10,19 @@ use tetrahedron_sort::Rows;
 use triplet_outputs::Outputs;
 use triplet_outputs::kernel::{combine_outputs, is_open};
 use triplet_types::TpType;
+use triplet_values::Combination;
 
 // Makes a channel ready: its values at the corners, of frequencies f1 and f2 there, their box, and then the rows in order.
 pub fn prepare_channel(
     channel: &mut Channel,
-    number: usize,
+    combination: Combination,
     f1: &[f64; 384],
     f2: &[f64; 384],
     rows: Rows,
 )
-    ensures { Prepared rows.count (channel_values number f1.now f2.now (rows.count * 4)) channel.new }
+    ensures { Prepared rows.count (channel_values (number_of combination) f1.now f2.now (rows.count * 4)) channel.new }
 {
-    triplet_values::kernel::fill_channel(&mut channel.values, number, f1, f2, rows);
+    triplet_values::kernel::fill_channel(&mut channel.values, combination, f1, f2, rows);
     channel.bounds = triplet_values::kernel::box_of(&channel.values, rows);
     sort_rows(&mut channel.values, &mut channel.places, rows);
 }

@@ -12,8 +12,9 @@ use triplet_piece::kernel::{corners_of, fill_piece};
 use triplet_piece::{Piece, WorkAreas};
 use triplet_study::{Study, TestedStudy};
 
-// All pieces of triplet `t`: its corners are looked up once. `second` is the second copy of the steps.
+// All pieces of triplet `t`: its corners are looked up once. `second` is the second copy of the steps; the work areas are lent.
 pub fn fill_triplet(
+    areas: &mut WorkAreas,
     weights: &mut [f64],
     flags: &mut [i8],
     tested: &TestedStudy,
@@ -26,7 +27,6 @@ pub fn fill_triplet(
     ensures { Computes (study_of tested.now.study) (λ n. eqb (n / tested.now.sizes.pairs) t) weights flags }
 {
     let corners = corners_of(tested, second, t);
-    let mut areas = WorkAreas::new();
     let bands2 = tested.sizes.bands2;
     for k in 0..tested.sizes.pairs {
         let piece = Piece {
@@ -34,7 +34,7 @@ pub fn fill_triplet(
             b1: k / bands2,
             b2: k % bands2,
         };
-        fill_piece(&mut areas, weights, flags, tested, &corners, piece);
+        fill_piece(areas, weights, flags, tested, &corners, piece);
     }
 }
 
@@ -45,8 +45,16 @@ pub fn fill_tested(weights: &mut [f64], flags: &mut [i8], tested: &TestedStudy)
 {
     let steps = tested.study.relative_grid_address;
     let second = triplet_corners::kernel::second_steps(tested.sizes.tp, tested.steps());
+    let mut areas = WorkAreas::new();
     for t in 0..tested.sizes.triplets {
-        fill_triplet(weights, flags, tested, &second[..steps.len()], t);
+        fill_triplet(
+            &mut areas,
+            weights,
+            flags,
+            tested,
+            &second[..steps.len()],
+            t,
+        );
     }
 }
 

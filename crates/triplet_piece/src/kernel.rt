@@ -14,8 +14,8 @@ use triplet_channels::Channels;
 use triplet_channels::kernel::{further_rows, prepare_channel};
 use triplet_outputs::Outputs;
 use triplet_study::{TestedSteps, TestedStudy};
-use triplet_values::Band;
 use triplet_values::kernel::fill_frequencies;
+use triplet_values::{Band, Combination};
 
 // The corners of triplet `t`, looked up; `second` is the second copy of the steps.
 pub fn corners_of(tested: &TestedStudy, second: &[i64], t: usize) -> Corners
@@ -113,9 +113,21 @@ fn prepare(areas: &mut WorkAreas, tested: &TestedStudy, corners: &Corners, piece
     let f1 = &areas.frequencies1;
     let f2 = &areas.frequencies2;
     let further = further_rows(tp, rows);
-    prepare_channel(&mut areas.channels.first, 0, f1, f2, rows);
-    prepare_channel(&mut areas.channels.second, 1, f1, f2, further);
-    prepare_channel(&mut areas.channels.third, 2, f1, f2, further);
+    prepare_channel(
+        &mut areas.channels.first,
+        Combination::SecondLessFirst,
+        f1,
+        f2,
+        rows,
+    );
+    prepare_channel(
+        &mut areas.channels.second,
+        Combination::FirstLessSecond,
+        f1,
+        f2,
+        further,
+    );
+    prepare_channel(&mut areas.channels.third, Combination::Sum, f1, f2, further);
 }
 
 // Writes a piece: its weights in every channel and its flag, at every point. Its corners and the work areas are lent.

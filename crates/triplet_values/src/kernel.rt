@@ -1,8 +1,8 @@
 // Corner values of a band pair, in work areas of 384 floats, and their boxes.
 ghost use Rattle.std.specs.Prelude.{◌≡◌, ◌+◌, ◌*◌, ◌<◌, ◌≤◌, length};
-ghost use Rattle.triplet_values.specs.Values.{clamped, corner_frequency, corner_frequencies, combined, channel_values, Held, Begun, lesser, greater, box_of};
+ghost use Rattle.triplet_values.specs.Values.{clamped, corner_frequency, corner_frequencies, number_of, combined, channel_values, Held, Begun, lesser, greater, box_of};
 
-use crate::{Band, ValueBox};
+use crate::{Band, Combination, ValueBox};
 use tetrahedron_sort::Rows;
 use triplet_types::TpType;
 
@@ -42,25 +42,25 @@ pub fn fill_frequencies(
 }
 
 // The value of a channel at a corner.
-fn combine(channel: usize, f1: f64, f2: f64) -> f64
-    ensures { result ≡ combined channel f1 f2 }
+fn combine(channel: Combination, f1: f64, f2: f64) -> f64
+    ensures { result ≡ combined (number_of channel) f1 f2 }
 {
     match channel {
-        0 => -f1 + f2,
-        1 => f1 - f2,
-        _ => f1 + f2,
+        Combination::SecondLessFirst => -f1 + f2,
+        Combination::FirstLessSecond => f1 - f2,
+        Combination::Sum => f1 + f2,
     }
 }
 
 // The values of a channel at the corners, in front of a work area.
 pub fn fill_channel(
     a: &mut [f64; 384],
-    channel: usize,
+    channel: Combination,
     f1: &[f64; 384],
     f2: &[f64; 384],
     rows: Rows,
 )
-    ensures { Begun (rows.count * 4) a.new (channel_values channel f1.now f2.now (rows.count * 4)) }
+    ensures { Begun (rows.count * 4) a.new (channel_values (number_of channel) f1.now f2.now (rows.count * 4)) }
 {
     for i in 0..rows.corners() {
         a[i] = combine(channel, f1[i], f2[i]);

@@ -11,6 +11,17 @@ pub struct ValueBox {
     pub fmax: f64,
 }
 
+// What a channel makes of two frequencies f1 and f2.
+#[derive(Clone, Copy)]
+pub enum Combination {
+    // -f1+f2
+    SecondLessFirst,
+    // f1-f2
+    FirstLessSecond,
+    // f1+f2
+    Sum,
+}
+
 // One band of a list of frequencies, which lie by grid point and band.
 #[derive(Clone, Copy)]
 pub struct Band<'a> {
