@@ -24,8 +24,8 @@ loop-r-preserved c =
     let within = row_within {n = c.args.n} {r = c.loop-r.r} {left = c.args.block.left} {right = c.args.block.right} c.requires.m_len.0 (omega arith) (omega arith) (omega arith) in
     let long : length (take (to - from) (drop from m)) ≡ to - from = length-take-le (to - from) (drop from m) (omega (arith, length-drop from m, within)) in
     let row : c.row_sum-sum.result ≡ row_sum plus_zero m from wide =
-        c.row_sum-sum.ensures ∙ part-sum plus_zero m from (to - from) (length (take (to - from) (drop from m))) (omega (arith, long))
-        ∙ ap (row_sum plus_zero m from) (omega (arith, long)) in
+    c.row_sum-sum.ensures ∙ part-sum plus_zero m from (to - from) (length (take (to - from) (drop from m))) (omega (arith, long))
+    ∙ ap (row_sum plus_zero m from) (omega (arith, long)) in
     ap (λ (x : Float). add binary64 x c.row_sum-sum.result) c.loop-r.invariant
     ∙ ap (add binary64 (block_sum plus_zero m c.args.n c.args.block.top c.args.block.left wide (c.loop-r.r - c.args.block.top))) row
     ∙ sum_more plus_zero m c.args.n c.args.block.top c.args.block.left wide c.loop-r.r (omega arith)
