@@ -1,7 +1,7 @@
 -- The digits of a number, counted and compared from the last on. Assumes nothing.
 use Prim.Native.Nat.{ℕ, zero, suc, ◌+◌, ◌-◌, ◌/◌, ◌%◌, ◌^◌, ◌*◌, ◌≤◌, ◌<◌}
 use mathlib.Core.Path.{◌≡◌, refl, sym, ap, ◌∙◌}
-use mathlib.Core.List.{List, ◌∷◌, ◌++◌, append-nil}
+use mathlib.Core.List.{List, ◌∷◌, ◌++◌}
 use native.Mathlib.Nat.{mod-lt, pow-succ'}
 use native.Mathlib.Omega.{arith}
 use lib.ListN.{length, get_or, take, drop}
@@ -66,7 +66,3 @@ module _ (n k m i at : ℕ) (text : List ℕ) (e : last_digits 10 k n ≡ last_d
       ∙ (ap (λ (x : List ℕ). get_or x (i - 1) 0) (s ∙ parted (i - 1) p)
       ∙ get_or_at (last_digits 10 (i - 1) (m / 10)) (48 + m % 10) (take (k - i) (drop (at + i) text)) 0 (i - 1) (length_digits 10 (i - 1) (m / 10))))
       )
-
--- all digits, at first
-pub digits-all : (n k at : ℕ) (text : List ℕ) → last_digits 10 k n ≡ last_digits 10 k n ++ take (k - k) (drop (at + k) text)
-digits-all n k at text = let q : k - k ≡ 0 = omega arith in rw q (sym (append-nil (last_digits 10 k n)))

@@ -16,10 +16,10 @@ pub struct Reader<'a> {
 fn places_of(n: u64) -> usize
     ensures { result ≡ places 19 n }
 {
-    match n.checked_ilog10() {
-        Some(power) => power as usize + 1,
-        None => 1,
+    if n < 10 {
+        return 1;
     }
+    n.ilog10() as usize + 1
 }
 
 impl<'a> Reader<'a> {

@@ -4,8 +4,8 @@ use native.Mathlib.Omega.{arith}
 use Rattle.reading.proofs.DigitLaws.{places-last, places_power}
 use Rattle.reading.proofs.kernel.places_of.Goals as goal
 
-pub returns-in-Some : goal.returns-in-Some
-returns-in-Some c = sym (places_power 19 c.in-Some.power c.args.n (omega (arith, c.in-Some.ensures.bound)) c.in-Some.ensures.power_le c.in-Some.ensures.next_power_gt)
+pub returns-then-n-lt10 : goal.returns-then-n-lt10
+returns-then-n-lt10 c = sym (places-last 19 c.args.n (omega arith))
 
-pub returns-in-None : goal.returns-in-None
-returns-in-None c = sym (places-last 19 c.args.n (omega (arith, c.in-None.ensures.none)))
+pub returns : goal.returns
+returns c = sym (places_power 19 c.ilog10.result c.args.n (omega (arith, c.ilog10.ensures.bound)) c.ilog10.ensures.power_le c.ilog10.ensures.next_power_gt)

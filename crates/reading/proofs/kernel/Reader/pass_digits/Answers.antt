@@ -5,16 +5,13 @@ use mathlib.Core.Path.{◌≡◌, refl, sym}
 use native.Mathlib.Omega.{arith}
 use Rattle.io.specs.Digits.{last_digits}
 use Rattle.text.proofs.RoundTrip.{length_digits}
-use Rattle.reading.proofs.DigitLaws.{digit-other, digit-same, digits-all}
+use Rattle.reading.proofs.DigitLaws.{digit-other, digit-same}
 use Rattle.reading.proofs.PassedLaws.{Stand, no-room}
 use Rattle.reading.proofs.ReaderLaws.{passes-no, passes-yes}
 use Rattle.reading.proofs.kernel.Reader.pass_digits.Goals as goal
 
 pub returns-then-self-at : goal.returns-then-self-at
 returns-then-self-at c = passes-no refl (no-room (last_digits 10 c.args.k c.args.n) c.args.self.now.at c.args.self.now.text.now (omega (arith, length_digits 10 c.args.k c.args.n)) (omega arith))
-
-pub loop-i-init : goal.loop-i-init
-loop-i-init c = digits-all c.args.n c.args.k c.args.self.now.at c.args.self.now.text.now
 
 pub returns-then-self-at-2 : goal.returns-then-self-at-2
 returns-then-self-at-2 c = passes-no refl (digit-other c.args.n c.args.k c.loop-i.m c.loop-i.i c.args.self.now.at c.args.self.now.text.now c.loop-i.invariant (omega arith) (omega arith) c.if-self-at-2.true)
