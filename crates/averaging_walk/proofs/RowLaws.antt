@@ -12,7 +12,6 @@ use Rattle.list_laws.specs.Matrix.{Filled}
 use lib.Ieee.{Float, nan, binary64, add}
 use lib.IntN.{ℤ, pos}
 use mathlib.Core.Bool.{◌||◌}
-use Rattle.list_laws.specs.Lists.{at}
 use Rattle.list_laws.specs.Signed.{eq_z}
 use Rattle.averaging_blocks.specs.Weights.{row_sum}
 use Rattle.averaging_flags.specs.Flags.{row_has_zero}

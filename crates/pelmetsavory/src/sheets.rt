@@ -11,7 +11,7 @@ use crate::Piece;
 use sheet::{Counts, NamedPiece, Shape, SheetMut, Study, Tally};
 
 // Runs one piece, and counts it behind `tally` for its worker, 0 to 15. Questions 3 to 15, 21, 20.
-// Seven parameters or more, since C hands over each list and number by itself.
+// Its parameters are the C interface: a struct in their place would be another version of it.
 #[unsafe(no_mangle)]
 pub extern "C" fn pelmetsavory_run_piece(
     shape: Shape,
@@ -63,7 +63,7 @@ pub extern "C" fn pelmetsavory_run_piece(
 
 // Runs all pieces marked 0, in ascending order, and counts them behind `tally` for their worker, 0 to 15.
 // Questions 3 to 13, 21, 20.
-// Seven parameters or more, since C hands over each list and number by itself.
+// Its parameters are the C interface: a struct in their place would be another version of it.
 #[unsafe(no_mangle)]
 pub extern "C" fn pelmetsavory_carry_on(
     shape: Shape,
@@ -108,7 +108,7 @@ pub extern "C" fn pelmetsavory_carry_on(
 }
 
 // Averages a triplet over the degenerate sets of two id lists; all counts stay, and it names no worker. Questions 3 to 19.
-// Seven parameters or more, since C hands over each list and number by itself.
+// Its parameters are the C interface: a struct in their place would be another version of it.
 #[unsafe(no_mangle)]
 pub extern "C" fn pelmetsavory_average_triplet(
     shape: Shape,

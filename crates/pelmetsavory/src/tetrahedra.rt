@@ -16,7 +16,7 @@ use question_grids::Grid as LentGrid;
 
 // The weights of each band at each frequency point, for each grid point; `letter` 'I' (73) asks for the density's weight, any other byte for
 // that of the number of states, J. Questions 3 to 7, 9 to 12.
-// Seven parameters or more, since C hands over each list and number by itself.
+// Its parameters are the C interface: a struct in their place would be another version of it.
 #[unsafe(no_mangle)]
 pub extern "C" fn pelmetsavory_integration_weights_at_grid_points(
     iw: &mut [f64],

@@ -29,7 +29,7 @@ fn status_of_triplet(study: Study, triplet: [i64; 3], weights: &mut [f64], flags
 }
 
 // The weights and flags of all triplets. Questions 3 to 12.
-// Seven parameters or more, since C hands over each list and number by itself.
+// Its parameters are the C interface: a struct in their place would be another version of it.
 #[unsafe(no_mangle)]
 pub extern "C" fn pelmetsavory_integration_weight(
     shape: Shape,
@@ -60,7 +60,7 @@ pub extern "C" fn pelmetsavory_integration_weight(
 }
 
 // The weights and flags of one triplet. Questions 3 to 12.
-// Seven parameters or more, since C hands over each list and number by itself.
+// Its parameters are the C interface: a struct in their place would be another version of it.
 #[unsafe(no_mangle)]
 pub extern "C" fn pelmetsavory_integration_weight_per_triplet(
     shape: Shape,
@@ -92,7 +92,7 @@ pub extern "C" fn pelmetsavory_integration_weight_per_triplet(
 }
 
 // Averages the weights and the flags of one triplet in place. Questions 8, 9, 12, 17, 19.
-// Seven parameters or more, since C hands over each list and number by itself.
+// Its parameters are the C interface: a struct in their place would be another version of it.
 #[unsafe(no_mangle)]
 pub extern "C" fn pelmetsavory_average_weights_over_degenerate_sets(
     iw: &mut [f64],

@@ -1,13 +1,11 @@
 -- `sheet_averaging::average_triplet` meets its contract.
-use lib.ListN.{length}
-use mathlib.Core.Path.{◌≡◌, sym, ap, ◌∙◌}
+use mathlib.Core.Path.{◌≡◌}
 use mir.Syntax.{w64}
 use mir.ValLaws.{to_z-of_z}
-use native.Mathlib.Omega.{arith}
 use Rattle.std.proofs.lemmas.Result.{err_from_is_err_and}
 use Rattle.ask.proofs.RefusalLaws.{given-is}
-use Rattle.sheet_step.proofs.EntryLaws.{tested-did, tested-steps, tested-yes}
-use Rattle.sheet_step.proofs.StepLaws.{common-refused, done-did}
+use Rattle.sheet_step.proofs.EntryLaws.{tested-did, tested-yes}
+use Rattle.sheet_step.proofs.StepLaws.{common-refused}
 use Rattle.triplet_study.specs.Lent.{study_of}
 use Rattle.sheet_step.specs.Steps.{Sheet, sheet, average}
 use Rattle.sheet_averaging.proofs.average_triplet.Goals.{Start}

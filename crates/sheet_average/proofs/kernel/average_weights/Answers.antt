@@ -1,5 +1,5 @@
 -- `sheet_average::kernel::average_weights` meets its contract.
-use Prim.Native.Nat.{ℕ, ◌*◌, ◌+◌, ◌≤◌}
+use Prim.Native.Nat.{◌*◌, ◌+◌, ◌≤◌}
 use lib.Ieee.{nan}
 use lib.ListN.{length}
 use mathlib.Core.Path.{◌∙◌}

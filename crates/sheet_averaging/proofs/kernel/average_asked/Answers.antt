@@ -1,6 +1,6 @@
 -- `sheet_averaging::kernel::average_asked` meets its contract.
 use lib.Signed.{mag}
-use mathlib.Core.Path.{◌∙◌, ◌≡◌, ap, sym}
+use mathlib.Core.Path.{◌∙◌, ap}
 use mir.Syntax.{w64}
 use mir.ValLaws.{to_z-of_z}
 use Rattle.std.proofs.lemmas.Result.{err_from_is_err_and}

@@ -1,13 +1,9 @@
 -- `sheet_calls::parts::call_of` meets its contract.
-use lib.IntN.{ℤ, pos}
-use lib.ListN.{get_or, length}
+use lib.IntN.{ℤ}
 use mathlib.Core.Path.{◌∙◌, ◌≡◌, ap, sym}
 use mir.Syntax.{w64}
-use mir.Val.{of_z, to_z, SFits}
 use mir.Facts.{to_z-of_z}
 use borrow.Author.Rules.{rules}
-use native.Mathlib.Omega.{arith}
-use Prim.Native.Nat.{ℕ, ◌<◌}
 use Rattle.list_laws.specs.Lists.{at}
 use Rattle.list_laws.specs.Signed.{is_nat}
 use Rattle.sheet_calls.proofs.CallLaws.{call-average, call-carry, call-run}

@@ -1,10 +1,9 @@
 -- `averaging_walk::kernel::flags::row_has_zero` meets its contract.
 use mathlib.Core.Path.{◌∙◌, ap, sym}
 use native.Mathlib.Omega.{arith}
-use lib.IntN.{ℤ, pos}
+use lib.IntN.{pos}
 use lib.ListN.{length}
 use lib.Seq.{take-length}
-use mathlib.Core.List.{List}
 use Rattle.std.specs.List.{list_any}
 use Rattle.std.specs.Ordering.{int_eq}
 use Rattle.averaging_flags.proofs.FlagLaws.{row-zero, equal-zero}

@@ -1,5 +1,5 @@
 -- `averaging_walk::kernel::weights::row_sum` meets its contract: at each turn `sum` is the sum of the weights so far.
-use mathlib.Core.Path.{◌≡◌, refl, ap, ◌∙◌}
+use mathlib.Core.Path.{refl, ap, ◌∙◌}
 use Prim.Native.Nat.{ℕ, ◌+◌}
 use native.Mathlib.Numerals.{add-one}
 use native.Mathlib.Omega.{arith}
