@@ -14,7 +14,7 @@ fn part_ok(ids: &[i64], start: i64, end: i64) -> bool
 {
     let s = numbers::kernel::magnitude(start);
     let e = numbers::kernel::magnitude(end);
-    numbers::kernel::nonneg(start) & numbers::kernel::nonneg(end) & (s <= e) & (e <= ids.len())
+    (0 <= start) & (0 <= end) & (s <= e) & (e <= ids.len())
 }
 
 // The ids from `start` to `end`, or none.
