@@ -95,16 +95,16 @@ module _ (t : TestedStudy) (c : Corners) (p : Piece) (e : AreCornersOf (study_of
       rw (e.1, t.counts, rows_of s, bands2-of s)
       (corners-held (grid_in s) s.addresses s.gp-map keeps.grid (second_steps (tp_in s) s.steps) _ (rows_in s.steps) (bands2_in s) p.b2 (length s.frequencies2) (second-length (tp_in s) s.steps ∙ keeps.rows_whole) keeps.held2 k)
 
-  pub is-held : IsHeld t c p
+  pub is-held : IsHeld t.sizes s.frequencies1 s.frequencies2 c p
   is-held = (held_first, held-second)
 
   -- written by its corners it is computed
   pub corners-computed : {w : List Float} {f : List ℤ} {w' : List Float} {f' : List ℤ}
-      → AreWritten t.sizes (number_of t.sizes p) (outputs_of_piece t c p) w f w' f' → AreComputed s (λ n. eqb n (number_of t.sizes p)) w f w' f'
+      → AreWritten t.sizes (number_of t.sizes p) (outputs_of_piece t.sizes s.frequencies1 s.frequencies2 s.points c p) w f w' f' → AreComputed s (λ n. eqb n (number_of t.sizes p)) w f w' f'
   unfolding outputs_of
   corners-computed = written-computed s t.counts p.triplet p.b1 p.b2 outs h.1.0 h.1.1 refl
     where
-      outs : (x : ℕ) → outputs_of_piece t c p x ≡ outputs_of s p.triplet p.b1 p.b2 x
+      outs : (x : ℕ) → outputs_of_piece t.sizes s.frequencies1 s.frequencies2 s.points c p x ≡ outputs_of s p.triplet p.b1 p.b2 x
       outs x = rw (e.0, e.1, t.counts)
 
 -- ---- the pieces of a triplet
@@ -121,7 +121,7 @@ module _ (t : TestedStudy) (q k : ℕ) (hq : q < t.sizes.triplets) (hk : k < t.s
   pub pieces_more : (c : Corners) → AreCornersOf (study_of t.study) q c
       → {w₀ : List Float} {f₀ : List ℤ} {w : List Float} {f : List ℤ} {w' : List Float} {f' : List ℤ}
       → AreComputed (study_of t.study) (in_triplet t.sizes.pairs q k) w₀ f₀ w f
-      → AreWritten t.sizes (number_of t.sizes (piece_of t.sizes q k)) (outputs_of_piece t c (piece_of t.sizes q k)) w f w' f'
+      → AreWritten t.sizes (number_of t.sizes (piece_of t.sizes q k)) (outputs_of_piece t.sizes t.study.frequencies1.now t.study.frequencies2.now t.study.frequency_points.now c (piece_of t.sizes q k)) w f w' f'
       → AreComputed (study_of t.study) (in_triplet t.sizes.pairs q (k + 1)) w₀ f₀ w' f'
   pieces_more c e a b =
       let n : ℕ = number_of t.sizes (piece_of t.sizes q k) in

@@ -27,6 +27,7 @@ pub fn fill_triplet(
     ensures { Computes (study_of tested.now.study) (λ n. eqb (n / tested.now.sizes.pairs) t) weights flags }
 {
     let corners = corners_of(tested, second, t);
+    let counted = tested.counted();
     let bands2 = tested.sizes.bands2;
     for k in 0..tested.sizes.pairs {
         let piece = Piece {
@@ -34,7 +35,7 @@ pub fn fill_triplet(
             b1: k / bands2,
             b2: k % bands2,
         };
-        fill_piece(areas, weights, flags, tested, &corners, piece);
+        fill_piece(areas, weights, flags, &counted, &corners, piece);
     }
 }
 

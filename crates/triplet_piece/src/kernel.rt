@@ -13,7 +13,7 @@ use tetrahedron_sort::Rows;
 use triplet_channels::Channels;
 use triplet_channels::kernel::{further_rows, prepare_channel};
 use triplet_outputs::Outputs;
-use triplet_study::{TestedSteps, TestedStudy};
+use triplet_study::{CountedStudy, TestedSteps, TestedStudy};
 use triplet_values::kernel::fill_frequencies;
 use triplet_values::{Band, Combination};
 
@@ -63,20 +63,19 @@ fn put_weights(weights: &mut [f64], cells: usize, channels: usize, cell: usize, 
 fn fill_points(
     weights: &mut [f64],
     flags: &mut [i8],
-    tested: &TestedStudy,
+    study: &CountedStudy,
     t: usize,
     pair: usize,
     channels: &Channels,
 )
-    requires counted { Counted tested.now.sizes }
-    requires fits { Fitting tested.now.sizes (length tested.now.study.frequency_points.now) (length weights.old) (length flags.old) }
-    requires on_study { (t < tested.now.sizes.triplets) × (pair < tested.now.sizes.pairs) }
-    ensures { WritesPiece tested.now.sizes (t * tested.now.sizes.pairs + pair)
-        (outputs_of_sorted tested.now.sizes tested.now.study.frequency_points.now channels.now)
+    requires fits { Fitting study.now.sizes (length study.now.frequency_points.now) (length weights.old) (length flags.old) }
+    requires on_study { (t < study.now.sizes.triplets) × (pair < study.now.sizes.pairs) }
+    ensures { WritesPiece study.now.sizes (t * study.now.sizes.pairs + pair)
+        (outputs_of_sorted study.now.sizes study.now.frequency_points.now channels.now)
         weights flags }
 {
-    let z = tested.sizes;
-    let points = tested.study.frequency_points;
+    let z = study.sizes;
+    let points = study.frequency_points;
     let rows = Rows { count: z.rows };
     for x in 0..z.points {
         let cell = (t * z.points + x) * z.pairs + pair;
@@ -89,23 +88,22 @@ fn fill_points(
 
 // The frequencies of the piece's bands at the corners, and its channels made ready: each row is put in order once, and type 4
 // makes the first channel alone.
-fn prepare(areas: &mut WorkAreas, tested: &TestedStudy, corners: &Corners, piece: Piece)
-    requires counted { Counted tested.now.sizes }
-    requires held { IsHeld tested.now corners.now piece }
-    ensures { (x : _) → outputs_of_sorted tested.now.sizes tested.now.study.frequency_points.now areas.new.channels x ≡ outputs_of_piece tested.now corners.now piece x }
+fn prepare(areas: &mut WorkAreas, study: &CountedStudy, corners: &Corners, piece: Piece)
+    requires held { IsHeld study.now.sizes study.now.frequencies1.now study.now.frequencies2.now corners.now piece }
+    ensures { (x : _) → outputs_of_sorted study.now.sizes study.now.frequency_points.now areas.new.channels x ≡ outputs_of_piece study.now.sizes study.now.frequencies1.now study.now.frequencies2.now study.now.frequency_points.now corners.now piece x }
 {
-    let tp = tested.sizes.tp;
+    let tp = study.sizes.tp;
     let rows = Rows {
-        count: tested.sizes.rows,
+        count: study.sizes.rows,
     };
     let band1 = Band {
-        frequencies: tested.study.frequencies1,
-        bands: tested.sizes.bands1,
+        frequencies: study.frequencies1,
+        bands: study.sizes.bands1,
         band: piece.b1,
     };
     let band2 = Band {
-        frequencies: tested.study.frequencies2,
-        bands: tested.sizes.bands2,
+        frequencies: study.frequencies2,
+        bands: study.sizes.bands2,
         band: piece.b2,
     };
     fill_frequencies(&mut areas.frequencies1, tp, &corners.first, rows, band1);
@@ -135,16 +133,16 @@ pub fn fill_piece(
     areas: &mut WorkAreas,
     weights: &mut [f64],
     flags: &mut [i8],
-    tested: &TestedStudy,
+    study: &CountedStudy,
     corners: &Corners,
     piece: Piece,
 )
-    requires fits { Fitting tested.now.sizes (length tested.now.study.frequency_points.now) (length weights.old) (length flags.old) }
-    requires on_study { IsPiece tested.now.sizes piece }
-    requires held { IsHeld tested.now corners.now piece }
-    ensures { WritesPiece tested.now.sizes (number_of tested.now.sizes piece) (outputs_of_piece tested.now corners.now piece) weights flags }
+    requires fits { Fitting study.now.sizes (length study.now.frequency_points.now) (length weights.old) (length flags.old) }
+    requires on_study { IsPiece study.now.sizes piece }
+    requires held { IsHeld study.now.sizes study.now.frequencies1.now study.now.frequencies2.now corners.now piece }
+    ensures { WritesPiece study.now.sizes (number_of study.now.sizes piece) (outputs_of_piece study.now.sizes study.now.frequencies1.now study.now.frequencies2.now study.now.frequency_points.now corners.now piece) weights flags }
 {
-    prepare(areas, tested, corners, piece);
-    let pair = piece.b1 * tested.sizes.bands2 + piece.b2;
-    fill_points(weights, flags, tested, piece.triplet, pair, &areas.channels);
+    prepare(areas, study, corners, piece);
+    let pair = piece.b1 * study.sizes.bands2 + piece.b2;
+    fill_points(weights, flags, study, piece.triplet, pair, &areas.channels);
 }

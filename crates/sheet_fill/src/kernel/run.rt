@@ -41,7 +41,7 @@ pub fn fill_named(
         &mut work.areas,
         weights,
         flags,
-        &prepared.tested,
+        &prepared.tested.counted(),
         &work.corners,
         piece,
     );

@@ -20,18 +20,21 @@ nonzero_rem-piece c = (tested-counted c.args.tested.now).bands2-some
 pub fill_piece-requires-clause-fits : goal.fill_piece-requires-clause-fits
 fill_piece-requires-clause-fits c =
     let e : _ = computed-lengths c.loop-k.invariant in
-    rw (e.0, e.1) (tested-ready c.args.tested.now _ _ c.requires.room).fits
+    rw (c.counted-counted.ensures.sizes, c.counted-counted.ensures.values.1.1, e.0, e.1) (tested-ready c.args.tested.now _ _ c.requires.room).fits
 
 pub fill_piece-requires-clause-on_study : goal.fill_piece-requires-clause-on_study
-fill_piece-requires-clause-on_study c = piece-in c.args.tested.now c.args.t c.loop-k.k c.requires.t_in_bounds (omega arith)
+fill_piece-requires-clause-on_study c =
+    rw c.counted-counted.ensures.sizes (piece-in c.args.tested.now c.args.t c.loop-k.k c.requires.t_in_bounds (omega arith))
 
 pub fill_piece-requires-clause-held : goal.fill_piece-requires-clause-held
 fill_piece-requires-clause-held c =
-    is-held c.args.tested.now _ (piece_of c.args.tested.now.sizes c.args.t c.loop-k.k) c.corners_of-corners.ensures (piece-in c.args.tested.now c.args.t c.loop-k.k c.requires.t_in_bounds (omega arith))
+    rw (c.counted-counted.ensures.sizes, c.counted-counted.ensures.values.0, c.counted-counted.ensures.values.1.0)
+    (is-held c.args.tested.now _ (piece_of c.args.tested.now.sizes c.args.t c.loop-k.k) c.corners_of-corners.ensures (piece-in c.args.tested.now c.args.t c.loop-k.k c.requires.t_in_bounds (omega arith)))
 
 pub loop-k-preserved : goal.loop-k-preserved
 loop-k-preserved c =
-    pieces_more c.args.tested.now c.args.t c.loop-k.k c.requires.t_in_bounds (omega arith) _ c.corners_of-corners.ensures c.loop-k.invariant c.fill_piece.ensures
+    pieces_more c.args.tested.now c.args.t c.loop-k.k c.requires.t_in_bounds (omega arith) _ c.corners_of-corners.ensures c.loop-k.invariant
+    (rw (c.counted-counted.ensures.sizes, c.counted-counted.ensures.values.0, c.counted-counted.ensures.values.1.0, c.counted-counted.ensures.values.1.1) at c.fill_piece.ensures)
 
 pub returns : goal.returns
 returns c =

@@ -7,4 +7,4 @@ use Rattle.triplet_piece.proofs.kernel.fill_points.Given as goal
 
 abbrev pub invariant-loop-x : goal.invariant-loop-x
 invariant-loop-x l =
-    (l.weights ≡ some_weights l.tested.sizes (l.t * l.tested.sizes.pairs + l.pair) (outputs_of_sorted l.tested.sizes l.tested.study.frequency_points.now l.channels) l.x l.initial.weights) × (l.flags ≡ some_flags l.tested.sizes (l.t * l.tested.sizes.pairs + l.pair) (outputs_of_sorted l.tested.sizes l.tested.study.frequency_points.now l.channels) l.x l.initial.flags)
+    (l.weights ≡ some_weights l.study.sizes (l.t * l.study.sizes.pairs + l.pair) (outputs_of_sorted l.study.sizes l.study.frequency_points.now l.channels) l.x l.initial.weights) × (l.flags ≡ some_flags l.study.sizes (l.t * l.study.sizes.pairs + l.pair) (outputs_of_sorted l.study.sizes l.study.frequency_points.now l.channels) l.x l.initial.flags)
