@@ -1,27 +1,29 @@
 // For the crates above, on a tested study and sheet: the averages of one triplet.
 ghost use Rattle.std.specs.Prelude.{◌≡◌, ◌*◌, ◌<◌, length};
+ghost use Rattle.triplet_study.specs.Tested.{Counted};
 ghost use Rattle.sheet_step.specs.Steps.{triplet_averaged, triplet_flags_averaged};
 
 use averaging_walk::kernel::walk::average_points;
-use triplet_study::TestedStudy;
+use triplet_study::Sizes;
 
 // The weights of triplet `t`, channel by channel.
 pub fn average_weights(
-    tested: &TestedStudy,
+    z: Sizes,
     weights: &mut [f64],
     t: usize,
     degenerate_ids1: &[i64],
     degenerate_ids2: &[i64],
 )
-    requires on_sheet { (t < tested.now.sizes.triplets) × (tested.now.sizes.bands1 ≡ tested.now.sizes.bands2) }
-    requires lengths { (length weights.old ≡ tested.now.sizes.channels * tested.now.sizes.cells) × ((length degenerate_ids1.now ≡ tested.now.sizes.bands1) × (length degenerate_ids2.now ≡ tested.now.sizes.bands1)) }
-    ensures { weights.new ≡ triplet_averaged tested.now.sizes t degenerate_ids1.now degenerate_ids2.now weights.old }
+    requires counted { Counted z }
+    requires on_sheet { (t < z.triplets) × (z.bands1 ≡ z.bands2) }
+    requires lengths { (length weights.old ≡ z.channels * z.cells) × ((length degenerate_ids1.now ≡ z.bands1) × (length degenerate_ids2.now ≡ z.bands1)) }
+    ensures { weights.new ≡ triplet_averaged z t degenerate_ids1.now degenerate_ids2.now weights.old }
 {
-    let points = tested.sizes.points;
-    let bands = tested.sizes.bands1;
-    let channels = tested.sizes.channels;
-    let cells = tested.sizes.cells;
-    let size = points * tested.sizes.pairs;
+    let points = z.points;
+    let bands = z.bands1;
+    let channels = z.channels;
+    let cells = z.cells;
+    let size = points * z.pairs;
     for c in 0..channels {
         let start = c * cells + t * size;
         let end = start + size;
@@ -37,19 +39,20 @@ pub fn average_weights(
 
 // The flags of triplet `t`.
 pub fn average_flags(
-    tested: &TestedStudy,
+    z: Sizes,
     flags: &mut [i8],
     t: usize,
     degenerate_ids1: &[i64],
     degenerate_ids2: &[i64],
 )
-    requires on_sheet { (t < tested.now.sizes.triplets) × (tested.now.sizes.bands1 ≡ tested.now.sizes.bands2) }
-    requires lengths { (length flags.old ≡ tested.now.sizes.cells) × ((length degenerate_ids1.now ≡ tested.now.sizes.bands1) × (length degenerate_ids2.now ≡ tested.now.sizes.bands1)) }
-    ensures { flags.new ≡ triplet_flags_averaged tested.now.sizes t degenerate_ids1.now degenerate_ids2.now flags.old }
+    requires counted { Counted z }
+    requires on_sheet { (t < z.triplets) × (z.bands1 ≡ z.bands2) }
+    requires lengths { (length flags.old ≡ z.cells) × ((length degenerate_ids1.now ≡ z.bands1) × (length degenerate_ids2.now ≡ z.bands1)) }
+    ensures { flags.new ≡ triplet_flags_averaged z t degenerate_ids1.now degenerate_ids2.now flags.old }
 {
-    let points = tested.sizes.points;
-    let bands = tested.sizes.bands1;
-    let size = points * tested.sizes.pairs;
+    let points = z.points;
+    let bands = z.bands1;
+    let size = points * z.pairs;
     let start = t * size;
     let end = start + size;
     average_points(

@@ -29,8 +29,8 @@ pub fn average_asked(
 {
     asks::ask_average(tested, sheet, triplet, ids1, ids2)?;
     let t = numbers::kernel::magnitude(triplet);
-    sheet_average::kernel::average_weights(tested, sheet.weights, t, ids1, ids2);
-    sheet_average::kernel::average_flags(tested, sheet.flags, t, ids1, ids2);
+    sheet_average::kernel::average_weights(tested.sizes, sheet.weights, t, ids1, ids2);
+    sheet_average::kernel::average_flags(tested.sizes, sheet.flags, t, ids1, ids2);
     mark::average_marks(tested.sizes.pairs, sheet.marks, t);
     Ok(tally)
 }

@@ -7,4 +7,4 @@ use Rattle.sheet_average.proofs.kernel.average_weights.Given as goal
 
 abbrev pub invariant-loop-c : goal.invariant-loop-c
 invariant-loop-c l =
-    l.weights ≡ some_groups l.tested.sizes.points l.tested.sizes.pairs (averaged l.tested.sizes.bands1 l.degenerate_ids1 l.degenerate_ids2) nan l.tested.sizes.triplets l.t l.c l.initial.weights
+    l.weights ≡ some_groups l.fn.z.points l.fn.z.pairs (averaged l.fn.z.bands1 l.degenerate_ids1 l.degenerate_ids2) nan l.fn.z.triplets l.t l.c l.initial.weights

@@ -28,6 +28,12 @@ returns-in_err-ask_average-clause-did c =
     let p = err_from_is_err_and c.from_residual.result c.from_residual.ensures.1 in
     rw (p.1, p.2) (average-refused (study_of c.args.tested.now.study) (start (goal.at.returns-in_err-ask_average-clause-did c).Start) c.requires c.args.tested.now.counts c.args.triplet c.args.ids1.now c.args.ids2.now _ told)
 
+pub average_weights-requires-clause-counted : goal.average_weights-requires-clause-counted
+average_weights-requires-clause-counted c = tested-counted c.args.tested.now
+
+pub average_flags-requires-clause-counted : goal.average_flags-requires-clause-counted
+average_flags-requires-clause-counted c = tested-counted c.args.tested.now
+
 pub average_weights-requires-clause-on_sheet : goal.average_weights-requires-clause-on_sheet
 average_weights-requires-clause-on_sheet c =
     let told : _ = rw (to_z-of_z w64 c.args.triplet c.ranges.triplet, c.in_ok-ask_average.was) at c.ask_average.ensures in
