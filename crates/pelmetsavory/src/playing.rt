@@ -9,10 +9,11 @@ ghost use Rattle.pelmetsavory.specs.Sheets.{CalledPlay};
 
 use sheet_list::{Calls, Shape, SheetMut, Study, Tally};
 
+// The parameters of the next function are the C interface: a struct in their place would be another version of it.
+
 // Plays a list of calls, six numbers a call, on a sheet with any marks, and counts the runs behind `tally`. Each call's status goes to its
 // place in `answers`, the sixteen counts after it to their places in `tallies`. The status is 0, or 12: has the list six numbers, and
 // `tallies` sixteen, for each of `answers`? What a call asks is told in its place alone.
-// Its parameters are the C interface: a struct in their place would be another version of it.
 #[unsafe(no_mangle)]
 pub extern "C" fn pelmetsavory_play(
     shape: Shape,

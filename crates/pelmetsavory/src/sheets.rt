@@ -10,8 +10,9 @@ ghost use Rattle.open_count.specs.OpenCount.{open_no, open_entries};
 use crate::Piece;
 use sheet::{Counts, NamedPiece, Shape, SheetMut, Study, Tally};
 
+// The parameters of the next function are the C interface: a struct in their place would be another version of it.
+
 // Runs one piece, and counts it behind `tally` for its worker, 0 to 15. Questions 3 to 15, 21, 20.
-// Its parameters are the C interface: a struct in their place would be another version of it.
 #[unsafe(no_mangle)]
 pub extern "C" fn pelmetsavory_run_piece(
     shape: Shape,
@@ -61,9 +62,10 @@ pub extern "C" fn pelmetsavory_run_piece(
     status
 }
 
+// The parameters of the next function are the C interface: a struct in their place would be another version of it.
+
 // Runs all pieces marked 0, in ascending order, and counts them behind `tally` for their worker, 0 to 15.
 // Questions 3 to 13, 21, 20.
-// Its parameters are the C interface: a struct in their place would be another version of it.
 #[unsafe(no_mangle)]
 pub extern "C" fn pelmetsavory_carry_on(
     shape: Shape,
@@ -107,8 +109,9 @@ pub extern "C" fn pelmetsavory_carry_on(
     status
 }
 
+// The parameters of the next function are the C interface: a struct in their place would be another version of it.
+
 // Averages a triplet over the degenerate sets of two id lists; all counts stay, and it names no worker. Questions 3 to 19.
-// Its parameters are the C interface: a struct in their place would be another version of it.
 #[unsafe(no_mangle)]
 pub extern "C" fn pelmetsavory_average_triplet(
     shape: Shape,

@@ -28,8 +28,9 @@ fn status_of_triplet(study: Study, triplet: [i64; 3], weights: &mut [f64], flags
     status_of(triplet_iw::integration_weight_per_triplet(study, triplet, weights, flags))
 }
 
+// The parameters of the next function are the C interface: a struct in their place would be another version of it.
+
 // The weights and flags of all triplets. Questions 3 to 12.
-// Its parameters are the C interface: a struct in their place would be another version of it.
 #[unsafe(no_mangle)]
 pub extern "C" fn pelmetsavory_integration_weight(
     shape: Shape,
@@ -59,8 +60,9 @@ pub extern "C" fn pelmetsavory_integration_weight(
     status_of_weights(study, weights, flags)
 }
 
+// The parameters of the next function are the C interface: a struct in their place would be another version of it.
+
 // The weights and flags of one triplet. Questions 3 to 12.
-// Its parameters are the C interface: a struct in their place would be another version of it.
 #[unsafe(no_mangle)]
 pub extern "C" fn pelmetsavory_integration_weight_per_triplet(
     shape: Shape,
@@ -91,8 +93,9 @@ pub extern "C" fn pelmetsavory_integration_weight_per_triplet(
     status_of_triplet(study, triplet, weights, flags)
 }
 
+// The parameters of the next function are the C interface: a struct in their place would be another version of it.
+
 // Averages the weights and the flags of one triplet in place. Questions 8, 9, 12, 17, 19.
-// Its parameters are the C interface: a struct in their place would be another version of it.
 #[unsafe(no_mangle)]
 pub extern "C" fn pelmetsavory_average_weights_over_degenerate_sets(
     iw: &mut [f64],
