@@ -46,7 +46,7 @@ make_proved() {
   mkdir -p "$proved/crates/export/src"
   tar -C "$repo" --exclude=out -cf - crates crates.txt | tar -C "$proved" -xf -
   cp "$here/export.rt.txt" "$proved/crates/export/src/lib.rt"
-  echo 'export staticlib: ieee_laws tetrahedron_method' >> "$proved/crates.txt"
+  echo 'export staticlib: ieee_laws tetrahedron_sort tetrahedron_method' >> "$proved/crates.txt"
   prove pelmetsavory lib
   prove export lib
   prove weights run

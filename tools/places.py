@@ -60,15 +60,13 @@ def shape(parameters, body):
     return ' '.join(t for t in out if t != ',')
 
 def facts(clauses):
-    """The facts of a requires, its variables made equal."""
-    m = re.search(r'requires \{(.*?)\}\s*(?:ensures|$)', clauses, re.S)
-    if not m:
-        return []
+    """The facts of each requires, named or not."""
     out = []
-    for fact in re.split(r'×', m.group(1)):
-        f = ' '.join(fact.strip().strip('()').split()).strip('() ')
-        if f:
-            out.append(f)
+    for m in re.finditer(r'requires(?: \w+)? \{(.*?)\}\s*(?=requires|ensures|ghost|$)', clauses, re.S):
+        for fact in re.split(r'×', m.group(1)):
+            f = ' '.join(fact.strip().strip('()').split()).strip('() ')
+            if f:
+                out.append(f)
     return out
 
 def count(tree):

@@ -1,7 +1,7 @@
 -- A study that a text holds: its numbers lie within the buffers, and its answer is the text's. Assumes nothing.
 use mathlib.Core.Path.{◌≡◌, refl, ap, ◌∙◌}
 use mathlib.Core.List.{List}
-use Prim.Native.Nat.{ℕ, zero, suc, ◌+◌, ◌≤◌}
+use Prim.Native.Nat.{ℕ, zero, suc, ◌≤◌}
 use native.Mathlib.Nat.{zero-add}
 use native.Mathlib.Omega.{arith}
 use lib.ListN.{length, drop, length-append}
@@ -27,9 +27,6 @@ length-floats patterns = length-tabulate (length patterns) _
 pub answered-so : (r : ℕ) (l m old new : List ℕ) → r ≡ length l → new ≡ written 0 l old → l ≡ m → (r ≡ length m) × (new ≡ answered m old)
 unfolding written
 answered-so r l m old new p q e = (p ∙ ap length e, q ∙ rw (zero-add, e))
-
-pub answered-from : (r : ℕ) (l m old new : List ℕ) → r ≡ 0 + length l → new ≡ written 0 l old → l ≡ m → (r ≡ length m) × (new ≡ answered m old)
-answered-from r l m old new p q e = answered-so r l m old new (omega (arith, p)) q e
 
 -- a text that holds no study
 pub none-held : (text : List ℕ) → study_in text ≡ None → refusal_of 1 ≡ answer_of text

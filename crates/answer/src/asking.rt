@@ -2,7 +2,8 @@
 ghost use Rattle.std.specs.Prelude.{◌≡◌, true, ◌/◌, ◌≤◌, length};
 ghost use Rattle.list_laws.specs.Signed.{is_between};
 ghost use Rattle.ask.specs.Ask.{first_no};
-ghost use Rattle.ask.specs.Refusals.{answer_of};
+ghost use Rattle.ask.specs.Refusals.{answer_of, refusal_number};
+ghost use Rattle.listing.specs.Listings.{refusal_of};
 ghost use Rattle.study_counts.specs.Counts.{few_weights};
 ghost use Rattle.triplet_study.specs.Lent.{study_of};
 ghost use Rattle.answer_weights.specs.Asked.{questions_of};
@@ -10,8 +11,10 @@ ghost use Rattle.answer_weights.specs.Answers.{answer_to, Wrote};
 ghost use Rattle.answer.specs.Texts.{shape_of, table_for};
 
 use ask::Refusal;
+use listing::kernel::put_refusal;
 use study::Head;
 use triplet_study::{Shape, Study};
+use writing::kernel::Writer;
 
 // Question 1, the count of weights.
 fn few_weights(shape: Shape, points: usize, triplets: usize) -> bool
@@ -55,8 +58,17 @@ pub fn table_of(head: Head) -> [i64; 288]
     let diag = head.diag;
     let diagonal = numbers::kernel::magnitude(diag);
     let mut table = [0i64; 288];
-    tetrahedron_tables::kernel::copy_table(diagonal, &mut table);
+    table.copy_from_slice(tetrahedron_tables::kernel::table(diagonal));
     table
+}
+
+// Writes the line of a refusal at the start of out, and tells how many bytes it has.
+pub fn put_refused(out: &mut [u8; 118617], why: Refusal) -> usize
+    ensures { Wrote (refusal_of (refusal_number why)) out result }
+{
+    let mut writer = Writer::new(out);
+    put_refusal(&mut writer, why.number());
+    writer.len
 }
 
 // Writes the answer to a study.
@@ -66,6 +78,6 @@ pub fn put_answer(out: &mut [u8; 118617], study: Study) -> usize
 {
     match ask(study) {
         Ok(()) => answer_weights::kernel::put_study(out, study),
-        Err(why) => listing::kernel::put_refusal(out, 0, why.number()),
+        Err(why) => put_refused(out, why),
     }
 }

@@ -21,6 +21,6 @@ pub fn answer(text: &[u8], out: &mut [u8; 118617]) -> usize
     let mut buffers = StudyBuffers::new();
     match study::kernel::read_study(text, &mut buffers) {
         Some(study) => held::put_held(out, study),
-        None => listing::kernel::put_refusal(out, 0, Refusal::Text.number()),
+        None => asking::put_refused(out, Refusal::Text),
     }
 }

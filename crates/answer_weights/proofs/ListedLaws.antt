@@ -1,7 +1,7 @@
 -- All weights and flags of a study that is ready, as the listing takes them. Assumes nothing.
-use mathlib.Core.Path.{◌≡◌, sym, ap, ◌∙◌}
+use mathlib.Core.Path.{◌≡◌, refl, sym, ap, ◌∙◌}
 use mathlib.Core.List.{List}
-use Prim.Native.Nat.{ℕ, ◌+◌, ◌*◌, ◌<◌}
+use Prim.Native.Nat.{ℕ, ◌*◌, ◌<◌}
 use native.Mathlib.Omega.{arith}
 use lib.Ieee.{Float}
 use lib.IntN.{ℤ}
@@ -14,7 +14,9 @@ use Rattle.triplet_study.proofs.StudyLaws.{ready-counted}
 use Rattle.triplet_piece.specs.Weights.{weight_at, flag_at}
 use Rattle.triplet_iw.specs.Whole.{all_weights, all_flags}
 use Rattle.listing.specs.Listings.{listing_of}
+use Rattle.writing.specs.Written as W
 use Rattle.writing.specs.Written.{written}
+use Rattle.writing.specs.declared.kernel.Writer.{Writer}
 use Rattle.answer_weights.specs.Answers.{listing_for}
 
 weights-length : (s : Study) → length (all_weights s) ≡ (sizes_of s).channels * (sizes_of s).cells
@@ -38,9 +40,11 @@ module _ {s : Study} {z : Sizes} {w f : ℕ} (r : Ready s z w f) (weights : List
       let c : Counted z = ready-counted r in
       (c.points-some, c.bands1-some, c.bands2-some, entries)
 
--- bytes written at the start, under another name
-pub wrote_as : (r : ℕ) (l m old new : List ℕ) → r ≡ 0 + length l → new ≡ written 0 l old → l ≡ m → (r ≡ length m) × (new ≡ written 0 m old)
-wrote_as r l m old new p q e = (omega (arith, p, ap length e), q ∙ ap (λ (x : List ℕ). written 0 x old) e)
+-- what a writer wrote at the front of a buffer, under another name
+pub wrote_front : {l m old : List ℕ} {u v : Writer} → u.len ≡ 0 → u.buffer.now ≡ old → W.Wrote l u v → l ≡ m → (v.len ≡ length m) × (v.buffer.now ≡ written 0 m old)
+wrote_front {l} {m} {old} {u} {v} z c w e =
+    (omega (arith, w.ends, z, ap length e), w.content ∙ rw (z, c, e) refl)
 
+-- bytes written at the start, under another name
 pub wrote_so : (r : ℕ) (l m old new : List ℕ) → r ≡ length l → new ≡ written 0 l old → l ≡ m → (r ≡ length m) × (new ≡ written 0 m old)
 wrote_so r l m old new p q e = (p ∙ ap length e, q ∙ ap (λ (x : List ℕ). written 0 x old) e)

@@ -5,8 +5,9 @@ ghost use Rattle.triplet_study.specs.Lent.{study_of};
 ghost use Rattle.answer_weights.specs.Asked.{questions_of};
 ghost use Rattle.answer_weights.specs.Answers.{listing_for, Listable, Wrote};
 
-use listing::kernel::Sheet;
+use listing::kernel::{Sheet, put_listing};
 use triplet_study::{Study, TestedStudy};
+use writing::kernel::Writer;
 
 // Computes all weights and flags of a study into the lent buffers, and writes their listing.
 fn put_weights(
@@ -28,7 +29,9 @@ fn put_weights(
         weights,
         flags,
     };
-    listing::kernel::put_listing(out, 0, &sheet)
+    let mut writer = Writer::new(out);
+    put_listing(&mut writer, &sheet);
+    writer.len
 }
 
 // Room for the weights of a study: question 1 lets no more pass.

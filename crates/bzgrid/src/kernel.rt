@@ -2,20 +2,21 @@
 ghost use Rattle.std.specs.Prelude.{◌≡◌, true, ◌*◌, ◌<◌, length};
 ghost use Rattle.ask.specs.Ask.{first_no};
 ghost use Rattle.ask.specs.Refusals.{answer_of};
-ghost use Rattle.question_grids.specs.Grids.{are_triples, triples_in};
+ghost use Rattle.question_grids.specs.Grids.{triples_in};
 ghost use Rattle.question_grids.specs.Steps.{are_grid_points};
 ghost use Rattle.bzgrid.specs.Lists.{neighbours_of, neighbours_of_all};
 ghost use Rattle.bzgrid.specs.Calls.{step_questions, steps_questions};
 
 use ask::Refusal;
 use bzgrid_lookup::TestedGrid;
+use question_grids::Triples;
 use question_grids::kernel::steps;
 use question_values::kernel::counts;
 
 // The neighbours of point g, one for each step.
-pub fn fill_neighbours(out: &mut [i64], g: usize, steps: &[i64], grid: TestedGrid)
-    requires { (are_triples steps.now ≡ true) × ((g < triples_in grid.addresses.now) × (length out.old ≡ triples_in steps.now)) }
-    ensures { out.new ≡ neighbours_of grid.entry.grid grid.entry.addresses.now grid.entry.gp_map.now steps.now g }
+pub fn fill_neighbours(out: &mut [i64], g: usize, steps: Triples, grid: TestedGrid)
+    requires { (g < triples_in grid.addresses.now) × (length out.old ≡ triples_in steps.numbers.now) }
+    ensures { out.new ≡ neighbours_of grid.entry.grid grid.entry.addresses.now grid.entry.gp_map.now steps.entry.numbers.now g }
 {
     for j in 0..out.len() {
         let v = grid.neighbour(steps, g, j);
@@ -24,11 +25,11 @@ pub fn fill_neighbours(out: &mut [i64], g: usize, steps: &[i64], grid: TestedGri
 }
 
 // The neighbours of each of the points in turn.
-pub fn fill_many(out: &mut [i64], grid_points: &[i64], steps: &[i64], grid: TestedGrid)
-    requires { (are_triples steps.now ≡ true) × ((are_grid_points (triples_in grid.addresses.now) grid_points.now ≡ true) × (length out.old ≡ length grid_points.now * triples_in steps.now)) }
-    ensures { out.new ≡ neighbours_of_all grid.entry.grid grid.entry.addresses.now grid.entry.gp_map.now steps.now grid_points.now }
+pub fn fill_many(out: &mut [i64], grid_points: &[i64], steps: Triples, grid: TestedGrid)
+    requires { (are_grid_points (triples_in grid.addresses.now) grid_points.now ≡ true) × (length out.old ≡ length grid_points.now * triples_in steps.numbers.now) }
+    ensures { out.new ≡ neighbours_of_all grid.entry.grid grid.entry.addresses.now grid.entry.gp_map.now steps.entry.numbers.now grid_points.now }
 {
-    let size = steps.len() / 3;
+    let size = steps.numbers.len() / 3;
     let mut start = 0;
     for i in 0..grid_points.len() {
         let g = numbers::kernel::magnitude_at(grid_points, i);

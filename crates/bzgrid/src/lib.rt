@@ -6,8 +6,8 @@ ghost use Rattle.bzgrid.specs.Calls.{around_of, DidFind, DidFindAll};
 
 use ask::Refusal;
 use bzgrid_lookup::TestedGrid;
-use question_grids::Grid;
 use question_grids::kernel::grid::ask_grid;
+use question_grids::{Grid, Triples};
 
 pub mod kernel;
 
@@ -25,7 +25,10 @@ pub fn fill_neighboring_grid_points(
     kernel::ask_point(grid_point, relative_grid_address, p, out.len())?;
     let tested = TestedGrid::new(grid);
     let g = numbers::kernel::magnitude(grid_point);
-    kernel::fill_neighbours(out, g, relative_grid_address, tested);
+    let steps = Triples {
+        numbers: relative_grid_address,
+    };
+    kernel::fill_neighbours(out, g, steps, tested);
     Ok(())
 }
 
@@ -42,6 +45,9 @@ pub fn neighboring_grid_points_many(
     let p = grid.addresses.len() / 3;
     kernel::ask_points(grid_points, relative_grid_address, p, out.len())?;
     let tested = TestedGrid::new(grid);
-    kernel::fill_many(out, grid_points, relative_grid_address, tested);
+    let steps = Triples {
+        numbers: relative_grid_address,
+    };
+    kernel::fill_many(out, grid_points, steps, tested);
     Ok(())
 }

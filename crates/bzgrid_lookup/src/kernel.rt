@@ -7,6 +7,7 @@ ghost use Rattle.bzgrid_lookup.specs.Neighbours.{grid_of, kind_of, is_address, s
 
 use crate::{BzGrid, GridKind};
 use numbers::{Address, Mesh};
+use question_grids::Triples;
 
 pub mod tested;
 
@@ -96,17 +97,17 @@ fn dense_neighbour(m: Mesh, addresses: &[i64], gp_map: &[i64], w: Address) -> us
 }
 
 // Component i of the address of point g, moved by step j.
-fn moved_by(addresses: &[i64], steps: &[i64], g: usize, j: usize, i: usize) -> i64
-    requires { ((3 * g + i < length addresses.now) × (3 * j + i < length steps.now)) × ((are_triples addresses.now ≡ true) × (are_triples steps.now ≡ true)) }
-    ensures { result ≡ moved addresses.now steps.now g j i }
+fn moved_by(addresses: Triples, steps: Triples, g: usize, j: usize, i: usize) -> i64
+    requires { (3 * g + i < length addresses.numbers.now) × (3 * j + i < length steps.numbers.now) }
+    ensures { result ≡ moved addresses.entry.numbers.now steps.entry.numbers.now g j i }
 {
-    addresses[3 * g + i] + steps[3 * j + i]
+    addresses.numbers[3 * g + i] + steps.numbers[3 * j + i]
 }
 
 // The address of point g, moved by step j.
-fn wanted_address(addresses: &[i64], steps: &[i64], g: usize, j: usize) -> Address
-    requires { ((g < triples_in addresses.now) × (j < triples_in steps.now)) × ((are_triples addresses.now ≡ true) × (are_triples steps.now ≡ true)) }
-    ensures { result ≡ wanted_address addresses.now steps.now g j }
+fn wanted_address(addresses: Triples, steps: Triples, g: usize, j: usize) -> Address
+    requires { (g < triples_in addresses.numbers.now) × (j < triples_in steps.numbers.now) }
+    ensures { result ≡ wanted_address addresses.entry.numbers.now steps.entry.numbers.now g j }
 {
     let x = moved_by(addresses, steps, g, j, 0);
     let y = moved_by(addresses, steps, g, j, 1);
@@ -119,9 +120,8 @@ fn find_neighbour(grid: BzGrid, addresses: &[i64], gp_map: &[i64], w: Address) -
     requires { SoundGrid grid addresses.now gp_map.now }
     ensures { result ≡ neighbour_of grid addresses.now gp_map.now w }
 {
-    let kind = grid.kind;
     let mesh = grid.mesh;
-    match kind {
+    match grid.kind {
         GridKind::Sparse => sparse_neighbour(mesh, gp_map, w),
         GridKind::Dense => dense_neighbour(mesh, addresses, gp_map, w),
     }
@@ -139,6 +139,11 @@ pub fn neighbour(
     requires { SoundGrid grid addresses.now gp_map.now × ((are_triples steps.now ≡ true) × ((g < triples_in addresses.now) × (j < triples_in steps.now))) }
     ensures { result ≡ neighbour_of grid addresses.now gp_map.now (wanted_address addresses.now steps.now g j) }
 {
-    let w = wanted_address(addresses, steps, g, j);
+    let w = wanted_address(
+        Triples { numbers: addresses },
+        Triples { numbers: steps },
+        g,
+        j,
+    );
     find_neighbour(grid, addresses, gp_map, w)
 }

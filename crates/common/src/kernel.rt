@@ -37,21 +37,13 @@ pub fn vector_ok(b: [i64; 3]) -> bool
     is_within(4096, b[0]) & is_within(4096, b[1]) & is_within(4096, b[2])
 }
 
-// A component of a tested vector as a float.
-fn component(b: [i64; 3], i: usize) -> f64
-    requires { (i < 3) × (is_vector b ≡ true) }
-    ensures { result ≡ of_int binary64 (at b i) }
-{
-    b[i] as f64
-}
-
-// One row of the lattice times the vector.
+// One row of the lattice times a tested vector.
 #[tactic(auto, unfolding(crate::specs::Matrix::row_times))]
 fn row_times(row: [f64; 3], b: [i64; 3]) -> f64
     requires { is_vector b ≡ true }
     ensures { result ≡ row_times row b }
 {
-    row[0] * component(b, 0) + row[1] * component(b, 1) + row[2] * component(b, 2)
+    row[0] * b[0] as f64 + row[1] * b[1] as f64 + row[2] * b[2] as f64
 }
 
 // Float matrix times a tested integer vector.

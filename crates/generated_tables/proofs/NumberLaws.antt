@@ -35,11 +35,11 @@ edges = refl
 edge_at : (w axis : ℕ) → w < 6 → axis < 3 → turned w axis ≡ edge_along (get_or ways w []) axis
 edge_at w axis h g = eqb-true _ _ (below_at2 6 3 (λ w axis. eqb (turned w axis) (edge_along (get_or ways w []) axis)) edges w axis h g)
 
-pub edge-forwards : (w axis : ℕ) → w < 6 → axis < 3 → w % 2 ≡ 0 → (axis + 3 - w / 2) % 3 ≡ edge_along (get_or ways w []) axis
-edge-forwards w axis h g e = rw (eq-eqb (w % 2) 0 e) at (edge_at w axis h g)
+pub edge_forwards : (w axis : ℕ) → w < 6 → axis < 3 → w % 2 ≡ 0 → (axis + 3 - w / 2) % 3 ≡ edge_along (get_or ways w []) axis
+edge_forwards w axis h g e = rw (eq-eqb (w % 2) 0 e) at (edge_at w axis h g)
 
-pub edge-backwards : (w axis : ℕ) → w < 6 → axis < 3 → (w % 2 ≡ 0 → ⊥) → (w / 2 + 3 - axis) % 3 ≡ edge_along (get_or ways w []) axis
-edge-backwards w axis h g n = rw (ne_eqb (w % 2) 0 n) at (edge_at w axis h g)
+pub edge_backwards : (w axis : ℕ) → w < 6 → axis < 3 → (w % 2 ≡ 0 → ⊥) → (w / 2 + 3 - axis) % 3 ≡ edge_along (get_or ways w []) axis
+edge_backwards w axis h g n = rw (ne_eqb (w % 2) 0 n) at (edge_at w axis h g)
 
 -- ---- places
 

@@ -7,6 +7,7 @@ ghost use Rattle.generated_tables.specs.Numbers.{edge_along, place_of, number_of
 use relative_grid_address::kernel::main_diagonal;
 
 // Which edge of a way goes along an axis: ways 0, 2 and 4 begin with axis way / 2 and take the others forwards, 1, 3 and 5 backwards.
+#[tactic(auto, using(crate::proofs::NumberLaws::edge_forwards, crate::proofs::NumberLaws::edge_backwards))]
 fn edge_along(way: usize, axis: usize) -> usize
     requires { (way < 6) × (axis < 3) }
     ensures { result ≡ edge_along (get_or ways way []) axis }

@@ -19,12 +19,19 @@ use Rattle.questions.proofs.IrreducibleLaws.{frequencies-held, irreducible-lengt
 use Rattle.question_grids.specs.Steps.{are_grid_points}
 use Rattle.question_grids.proofs.StepLaws.{product-yes}
 use Rattle.bzgrid_lookup.proofs.CallLaws.{sound-grid}
+use Rattle.std.specs.declared.result.Result.{Result}
+use Rattle.std.proofs.Common.{Ok}
+use Rattle.ask.specs.declared.refusal.Refusal.{Refusal}
+use Rattle.ask.specs.Refusals.{answer_of}
+use Rattle.ask.proofs.RefusalLaws.{given-is}
+use Rattle.question_grids.specs.Tables.{rows_in}
+use Rattle.question_grids.proofs.TableLaws.{rows-most}
 use Rattle.grid_point_weights.specs.Weights.{Sound}
 use Rattle.grid_point_weights.specs.Calls.{GridPointCall, study_of, points_asked, grid_point_questions}
 
 module _ (bands : ℤ) (points gridPoints : ℕ) (e : are_counts bands bands (pos points) (pos gridPoints) ≡ true) where
-  pub bands-some : 1 ≤ mag bands
-  bands-some = bands1-low bands bands (pos points) (pos gridPoints) e
+  pub bands_some : 1 ≤ mag bands
+  bands_some = bands1-low bands bands (pos points) (pos gridPoints) e
 
   points-some : 1 ≤ points
   points-some = points-low bands bands (pos points) (pos gridPoints) e
@@ -33,15 +40,15 @@ module _ (bands : ℤ) (points gridPoints : ℕ) (e : are_counts bands bands (po
   points-few = points-high bands bands (pos points) (pos gridPoints) e
 
   -- the entries of one grid point: some, and not many
-  pub size-some : 1 ≤ points * mag bands
-  size-some = omega (arith, mul-le-mul points-some bands-some)
+  pub size_some : 1 ≤ points * mag bands
+  size_some = omega (arith, mul-le-mul points-some bands_some)
 
   pub size_few : points * mag bands ≤ 65536
   size_few = omega (arith, mul-le-mul points-few (bands1-high bands bands (pos points) (pos gridPoints) e))
 
 -- a call whose questions are answered yes: its study is sound, its grid points lie on the grid, and its buffer has their entries
 pub passed : (g : GridPointCall) (iw : ℕ) → first_no (grid_point_questions g iw) ≡ 0
-    → Sound (study_of g) × ((are_grid_points (triples_in g.addresses) g.grid-points ≡ true) × (iw ≡ length g.grid-points * (length g.points * mag g.bands)))
+    → Sound (mag g.num-ir) (study_of g) × ((are_grid_points (triples_in g.addresses) g.grid-points ≡ true) × (iw ≡ length g.grid-points * (length g.points * mag g.bands)))
 passed g iw z =
     let p : ℕ = triples_in g.addresses in
     let numbered : Numbered (grid_point_questions g iw) = (omega arith, (omega arith, (omega arith, (omega arith, (omega arith, (omega arith, (omega arith, (omega arith, (omega arith, tt))))))))) in
@@ -54,9 +61,22 @@ passed g iw z =
         tabled = y.0;
         mapped = irreducible-length g.num-ir (mag g.bands) p g.frequencies g.irreducible q;
         few = size_few g.bands (length g.points) (length g.grid-points) y.1.0;
-        count = mag g.num-ir;
         held = frequencies-held g.num-ir (mag g.bands) p g.frequencies g.irreducible q;
         below = irreducible-at g.num-ir (mag g.bands) p g.frequencies g.irreducible q;
       },
       (y.1.1.0, product-yes (length g.grid-points) (length g.points * mag g.bands) iw y.1.1.1.1.0),
     )
+
+-- the same of a call that is answered with Ok
+module _ (g : GridPointCall) (iw : ℕ) {r : Result (Unit {0}) Refusal} {x : Unit {0}} (told : r ≡ answer_of (first_no (grid_point_questions g iw)) tt) (ok : r ≡ Ok x) where
+  none : first_no (grid_point_questions g iw) ≡ 0
+  none = (given-is _ x tt (rw ok at told)).0
+
+  pub ok_sound : Sound (mag g.num-ir) (study_of g)
+  ok_sound = (passed g iw none).0
+
+  pub ok_rows : rows_in g.table ≤ 96
+  ok_rows = rows-most g.table (passed g iw none).0.tabled
+
+  pub ok_fits : (are_grid_points (triples_in g.addresses) g.grid-points ≡ true) × (iw ≡ length g.grid-points * (length g.points * mag g.bands))
+  ok_fits = (passed g iw none).1

@@ -20,7 +20,7 @@ use Rattle.bzgrid_lookup.proofs.NeighbourLaws.{neighbour-lt}
 use Rattle.tetrahedron_method.proofs.SortedLaws.{weight-same}
 use Rattle.grid_point_weights.specs.Weights.{GridStudy, Sound, corner_of, corners_of, vertex_frequency, vertex_frequencies, grid_point_weight, weights_of, corner_frequency, corner_weight, Held}
 
-module _ (s : GridStudy) (h : Sound s) (gp : ℕ) where
+module _ (s : GridStudy) {count : ℕ} (h : Sound count s) (gp : ℕ) where
   corner : ℕ → ℕ
   corner j = corner_of s.grid s.addresses s.gp-map s.table s.irreducible gp j
 
@@ -28,14 +28,14 @@ module _ (s : GridStudy) (h : Sound s) (gp : ℕ) where
   unfolding corner
   corner-at j l = area-at 384 corner 0 (triples_in s.table) 0 j (omega (arith, corners-whole s.table h.tabled))
 
-  corner-lt : (j : ℕ) → corner j < h.count
+  corner-lt : (j : ℕ) → corner j < count
   unfolding corner
   corner-lt j =
       h.below _ (omega (arith, h.mapped, neighbour-lt s.grid s.addresses s.gp-map h.sound-grid (wanted_address s.addresses s.table gp j)))
 
   -- each corner has its frequency
   pub corners-held : (band : ℕ) → band < s.bands → Held (corners_of s gp) (rows_in s.table * 4) (length s.frequencies) s.bands band
-  corners-held band l j m = rw (corner-at j m) (omega (arith, h.held, digit_lt (corner j) h.count band s.bands (corner-lt j) l))
+  corners-held band l j m = rw (corner-at j m) (omega (arith, h.held, digit_lt (corner j) count band s.bands (corner-lt j) l))
 
   -- the weight by numbers of corners is that of the study
   pub weight-of : (x band : ℕ) → corner_weight (corners_of s gp) (rows_in s.table) s.frequencies s.bands s.points s.function x band ≡ grid_point_weight s gp x band

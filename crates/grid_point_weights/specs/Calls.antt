@@ -15,8 +15,9 @@ use Rattle.question_values.specs.Frequencies.{are_points}
 use Rattle.bzgrid_lookup.specs.Neighbours.{grid_of}
 use Rattle.tetrahedron_method.specs.declared.WeightFunction.{WeightFunction}
 use Rattle.grid_point_weights.specs.declared.GridPointStudy.{GridPointStudy}
-use Rattle.grid_point_weights.specs.declared.TestedStudy.{TestedStudy}
+use Rattle.grid_point_weights.specs.declared.tested.TestedStudy.{TestedStudy}
 use Rattle.grid_point_weights.specs.Weights.{GridStudy, study, weights_of_all}
+use Rattle.grid_point_weights.specs.Lent.{lent_study}
 
 -- what the call takes, any numbers: grid kind, mesh, addresses and map; the table; the count of bands; the points; the grid points; R, the
 -- frequencies of the irreducible points, and the map to them; I or J
@@ -72,9 +73,7 @@ call_of s grid-points =
 
 -- what the weights of a tested study are made from
 abbrev pub tested_study : TestedStudy → GridStudy
-tested_study t =
-    study t.grid t.lent.grid.addresses.now t.lent.grid.gp_map.now t.lent.relative_grid_address.now t.lent.gp2irgp_map.now t.lent.frequencies.now t.bands
-    t.lent.frequency_points.now t.lent.function
+tested_study t = lent_study t.grid t.bands t.lent
 
 -- what its weights are made from
 abbrev pub study_of : GridPointCall → GridStudy

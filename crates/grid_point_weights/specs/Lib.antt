@@ -1,3 +1,4 @@
 -- The definitions that the contracts cite.
 pub mod Weights
+pub mod Lent
 pub mod Calls

@@ -83,11 +83,10 @@ abbrev pub Held : List ℕ → ℕ → ℕ → ℕ → ℕ → Type 0
 Held corners n count bands band = (j : ℕ) → j < n → get_or corners j 0 * bands + band < count
 
 -- questions 4 to 7, 9 and 11 are answered yes: `count` is R, the count of irreducible points
-pub record Sound (s : GridStudy) : Type 0 where
+pub record Sound (count : ℕ) (s : GridStudy) : Type 0 where
   pub sound-grid : SoundGrid s.grid s.addresses s.gp-map
   pub tabled : is_table s.table ≡ true
   pub mapped : length s.irreducible ≡ triples_in s.addresses
   pub few : length s.points * s.bands ≤ 65536
-  pub count : ℕ
   pub held : length s.frequencies ≡ count * s.bands
   pub below : (k : ℕ) → k < length s.irreducible → mag (at s.irreducible k) < count

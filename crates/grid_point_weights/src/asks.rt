@@ -1,5 +1,5 @@
 // The questions, in their order.
-ghost use Rattle.std.specs.Prelude.{◌≡◌};
+ghost use Rattle.std.specs.Prelude.{◌≡◌, length};
 ghost use Rattle.ask.specs.Ask.{first_no};
 ghost use Rattle.ask.specs.Refusals.{answer_of};
 ghost use Rattle.grid_point_weights.specs.Calls.{call_of, points_asked, grid_point_questions};
@@ -10,8 +10,9 @@ use numbers::kernel::magnitude;
 use question_values::kernel::counts;
 
 // Questions 7 and 9 to 12.
-fn ask_points(study: GridPointStudy, grid_points: &[i64], iw_len: usize) -> Result<(), Refusal>
-    ensures { result ≡ answer_of (first_no (points_asked (call_of study.entry grid_points.now) iw_len)) tt }
+#[tactic(auto, using(list_laws::proofs::BoolLaws::yes_of, list_laws::proofs::BoolLaws::no_of, crate::proofs::CallLaws::bands_some, crate::proofs::CallLaws::size_some, crate::proofs::CallLaws::size_few), unfolding(ask::specs::Ask::first_no))]
+fn ask_points(study: GridPointStudy, grid_points: &[i64], iw: &[f64]) -> Result<(), Refusal>
+    ensures { result ≡ answer_of (first_no (points_asked (call_of study.entry grid_points.now) (length iw.now))) tt }
 {
     let num_band = study.num_band;
     let points = study.frequency_points;
@@ -39,16 +40,16 @@ fn ask_points(study: GridPointStudy, grid_points: &[i64], iw_len: usize) -> Resu
         return Err(Refusal::Frequencies);
     }
     let size = points.len() * bands;
-    if !counts::length_ok(grid_points.len(), size, iw_len) {
+    if !counts::length_ok(grid_points.len(), size, iw.len()) {
         return Err(Refusal::Lengths);
     }
     Ok(())
 }
 
 // Questions 3 to 7 and 9 to 12.
-pub fn ask_weights(study: GridPointStudy, grid_points: &[i64], iw_len: usize) -> Result<(), Refusal>
-    ensures { result ≡ answer_of (first_no (grid_point_questions (call_of study.entry grid_points.now) iw_len)) tt }
+pub fn ask_weights(study: GridPointStudy, grid_points: &[i64], iw: &[f64]) -> Result<(), Refusal>
+    ensures { result ≡ answer_of (first_no (grid_point_questions (call_of study.entry grid_points.now) (length iw.now))) tt }
 {
     question_grids::kernel::grid::ask_grid(study.grid)?;
-    ask_points(study, grid_points, iw_len)
+    ask_points(study, grid_points, iw)
 }

@@ -1,5 +1,5 @@
 // The weights of one band around one grid point.
-ghost use Rattle.std.specs.Prelude.{◌≡◌, ◌*◌, ◌≤◌, ◌<◌, length};
+ghost use Rattle.std.specs.Prelude.{◌≡◌, ◌*◌, ◌<◌, length};
 ghost use Rattle.std.specs.Float.{nan, binary64};
 ghost use Rattle.std.specs.Float.Ieee.{of_bits};
 ghost use Rattle.list_laws.specs.Lists.{area};
@@ -7,40 +7,30 @@ ghost use Rattle.list_laws.specs.Columns.{InColumn};
 ghost use Rattle.list_laws.specs.Matrix.{Replaced};
 ghost use Rattle.grid_point_weights.specs.Weights.{corner_frequency, Held, corner_weight};
 
-use crate::TestedStudy;
+use crate::tested::TestedStudy;
 use tetrahedron_method::kernel::sorted;
 
-// The frequencies of a band at n corners, at the start of a work area.
-fn vertex_frequencies(
-    study: &TestedStudy,
-    corners: &[usize; 384],
-    n: usize,
-    band: usize,
-) -> [f64; 384]
-    requires { (n ≤ 384) × Held corners.now n (length study.now.lent.frequencies.now) study.now.bands band }
-    ensures { result ≡ area 384 n (corner_frequency corners.now study.now.lent.frequencies.now study.now.bands band) (of_bits binary64 0) }
+// The frequencies of a band at the corners, at the start of a work area.
+fn vertex_frequencies(study: &TestedStudy, corners: &[usize; 384], band: usize) -> [f64; 384]
+    requires { Held corners.now (study.now.rows.count * 4) (length study.now.lent.frequencies.now) study.now.bands band }
+    ensures { result ≡ area 384 (study.now.rows.count * 4) (corner_frequency corners.now study.now.lent.frequencies.now study.now.bands band) (of_bits binary64 0) }
 {
     let frequencies = study.lent.frequencies;
     let bands = study.bands;
     let mut vertices = [0.0; 384];
-    for j in 0..n {
+    for j in 0..study.rows.corners() {
         vertices[j] = frequencies[corners[j] * bands + band];
     }
     vertices
 }
 
 // The weights of a band at every frequency point: its column of the rows of bands.
-pub fn fill_band(
-    study: &TestedStudy,
-    corners: &[usize; 384],
-    rows: usize,
-    band: usize,
-    iw: &mut [f64],
-)
-    requires { (rows ≤ 96) × ((band < study.now.bands) × (Held corners.now (rows * 4) (length study.now.lent.frequencies.now) study.now.bands band × (length iw.old ≡ length study.now.lent.frequency_points.now * study.now.bands))) }
-    ensures { Replaced nan study.now.bands (InColumn (length study.now.lent.frequency_points.now) band) (λ x b. corner_weight corners.now rows study.now.lent.frequencies.now study.now.bands study.now.lent.frequency_points.now study.now.lent.function x b) iw.old iw.new }
+pub fn fill_band(study: &TestedStudy, corners: &[usize; 384], band: usize, iw: &mut [f64])
+    requires { (band < study.now.bands) × (Held corners.now (study.now.rows.count * 4) (length study.now.lent.frequencies.now) study.now.bands band × (length iw.old ≡ length study.now.lent.frequency_points.now * study.now.bands)) }
+    ensures { Replaced nan study.now.bands (InColumn (length study.now.lent.frequency_points.now) band) (λ x b. corner_weight corners.now study.now.rows.count study.now.lent.frequencies.now study.now.bands study.now.lent.frequency_points.now study.now.lent.function x b) iw.old iw.new }
 {
-    let mut vertices = vertex_frequencies(study, corners, rows * 4, band);
+    let mut vertices = vertex_frequencies(study, corners, band);
+    let rows = study.rows;
     let mut places = [0usize; 96];
     sorted::sort_rows(&mut vertices, &mut places, rows);
     let points = study.lent.frequency_points;

@@ -1,14 +1,14 @@
 // The irreducible points of the corners around a grid point.
 ghost use Rattle.std.specs.Prelude.{◌≡◌, ◌<◌};
 ghost use Rattle.question_grids.specs.Grids.{triples_in};
-ghost use Rattle.grid_point_weights.specs.Weights.{Sound, corners_of};
+ghost use Rattle.grid_point_weights.specs.Weights.{corners_of};
 ghost use Rattle.grid_point_weights.specs.Calls.{tested_study};
 
-use crate::TestedStudy;
+use crate::tested::TestedStudy;
 
 // One number for each corner of the table, at the start of a work area.
 pub fn corner_points(study: &TestedStudy, gp: usize) -> [usize; 384]
-    requires { Sound (tested_study study.now) × (gp < triples_in study.now.lent.grid.addresses.now) }
+    requires { gp < triples_in study.now.lent.grid.addresses.now }
     ensures { result ≡ corners_of (tested_study study.now) gp }
 {
     let grid = study.grid;

@@ -5,14 +5,17 @@
 ghost use Rattle.grid_point_weights.specs.Calls.{call_of, DidWeigh};
 
 pub use ask::Refusal;
-use bzgrid_lookup::BzGrid;
 pub use question_grids::Grid;
 use tetrahedron_method::WeightFunction;
+use tetrahedron_sort::Rows;
 
 mod asks;
 mod band;
 mod corners;
 mod fill;
+mod tested;
+
+use tested::TestedStudy;
 
 // What the weights at grid points are made from, as a caller lends it; num_ir is R, the count of irreducible points.
 #[derive(Clone, Copy)]
@@ -27,14 +30,6 @@ pub struct GridPointStudy<'a> {
     pub function: WeightFunction,
 }
 
-// A study that has passed its questions, with its grid and its count of bands.
-#[derive(Clone, Copy)]
-struct TestedStudy<'a> {
-    lent: GridPointStudy<'a>,
-    grid: BzGrid,
-    bands: usize,
-}
-
 // The integration weights of each band at each frequency point, for each of the grid points in turn. Questions 3, 4, 5, 6, 7, 9, 10, 11, 12.
 pub fn integration_weights_at_grid_points(
     study: GridPointStudy,
@@ -43,12 +38,16 @@ pub fn integration_weights_at_grid_points(
 ) -> Result<(), Refusal>
     ensures { DidWeigh (call_of study.entry grid_points.now) result iw.old iw.new }
 {
-    asks::ask_weights(study, grid_points, iw.len())?;
+    asks::ask_weights(study, grid_points, iw)?;
     let d_diag = study.grid.d_diag;
+    let rows = Rows {
+        count: study.relative_grid_address.len() / 12,
+    };
     let tested = TestedStudy {
         lent: study,
         grid: bzgrid_lookup::kernel::grid_of(study.grid.bz_grid_type, d_diag),
         bands: numbers::kernel::magnitude(study.num_band),
+        rows,
     };
     fill::fill_all(&tested, grid_points, iw);
     Ok(())

@@ -1,8 +1,8 @@
 // The writers need room for exactly what they write, and keep every other byte.
-ghost use Rattle.std.specs.Prelude.{◌+◌, ◌<◌, ◌≤◌, ◌≡◌, length};
+ghost use Rattle.std.specs.Prelude.{◌<◌, ◌≡◌, length};
 ghost use Rattle.listing.specs.Listings.{flag_at, front_of, refusal_of, weight_end};
 ghost use Rattle.listing.specs.Sheets.{IsListable, line_in, lines_in, sheet_listing, weights_in};
-ghost use Rattle.writing.specs.Written.{HasRoom, Wrote, written};
+ghost use Rattle.writing.specs.Written.{HasRoom, Wrote};
 
 use writing::kernel::Writer;
 
@@ -85,7 +85,7 @@ fn put_lines(writer: &mut Writer<'_>, sheet: &Sheet<'_>)
 }
 
 // Writes the listing of a sheet.
-fn put_sheet(writer: &mut Writer<'_>, sheet: &Sheet<'_>)
+pub fn put_listing(writer: &mut Writer<'_>, sheet: &Sheet<'_>)
     requires counts { IsListable sheet.now }
     requires room { HasRoom (sheet_listing sheet.now) writer.old }
     ensures { Wrote (sheet_listing sheet.now) writer.old writer.new }
@@ -94,32 +94,11 @@ fn put_sheet(writer: &mut Writer<'_>, sheet: &Sheet<'_>)
     put_lines(writer, sheet);
 }
 
-// Writes the listing of a sheet from an index on, and answers the one behind it.
-pub fn put_listing(out: &mut [u8], at: usize, sheet: &Sheet<'_>) -> usize
-    requires counts { IsListable sheet.now }
-    requires room { at + length (sheet_listing sheet.now) ≤ length out.old }
-    ensures { (result ≡ at + length (sheet_listing sheet.now)) × (out.new ≡ written at (sheet_listing sheet.now) out.old) }
-{
-    let mut writer = Writer::new(out, at);
-    put_sheet(&mut writer, sheet);
-    writer.len
-}
-
 // Writes the line of a refusal.
-fn put_refused(writer: &mut Writer<'_>, number: u64)
+pub fn put_refusal(writer: &mut Writer<'_>, number: u64)
     requires { HasRoom (refusal_of number) writer.old }
     ensures { Wrote (refusal_of number) writer.old writer.new }
 {
     writer.put_slice(b"refused\t");
     writer.put_decimal(number, 10);
-}
-
-// Writes it from an index on, and answers the one behind it.
-pub fn put_refusal(out: &mut [u8], at: usize, number: u64) -> usize
-    requires { at + length (refusal_of number) ≤ length out.old }
-    ensures { (result ≡ at + length (refusal_of number)) × (out.new ≡ written at (refusal_of number) out.old) }
-{
-    let mut writer = Writer::new(out, at);
-    put_refused(&mut writer, number);
-    writer.len
 }

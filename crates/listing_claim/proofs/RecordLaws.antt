@@ -13,12 +13,12 @@ use lib.IntN.{ℤ, pos}
 use lib.ListN.{length, get_or, take, drop, length-append}
 use lib.Seq.{ext_get_or}
 use Rattle.list_laws.specs.Lists.{at, rows}
+use Rattle.list_laws.specs.Signed.{eq_z}
 use Rattle.list_laws.specs.Columns.{BeforeColumn}
 use Rattle.list_laws.proofs.ColumnLaws.{columns-all}
 use Rattle.list_laws.proofs.MatrixLaws.{replaced-same}
 use Rattle.list_laws.proofs.ProductLaws.{digit_lt}
 use Rattle.text.specs.Fields.{bits}
-use Rattle.text.specs.Spelled.{hexadecimal}
 use Rattle.std.specs.declared.option.Option.{Option}
 use Rattle.std.specs.declared.option.Option.TheVariants.{None, Some}
 use Rattle.text.proofs.PieceLaws.{same-yes}
@@ -26,9 +26,9 @@ use Rattle.listing.specs.Listings.{header, number, weight_end, weight_text, weig
 use Rattle.reading.proofs.PassedLaws.{Stand, stand-first, stand-second, stand-byte}
 use Rattle.reading.proofs.RowLaws.{piece-stands, rows-stand}
 use Rattle.listing_line.specs.Lines.{numbers_of, flag_here, float_of, weight_here}
-use Rattle.listing_line.proofs.LineLaws.{number-zero, number-one, flag-zero, flag_one, spelled-read, sixteen}
+use Rattle.listing_line.proofs.LineLaws.{number-zero, number-one, two-bytes, flag-zero, flag_one, spelled-read}
 use Rattle.listing_read.specs.Restored.{place_of, line_start, flag_place, weight_place, flags_in, weights_in, is_listing}
-use Rattle.listing_read.proofs.RestoredLaws.{line-is, flag-two, weights-seventeen, start_is, flags-length, weights-length, flag-in, weight-in}
+use Rattle.listing_read.proofs.RestoredLaws.{line-is, weights-seventeen, start_is, flags-length, weights-length, flag-in, weight-in}
 use Rattle.listing_claim.specs.Records.{IsFlag, IsDouble, IsRecord}
 
 written-zero : (flags : List ℤ) (e : ℕ) → at flags e ≡ pos 0 → flag_at flags e ≡ 0
@@ -49,8 +49,7 @@ digit-flag text at flag (inr e) s =
 digits-weight : (text : List ℕ) (at end : ℕ) (x : Float) → IsDouble x → Stand (weight_text x end) at text → weight_here text at ≡ x
 unfolding weight_here
 digits-weight text at end x h s =
-    let t : Stand (hexadecimal (to_bits binary64 x)) at text = stand-first (hexadecimal (to_bits binary64 x)) (end ∷ []) at text s in
-    ap float_of (ap bits (sixteen (to_bits binary64 x) at text t) ∙ spelled-read (to_bits binary64 x) (to_bits-lt binary64 x h)) ∙ of_bits-to_bits binary64 x h
+    ap float_of (spelled-read (to_bits binary64 x) end at text (to_bits-lt binary64 x h) s) ∙ of_bits-to_bits binary64 x h
 
 module _ (points bands1 bands2 channels cells : ℕ) (weights : List Float) (flags : List ℤ) (r : IsRecord channels cells weights flags)
     (text : List ℕ) (w : text ≡ listing_of points bands1 bands2 channels weights flags) where
@@ -70,10 +69,11 @@ module _ (points bands1 bands2 channels cells : ℕ) (weights : List Float) (fla
       (stand-first (n ++ number (flag_at flags e) 9) (weights_of weights (length flags) e channels) (line_start points bands1 bands2 channels e) text (rw (line-is points bands1 bands2 channels weights flags e) at s))
 
   weights-stand : (e : ℕ) → e < cells → Stand (weights_of weights (length flags) e channels) (flag_place points bands1 bands2 channels e + 2) text
+  unfolding flag_at
   weights-stand e l =
       let n : List ℕ = numbers_of (place_of points bands1 bands2 e) in
       let s : Stand (lines e) (line_start points bands1 bands2 channels e) text = piece-stands header lines cells e (line_start points bands1 bands2 channels e) text listed l (sym (start_is points bands1 bands2 channels weights flags e)) in
-      let q : line_start points bands1 bands2 channels e + length (n ++ number (flag_at flags e) 9) ≡ flag_place points bands1 bands2 channels e + 2 = omega (arith, length-append n (number (flag_at flags e) 9), flag-two points bands1 bands2 channels flags e) in
+      let q : line_start points bands1 bands2 channels e + length (n ++ number (flag_at flags e) 9) ≡ flag_place points bands1 bands2 channels e + 2 = omega (arith, length-append n (number (flag_at flags e) 9), two-bytes (eq_z (at flags e) (pos 0))) in
       rw q at
       (stand-second (n ++ number (flag_at flags e) 9) (weights_of weights (length flags) e channels) (line_start points bands1 bands2 channels e) text (rw (line-is points bands1 bands2 channels weights flags e) at s))
 

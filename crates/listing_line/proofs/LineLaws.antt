@@ -20,8 +20,10 @@ use Rattle.text.specs.Spelled.{places, decimal, hexadecimal}
 use Rattle.text.proofs.RoundTrip.{bits-read, bits-only}
 use Rattle.text.proofs.SpelledLaws.{length-hexadecimal}
 use Rattle.listing.specs.Listings.{number, weight_end, weight_text}
-use Rattle.reading.specs.Passed.{passed}
-use Rattle.reading.proofs.PassedLaws.{Stand, passed-yes, passed-no, passed-append, passed_then, stand-first, stand-one, stand-other}
+use Rattle.reading.specs.Passes.{Passes}
+use Rattle.reading.specs.declared.kernel.Reader.{Reader}
+use Rattle.reading.proofs.PassedLaws.{Stand, stand-first}
+use Rattle.reading.proofs.ReaderLaws.{passes-lost, passes_then}
 use Rattle.listing_line.specs.declared.Place.{Place}
 use Rattle.listing_line.specs.Lines.{numbers_of, flag_here, float_of, weight_here, weights_here, line_here}
 
@@ -49,33 +51,12 @@ module _ (text : List ℕ) (at : ℕ) where
   unfolding flag_here
   flag_one n = rw (ne_eqb (get_or text at 0) 48 n)
 
-  pub flag-length : length (number (flag_here text at) 9) ≡ 2
-  unfolding flag_here
-  flag-length = two-bytes (eqb (get_or text at 0) 48)
+  -- the digit of the flag, and its tab
+  pub digit-zero : get_or text at 0 ≡ 48 → (48 ∷ []) ++ (9 ∷ []) ≡ number (flag_here text at) 9
+  digit-zero e = rw (flag-zero e) (sym number-zero)
 
-  module _ (h : at < length text) where
-    -- a digit that is a flag's: what is left is the tab
-    digit-passed : (b flag : ℕ) → number flag 9 ≡ (b ∷ []) ++ (9 ∷ []) → flag_here text at ≡ flag → get_or text at 0 ≡ b
-        → passed (9 ∷ []) (at + 1) text ≡ passed (number (flag_here text at) 9) at text
-    digit-passed b flag e f g =
-        sym (
-        rw (f, e)
-        (passed-append (b ∷ []) (9 ∷ []) at text
-        ∙ ap (λ (p : ℕ). passed (9 ∷ []) p text) (sym (passed-yes (b ∷ []) at text (stand-one b at text h g))))
-        )
-
-    pub zero-passed : get_or text at 0 ≡ 48 → passed (9 ∷ []) (at + 1) text ≡ passed (number (flag_here text at) 9) at text
-    zero-passed e = digit-passed 48 0 number-zero (flag-zero e) e
-
-    pub one-passed : (get_or text at 0 ≡ 48 → ⊥) → get_or text at 0 ≡ 49 → passed (9 ∷ []) (at + 1) text ≡ passed (number (flag_here text at) 9) at text
-    one-passed n e = digit-passed 49 1 number-one (flag_one n) e
-
-    pub flag-other : (get_or text at 0 ≡ 48 → ⊥) → (get_or text at 0 ≡ 49 → ⊥) → length text + 1 ≡ passed (number (flag_here text at) 9) at text
-    flag-other n m =
-        let z : at + 0 ≡ at = omega arith in
-        rw (flag_one n, number-one)
-        (passed-no ((49 ∷ []) ++ (9 ∷ [])) at text
-        (stand-other ((49 ∷ []) ++ (9 ∷ [])) text at 0 (lit< tt) (rw z m)))
+  pub digit-one : (get_or text at 0 ≡ 48 → ⊥) → (49 ∷ []) ++ (9 ∷ []) ≡ number (flag_here text at) 9
+  digit-one n = rw (flag_one n) (sym number-one)
 
 -- ---- the pattern of a weight
 
@@ -102,18 +83,15 @@ pattern-of None = rw nan-bits (lit< tt)
 pub weight-length : (x : Float) (end : ℕ) → length (weight_text x end) ≡ 17
 weight-length x end = length-append (hexadecimal (to_bits binary64 x)) (end ∷ []) ∙ omega (arith, length-hexadecimal (to_bits binary64 x))
 
--- the digits of 64 bits are read as those bits
-pub spelled-read : (n : ℕ) → n < 2 ^ 64 → bits (hexadecimal n) ≡ Some n
-unfolding hexadecimal
-spelled-read n h = bits-read n h
-
-pub spelled-only : (s : List ℕ) (n : ℕ) → bits s ≡ Some n → s ≡ hexadecimal n
+spelled-only : (s : List ℕ) (n : ℕ) → bits s ≡ Some n → s ≡ hexadecimal n
 unfolding hexadecimal
 spelled-only s n e = bits-only s n e
 
--- sixteen bytes stand where they are those of the pattern
-pub sixteen : (n at : ℕ) (text : List ℕ) → Stand (hexadecimal n) at text → take 16 (drop at text) ≡ hexadecimal n
-sixteen n at text s = ap (λ (k : ℕ). take k (drop at text)) (sym (length-hexadecimal n)) ∙ s
+-- where the digits of 64 bits stand, those bits are read
+pub spelled-read : (n end at : ℕ) (text : List ℕ) → n < 2 ^ 64 → Stand (hexadecimal n ++ (end ∷ [])) at text → bits (take 16 (drop at text)) ≡ Some n
+unfolding hexadecimal
+spelled-read n end at text h s =
+    ap bits (ap (λ (k : ℕ). take k (drop at text)) (sym (length-hexadecimal n)) ∙ stand-first (hexadecimal n) (end ∷ []) at text s) ∙ bits-read n h
 
 module _ (text : List ℕ) (at end : ℕ) (m : Option ℕ) (e : m ≡ bits (take 16 (drop at text))) where
   pub weight_is : float_of m ≡ weight_here text at
@@ -122,13 +100,10 @@ module _ (text : List ℕ) (at end : ℕ) (m : Option ℕ) (e : m ≡ bits (take
 
   -- what stands there, if it does, was read
   stood : Stand (weight_text (weight_here text at) end) at text → m ≡ Some (to_bits binary64 (weight_here text at))
-  stood s =
-      e
-      ∙ (ap bits (sixteen (to_bits binary64 (weight_here text at)) at text (stand-first (hexadecimal (to_bits binary64 (weight_here text at))) (end ∷ []) at text s))
-      ∙ spelled-read (to_bits binary64 (weight_here text at)) (rw (sym weight_is) (pattern-of m)))
+  stood s = e ∙ spelled-read (to_bits binary64 (weight_here text at)) end at text (rw (sym weight_is) (pattern-of m)) s
 
-  pub weight-bad : m ≡ None → length text + 1 ≡ passed (weight_text (weight_here text at) end) at text
-  weight-bad b = passed-no (weight_text (weight_here text at) end) at text (λ s. absurd (let z : ◌≡◌ {A = ℕ} 0 1 = unlike (sym b ∙ stood s) in omega (arith, z)))
+  pub weight-bad : m ≡ None → Stand (weight_text (weight_here text at) end) at text → ⊥
+  weight-bad b s = absurd (let z : ◌≡◌ {A = ℕ} 0 1 = unlike (sym b ∙ stood s) in omega (arith, z))
     where
       unlike : {n : ℕ} → None ≡ Some n → ◌≡◌ {A = ℕ} 0 1
       unlike q = cc
@@ -137,51 +112,54 @@ module _ (text : List ℕ) (at end : ℕ) (m : Option ℕ) (e : m ≡ bits (take
     here-is : weight_here text at ≡ of_bits binary64 pattern
     here-is = sym weight_is ∙ ap float_of i
 
-    pub weight-unprinted : false ≡ eqb (to_bits binary64 (of_bits binary64 pattern)) pattern → length text + 1 ≡ passed (weight_text (weight_here text at) end) at text
-    weight-unprinted p =
-        passed-no (weight_text (weight_here text at) end) at text
-        (λ s.
+    pub weight-unprinted : false ≡ eqb (to_bits binary64 (of_bits binary64 pattern)) pattern → Stand (weight_text (weight_here text at) end) at text → ⊥
+    weight-unprinted p s =
         let q : to_bits binary64 (of_bits binary64 pattern) ≡ pattern = ap (to_bits binary64) (sym here-is) ∙ same-pattern (sym (stood s) ∙ i) in
-        clash (p ∙ eq-eqb (to_bits binary64 (of_bits binary64 pattern)) pattern q))
+        clash (p ∙ eq-eqb (to_bits binary64 (of_bits binary64 pattern)) pattern q)
       where
         same-pattern : {a b : ℕ} → Some a ≡ Some b → a ≡ b
         same-pattern q = cc
 
-    pub weight-printed : to_bits binary64 (of_bits binary64 pattern) ≡ pattern → passed (end ∷ []) (at + 16) text ≡ passed (weight_text (weight_here text at) end) at text
-    weight-printed p =
-        let n : to_bits binary64 (weight_here text at) ≡ pattern = ap (to_bits binary64) here-is ∙ p in
-        let s : Stand (hexadecimal pattern) at text = ap (λ (k : ℕ). take k (drop at text)) (length-hexadecimal pattern) ∙ spelled-only (take 16 (drop at text)) pattern (sym e ∙ i) in
-        sym (
-        rw n
-        (passed-append (hexadecimal pattern) (end ∷ []) at text
-        ∙ ap (λ (q : ℕ). passed (end ∷ []) q text) (sym (passed-yes (hexadecimal pattern) at text s) ∙ omega (arith, length-hexadecimal pattern)))
-        )
+    pub weight-printed : to_bits binary64 (of_bits binary64 pattern) ≡ pattern → hexadecimal pattern ++ (end ∷ []) ≡ weight_text (weight_here text at) end
+    weight-printed p = ap (λ (n : ℕ). hexadecimal n ++ (end ∷ [])) (sym (ap (to_bits binary64) here-is ∙ p))
+
+    pub pattern-stands : Stand (hexadecimal pattern) at text
+    pattern-stands = ap (λ (k : ℕ). take k (drop at text)) (length-hexadecimal pattern) ∙ spelled-only (take 16 (drop at text)) pattern (sym e ∙ i)
 
 -- ---- the weights of a line
 
-pub weights-length : (channels : ℕ) (text : List ℕ) (at n : ℕ) → length (rows n (λ c. weight_text (weight_here text (at + 17 * c)) (weight_end channels c))) ≡ n * 17
-weights-length channels text at n = length-rows n 17 (λ c. weight_text (weight_here text (at + 17 * c)) (weight_end channels c)) (λ c l. weight-length (weight_here text (at + 17 * c)) (weight_end channels c))
+-- what the writer prints for the weight of a channel, of those from an index on
+abbrev pub weight_there : ℕ → List ℕ → ℕ → ℕ → List ℕ
+weight_there channels text at c = weight_text (weight_here text (at + 17 * c)) (weight_end channels c)
+
+weights-length : (channels : ℕ) (text : List ℕ) (at n : ℕ) → length (rows n (weight_there channels text at)) ≡ n * 17
+weights-length channels text at n = length-rows n 17 (weight_there channels text at) (λ c l. weight-length (weight_here text (at + 17 * c)) (weight_end channels c))
 
 -- one channel more
-pub weights-next : (channels : ℕ) (text : List ℕ) (at c p q end : ℕ) → p ≡ passed (rows c (λ c. weight_text (weight_here text (at + 17 * c)) (weight_end channels c))) at text
-    → end ≡ weight_end channels c → q ≡ passed (weight_text (weight_here text p) end) p text
-    → q ≡ passed (rows (c + 1) (λ c. weight_text (weight_here text (at + 17 * c)) (weight_end channels c))) at text
+pub weights-next : (channels : ℕ) {u v w : Reader} {r : Option (Unit {0})} (c end : ℕ) → Passes (rows c (weight_there channels u.text.now u.at)) u v (Some (tt {0})) → end ≡ weight_end channels c
+    → Passes (weight_text (weight_here v.text.now v.at) end) v w r → Passes (rows (c + 1) (weight_there channels u.text.now u.at)) u w r
 unfolding rows
-weights-next channels text at c p q end e f g =
-    let place : at + length (rows c (λ c. weight_text (weight_here text (at + 17 * c)) (weight_end channels c))) ≡ at + 17 * c = omega (arith, weights-length channels text at c) in
+weights-next channels {u} {v} {w} {r} c end p e q =
+    let place : u.at + length (rows c (weight_there channels u.text.now u.at)) ≡ u.at + 17 * c = omega (arith, weights-length channels u.text.now u.at c) in
     rw add-one
-    (passed_then (rows c (λ c. weight_text (weight_here text (at + 17 * c)) (weight_end channels c))) (λ k. weight_text (weight_here text k) (weight_end channels c)) at p q text e (g ∙ ap (λ (x : ℕ). passed (weight_text (weight_here text p) x) p text) f)
-    ∙ ap (λ (k : ℕ). passed (rows c (λ c. weight_text (weight_here text (at + 17 * c)) (weight_end channels c)) ++ weight_text (weight_here text k) (weight_end channels c)) at text) place)
+    (rw place at (passes_then (rows c (weight_there channels u.text.now u.at)) (λ text k. weight_text (weight_here text k) (weight_end channels c)) p (rw e at q)))
 
 -- ---- the line
 
--- numbers, flag and weights, one behind the other
-pub line-passed : (place : Place) (channels : ℕ) (text : List ℕ) (at a b r : ℕ) → a ≡ passed (numbers_of place) at text
-    → b ≡ passed (number (flag_here text a) 9) a text → r ≡ passed (weights_here channels text b) b text → r ≡ passed (line_here place channels text at) at text
-unfolding line_here
-line-passed place channels text at a b r e f g =
-    let n : List ℕ = numbers_of place in
-    let flag : List ℕ = number (flag_here text (at + length n)) 9 in
-    let q : at + length (n ++ flag) ≡ at + length n + 2 = omega (arith, length-append n flag, flag-length text (at + length n)) in
-    passed_then (n ++ flag) (λ k. weights_here channels text k) at b r text (passed_then n (λ k. number (flag_here text k) 9) at a b text e f) g
-    ∙ ap (λ (k : ℕ). passed (n ++ flag ++ weights_here channels text k) at text) q
+-- numbers, a flag and weights, one behind the other
+module _ (place : Place) (channels : ℕ) {u v : Reader} (p : Passes (numbers_of place) u v (Some (tt {0}))) where
+  flagged : {w : Reader} {r : Option (Unit {0})} → Passes (number (flag_here v.text.now v.at) 9) v w r → Passes (numbers_of place ++ number (flag_here u.text.now (u.at + length (numbers_of place))) 9) u w r
+  flagged q = passes_then (numbers_of place) (λ text k. number (flag_here text k) 9) p q
+
+  pub no-flag : {w : Reader} → Passes (number (flag_here v.text.now v.at) 9) v w None → Passes (line_here place channels u.text.now u.at) u w None
+  unfolding line_here
+  no-flag q = passes-lost _ _ (flagged q)
+
+  pub line-passes : {w x : Reader} {r : Option (Unit {0})} → Passes (number (flag_here v.text.now v.at) 9) v w (Some (tt {0})) → Passes (weights_here channels w.text.now w.at) w x r
+      → Passes (line_here place channels u.text.now u.at) u x r
+  unfolding line_here flag_here
+  line-passes q s =
+      let n : List ℕ = numbers_of place in
+      let flag : List ℕ = number (flag_here u.text.now (u.at + length n)) 9 in
+      let e : u.at + length (n ++ flag) ≡ u.at + length n + 2 = omega (arith, length-append n flag, two-bytes (eqb (get_or u.text.now (u.at + length n) 0) 48)) in
+      rw e at (passes_then (n ++ flag) (weights_here channels) (flagged q) s)

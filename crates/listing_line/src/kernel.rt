@@ -1,53 +1,45 @@
-// Each function that passes is given an index and answers the one behind what the writer prints there, or one behind the end of the text
-// where something else stands. A flag and a weight are those that stand in the text itself.
+// What the writer prints, passed over where it stands in a reader's text. A flag and a weight are those that stand in the text itself.
 ghost use Rattle.std.specs.Prelude.{◌+◌, ◌≤◌, ◌<◌, ◌≡◌, eqb, pos, length};
 ghost use Rattle.std.specs.Float.{binary64};
 ghost use Rattle.std.specs.Float.Ieee.{of_bits, to_bits};
 ghost use Rattle.listing.specs.Listings.{number, weight_text};
-ghost use Rattle.reading.specs.Passed.{passed};
+ghost use Rattle.reading.specs.Passes.{Passes};
 ghost use Rattle.listing_line.specs.Lines.{numbers_of, flag_here, weight_here, weights_here, line_here};
 
 use crate::Place;
 use listing::kernel::weight_end;
-use reading::kernel::{pass_byte, pass_decimal};
+use reading::kernel::Reader;
 use text::kernel::{float_of, parse_bits};
 
 // Passes over the numbers of a place, a tab after each.
-pub fn pass_numbers(text: &[u8], at: usize, place: Place) -> usize
-    requires { at ≤ length text.now + 1 }
-    ensures value { result ≡ passed (numbers_of place) at text.now }
-    ensures upper_bound { result ≤ length text.now + 1 }
+pub fn pass_numbers(reader: &mut Reader<'_>, place: Place) -> Option<()>
+    ensures { Passes (numbers_of place) reader.old reader.new result }
 {
-    let a = pass_decimal(text, at, place.triplet as u64, 9);
-    let b = pass_decimal(text, a, place.point as u64, 9);
-    let c = pass_decimal(text, b, place.b1 as u64, 9);
-    pass_decimal(text, c, place.b2 as u64, 9)
+    reader.pass_decimal(place.triplet as u64, 9)?;
+    reader.pass_decimal(place.point as u64, 9)?;
+    reader.pass_decimal(place.b1 as u64, 9)?;
+    reader.pass_decimal(place.b2 as u64, 9)
 }
 
-// The flag at an index.
-pub fn flag_at(text: &[u8], at: usize) -> i8
-    requires { at < length text.now }
-    ensures { result ≡ pos (flag_here text.now at) }
+// The flag where a reader is.
+pub fn flag_at(reader: &Reader<'_>) -> i8
+    requires { reader.now.at < length reader.now.text.now }
+    ensures { result ≡ pos (flag_here reader.now.text.now reader.now.at) }
 {
-    if text[at] == 48 { 0 } else { 1 }
+    if reader.text[reader.at] == 48 { 0 } else { 1 }
 }
 
 // Passes over a flag and its tab.
-fn pass_flag(text: &[u8], at: usize) -> usize
-    requires { at ≤ length text.now + 1 }
-    ensures value { result ≡ passed (number (flag_here text.now at) 9) at text.now }
-    ensures upper_bound { result ≤ length text.now + 1 }
+fn pass_flag(reader: &mut Reader<'_>) -> Option<()>
+    ensures { Passes (number (flag_here reader.old.text.now reader.old.at) 9) reader.old reader.new result }
 {
-    if text.len() <= at {
-        return text.len() + 1;
-    }
-    if text[at] == 48 {
-        return pass_byte(text, at + 1, 9);
-    }
-    if text[at] == 49 {
-        return pass_byte(text, at + 1, 9);
-    }
-    text.len() + 1
+    let digit = if *reader.text.get(reader.at)? == 48 {
+        48
+    } else {
+        49
+    };
+    reader.pass_byte(digit)?;
+    reader.pass_byte(9)
 }
 
 // Whether the writer prints a bit pattern: of the NaNs it prints one.
@@ -60,61 +52,47 @@ fn is_printed(pattern: u64) -> bool
     true
 }
 
-// The weight at an index.
-pub fn weight_at(text: &[u8], at: usize) -> f64
-    requires { at + 16 ≤ length text.now }
-    ensures { result ≡ weight_here text.now at }
+// The weight where a reader is.
+pub fn weight_at(reader: &Reader<'_>) -> f64
+    requires { reader.now.at + 16 ≤ length reader.now.text.now }
+    ensures { result ≡ weight_here reader.now.text.now reader.now.at }
 {
-    match parse_bits(&text[at..at + 16]) {
+    match parse_bits(&reader.text[reader.at..reader.at + 16]) {
         Some(pattern) => float_of(pattern),
         None => 0.0 / 0.0,
     }
 }
 
 // Passes over a weight and the byte after it.
-fn pass_weight(text: &[u8], at: usize, end: u8) -> usize
-    requires { at ≤ length text.now + 1 }
-    ensures value { result ≡ passed (weight_text (weight_here text.now at) end) at text.now }
-    ensures upper_bound { result ≤ length text.now + 1 }
+fn pass_weight(reader: &mut Reader<'_>, end: u8) -> Option<()>
+    ensures { Passes (weight_text (weight_here reader.old.text.now reader.old.at) end) reader.old reader.new result }
 {
-    let lost = text.len() + 1;
-    if text.len() < at {
-        return lost;
+    if reader.text.len() - reader.at < 16 {
+        return None;
     }
-    if text.len() - at < 16 {
-        return lost;
+    let pattern = parse_bits(&reader.text[reader.at..reader.at + 16])?;
+    if !is_printed(pattern) {
+        return None;
     }
-    match parse_bits(&text[at..at + 16]) {
-        Some(pattern) => {
-            if is_printed(pattern) {
-                return pass_byte(text, at + 16, end);
-            }
-            lost
-        }
-        None => lost,
-    }
+    reader.skip(16);
+    reader.pass_byte(end)
 }
 
 // Passes over the weights of a line, one a channel.
-fn pass_weights(text: &[u8], at: usize, channels: usize) -> usize
-    requires { at ≤ length text.now + 1 }
-    ensures value { result ≡ passed (weights_here channels text.now at) at text.now }
-    ensures upper_bound { result ≤ length text.now + 1 }
+fn pass_weights(reader: &mut Reader<'_>, channels: usize) -> Option<()>
+    ensures { Passes (weights_here channels reader.old.text.now reader.old.at) reader.old reader.new result }
 {
-    let mut p = at;
     for c in 0..channels {
-        p = pass_weight(text, p, weight_end(channels, c));
+        pass_weight(reader, weight_end(channels, c))?;
     }
-    p
+    Some(())
 }
 
 // Passes over the line of a place.
-pub fn pass_line(text: &[u8], at: usize, place: Place, channels: usize) -> usize
-    requires { at ≤ length text.now + 1 }
-    ensures value { result ≡ passed (line_here place channels text.now at) at text.now }
-    ensures upper_bound { result ≤ length text.now + 1 }
+pub fn pass_line(reader: &mut Reader<'_>, place: Place, channels: usize) -> Option<()>
+    ensures { Passes (line_here place channels reader.old.text.now reader.old.at) reader.old reader.new result }
 {
-    let a = pass_numbers(text, at, place);
-    let b = pass_flag(text, a);
-    pass_weights(text, b, channels)
+    pass_numbers(reader, place)?;
+    pass_flag(reader)?;
+    pass_weights(reader, channels)
 }

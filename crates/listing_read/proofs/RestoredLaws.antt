@@ -4,57 +4,35 @@ use mathlib.Core.Path.{◌≡◌, refl, sym, ap, ◌∙◌}
 use mathlib.Core.Bool.{Bool, true, false, cond}
 use mathlib.Core.List.{List, [], ◌++◌, append-nil}
 use mathlib.Core.Logic.{◌⊎◌, inl, inr}
-use native.Mathlib.Nat.{div-add-mod', div-eq_of_lt, div-le_self, mod-eq_of_lt, mod-lt}
+use native.Mathlib.Nat.{div-eq_of_lt, div-le_self, mod-eq_of_lt, mod-lt}
 use native.Mathlib.Omega.{arith}
-use lib.Arith.{digits_mod, digits_div}
 use lib.Dec.{eqb}
 use lib.Ieee.{Float, nan}
 use lib.IntN.{ℤ, pos}
 use lib.ListN.{length, get_or, length-append}
-use borrow.Author.Tests.{eqb-true, eqb-false, lt-ltb, le-ltb}
+use borrow.Author.Tests.{ne_eqb, eqb-true, eqb-false, lt-ltb, le-ltb}
 use Rattle.list_laws.specs.Lists.{at, tabulate, rows}
 use Rattle.list_laws.specs.Signed.{eq_z}
-use Rattle.list_laws.proofs.BoolLaws.{lt-or-le}
+use Rattle.list_laws.proofs.BoolLaws.{clash, lt-or-le}
 use Rattle.list_laws.proofs.ColumnLaws.{rows-entry}
 use Rattle.list_laws.proofs.FillLaws.{length-tabulate, length-rows, tabulate-at}
+use Rattle.list_laws.proofs.NextLaws.{mod-up, div-kept, mod-back, div-up}
 use Rattle.text.specs.Pieces.{same}
 use Rattle.text.proofs.PieceLaws.{same-yes, same-is, same-no}
 use Rattle.listing.specs.Listings.{header, number, front_of, weight_end, weight_text, weight_of, weights_of, flag_at, line_of, lines_of, listing_of}
 use Rattle.reading.specs.Passed.{passed}
 use Rattle.reading.proofs.PassedLaws.{Stand, passed-yes, stand-first, stand-room, whole_is, whole-passed}
-use Rattle.reading.proofs.RowLaws.{rows_ext, rows_long, one_more_lem, front-stands, piece-stands, piece-passed, rows-lost}
+use Rattle.std.specs.Prelude.{Option, Some, None}
+use Rattle.std.specs.Option.{is_some}
+use Rattle.reading.specs.Passes.{Passes, reached}
+use Rattle.reading.specs.declared.kernel.Reader.{Reader}
+use Rattle.reading.proofs.ReaderLaws.{passes-as, pieces-lost, pieces-next}
+use Rattle.reading.proofs.RowLaws.{rows_ext, rows_long, one_more_lem, front-stands, piece-stands}
 use Rattle.listing_line.specs.Lines.{numbers_of, flag_here, weight_here, weights_here, line_here}
 use Rattle.listing_line.proofs.LineLaws.{two-bytes, weight-length}
-use Rattle.listing_read.specs.Restored.{place_of, next_place, line_start, flag_place, weight_place, flags_in, weights_in, is_listing}
+use Rattle.listing_read.specs.Restored.{place_of, next_place, line_start, flag_place, weight_place, flags_in, weights_in, is_listing, listing_in}
 
 -- ---- the place after a place
-
--- a number in base n, and the next: the last digit goes up, or back to 0
-module _ (e n : ℕ) (h : 0 < n) where
-  same_whole : e / n * n + e % n ≡ e
-  same_whole = div-add-mod' e n
-
-  pub mod-up : e % n + 1 < n → (e + 1) % n ≡ e % n + 1
-  mod-up l = let q : e + 1 ≡ e / n * n + (e % n + 1) = omega (arith, same_whole) in rw q (digits_mod (e / n) {m = n} {r = e % n + 1} l)
-
-  pub div-kept : e % n + 1 < n → (e + 1) / n ≡ e / n
-  div-kept l = let q : e + 1 ≡ e / n * n + (e % n + 1) = omega (arith, same_whole) in ap (λ (k : ℕ). k / n) q ∙ digits_div (e / n) {m = n} {r = e % n + 1} l
-
-  pub mod-back : n ≤ e % n + 1 → (e + 1) % n ≡ 0
-  mod-back l =
-      let q : e + 1 ≡ (e / n + 1) * n + 0 = omega (arith, same_whole, mod-lt e h, up) in
-      ap (λ (k : ℕ). k % n) q ∙ digits_mod (e / n + 1) {m = n} {r = 0} h
-    where
-      up : (e / n + 1) * n ≡ e / n * n + n
-      up = omega arith
-
-  pub div-up : n ≤ e % n + 1 → (e + 1) / n ≡ e / n + 1
-  div-up l =
-      let q : e + 1 ≡ (e / n + 1) * n + 0 = omega (arith, same_whole, mod-lt e h, up) in
-      ap (λ (k : ℕ). k / n) q ∙ digits_div (e / n + 1) {m = n} {r = 0} h
-    where
-      up : (e / n + 1) * n ≡ e / n * n + n
-      up = omega arith
 
 module _ (points bands1 bands2 : ℕ) (h₀ : 0 < points) (h₁ : 0 < bands1) (h₂ : 0 < bands2) where
   pub first-place : record { triplet = 0; point = 0; b1 = 0; b2 = 0 } ≡ place_of points bands1 bands2 0
@@ -102,23 +80,19 @@ module _ (points bands1 bands2 channels : ℕ) where
   unfolding line_of front_of numbers_of place_of
   line-is weights flags e = refl
 
-  pub flag-two : (flags : List ℤ) (e : ℕ) → length (number (flag_at flags e) 9) ≡ 2
-  unfolding flag_at
-  flag-two flags e = two-bytes (eq_z (at flags e) (pos 0))
-
   pub weights-seventeen : (weights : List Float) (total e n : ℕ) → length (rows n (weight_of weights total e channels)) ≡ n * 17
   unfolding weight_of
   weights-seventeen weights total e n = length-rows n 17 (weight_of weights total e channels) (λ c l. weight-length (get_or weights (c * total + e) nan) (weight_end channels c))
 
   pub line-width : (weights : List Float) (flags : List ℤ) (e : ℕ) → length (line_of points bands1 bands2 channels weights flags e) ≡ length (numbers_of (place_of points bands1 bands2 e)) + 2 + 17 * channels
-  unfolding weights_of
+  unfolding weights_of flag_at
   line-width weights flags e =
       ap length (line-is weights flags e)
       ∙ omega (
         arith,
         length-append (numbers e ++ number (flag_at flags e) 9) (weights_of weights (length flags) e channels),
         length-append (numbers e) (number (flag_at flags e) 9),
-        flag-two flags e,
+        two-bytes (eq_z (at flags e) (pos 0)),
         weights-seventeen weights (length flags) e channels,
       )
 
@@ -192,16 +166,20 @@ module _ (points bands1 bands2 channels : ℕ) where
     unfolding listing_of lines_of
     listed-is = ap (λ (n : ℕ). header ++ rows n lines_in) flags-length
 
-    pub judged-first : (p : ℕ) → p ≡ passed header 0 text → p ≡ passed (header ++ rows 0 lines_in) 0 text
-    unfolding rows
-    judged-first p e = e ∙ ap (λ (l : List ℕ). passed l 0 text) (sym (append-nil header))
+    -- a reader at the front passes over the header, then line after line
+    module _ {u v : Reader} (z : u.at ≡ 0) (t : u.text.now ≡ text) where
+      pub judged-first : {r : Option (Unit {0})} → Passes header u v r → Passes (header ++ rows 0 lines_in) u v r
+      unfolding rows
+      judged-first p = passes-as (sym (append-nil header)) p
 
-    pub judged-next : (e p q : ℕ) → e < cells → p ≡ passed (header ++ rows e lines_in) 0 text
-        → q ≡ passed (line_here (place_of points bands1 bands2 e) channels text p) p text → q ≡ passed (header ++ rows (e + 1) lines_in) 0 text
-    judged-next e p q l a b =
-        piece-passed header lines_in (λ k. line_here (place_of points bands1 bands2 e) channels text k) e p q text
-        (ap (line_here (place_of points bands1 bands2 e) channels text) (start_is (weights_in points bands1 bands2 channels cells text) (flags_in points bands1 bands2 channels cells text) e) ∙ line-here e l)
-        a b
+      pub judged-next : (e : ℕ) {w : Reader} {r : Option (Unit {0})} → e < cells → Passes (header ++ rows e lines_in) u v (Some (tt {0}))
+          → Passes (line_here (place_of points bands1 bands2 e) channels v.text.now v.at) v w r → Passes (header ++ rows (e + 1) lines_in) u w r
+      judged-next e l p q =
+          let at : u.at + length (header ++ rows e lines_in) ≡ line_start points bands1 bands2 channels e = omega (arith, z, start_is (weights_in points bands1 bands2 channels cells text) (flags_in points bands1 bands2 channels cells text) e) in
+          pieces-next header lines_in (line_here (place_of points bands1 bands2 e) channels) e (rw (t, at) (line-here e l)) p q
+
+      pub judged-lost : (e : ℕ) → e ≤ cells → Passes (header ++ rows e lines_in) u v None → Passes (header ++ rows cells lines_in) u v None
+      judged-lost e h p = pieces-lost header lines_in e cells h p
 
     pub judged-all : (p : ℕ) → p ≡ passed (header ++ rows cells lines_in) 0 text → eqb p (length text) ≡ is_listing points bands1 bands2 channels cells text
     unfolding is_listing
@@ -211,12 +189,20 @@ module _ (points bands1 bands2 channels : ℕ) where
         go true f = sym (same-yes text _ (whole_is (header ++ rows cells lines_in) text (sym e ∙ eqb-true p (length text) f) ∙ sym listed-is))
         go false f = sym (same-no text _ (λ s. eqb-false p (length text) f (e ∙ whole-passed (header ++ rows cells lines_in) text (s ∙ listed-is))))
 
-    pub judged-lost : (e p : ℕ) → e ≤ cells → p ≡ passed (header ++ rows e lines_in) 0 text → length text < p → p ≤ length text + 1 → false ≡ is_listing points bands1 bands2 channels cells text
-    unfolding is_listing
-    judged-lost e p h a l m =
-        sym (same-no text _ (λ s.
-        let q : passed (header ++ rows cells lines_in) 0 text ≡ length text = whole-passed (header ++ rows cells lines_in) text (s ∙ listed-is) in
-        omega (arith, q, rows-lost header lines_in e cells text h (omega (arith, a)))))
+    -- a text is the listing where a reader that begins at its front passes over that, and is then at the end
+    module _ {u v : Reader} (z : u.at ≡ 0) (t : u.text.now ≡ text) where
+      judged : (r : Option (Unit {0})) → Passes (listing_in points bands1 bands2 channels cells u.text.now) u v r → eqb (reached v r) (length text) ≡ is_listing points bands1 bands2 channels cells text
+      judged r p = judged-all (reached v r) (rw (t, z, listed-is) at p.value)
+
+      pub judged-some : (r : Option (Unit {0})) → is_some r ≡ true → Passes (listing_in points bands1 bands2 channels cells u.text.now) u v r → eqb v.at (length text) ≡ is_listing points bands1 bands2 channels cells text
+      judged-some (Some done) y p = judged (Some done) p
+      judged-some None y p = absurd (clash y)
+
+      pub judged-none : (r : Option (Unit {0})) → is_some r ≡ false → Passes (listing_in points bands1 bands2 channels cells u.text.now) u v r → false ≡ is_listing points bands1 bands2 channels cells text
+      judged-none (Some done) y p = absurd (clash (sym y))
+      judged-none None y p =
+          let e : v.text.now ≡ text = ap (λ (b : _). b.now) p.same-text ∙ t in
+          sym (ne_eqb (length v.text.now + 1) (length text) (λ q. omega (arith, q, ap length e))) ∙ judged None p
 
     -- ---- an accepted text
 
@@ -224,6 +210,11 @@ module _ (points bands1 bands2 channels : ℕ) where
       pub accepted-is : text ≡ header ++ rows cells lines_in
       unfolding is_listing
       accepted-is = same-is text _ yes ∙ listed-is
+
+      -- the header is there
+      pub header-room : 27 ≤ length text
+      unfolding header
+      header-room = omega (arith, ap length accepted-is, length-append header (rows cells lines_in))
 
       -- the numbers of an entry stand where its line begins, and there is room for the line
       pub numbers-passed : (e : ℕ) → e < cells → passed (numbers_of (place_of points bands1 bands2 e)) (line_start points bands1 bands2 channels e) text ≡ flag_place points bands1 bands2 channels e

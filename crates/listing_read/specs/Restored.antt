@@ -40,6 +40,10 @@ module _ (points bands1 bands2 channels : ℕ) where
   unfoldable pub weights_in : ℕ → List ℕ → List Float
   weights_in cells text = rows channels (λ c. tabulate cells (λ e. weight_here text (weight_place c e)))
 
+  -- what the writer prints for that record
+  abbrev pub listing_in : ℕ → List ℕ → List ℕ
+  listing_in cells text = listing_of points bands1 bands2 channels (weights_in cells text) (flags_in cells text)
+
   -- Question 22, "are header, lines, field forms and order those of the writer": the text is what the writer prints for that record
   unfoldable pub is_listing : ℕ → List ℕ → Bool
-  is_listing cells text = same text (listing_of points bands1 bands2 channels (weights_in cells text) (flags_in cells text))
+  is_listing cells text = same text (listing_in cells text)

@@ -3,8 +3,9 @@ pub mod restore;
 
 ghost use Rattle.std.specs.Prelude.{◌+◌, ◌<◌, ◌≡◌};
 ghost use Rattle.ask.specs.Refusals.{answer_of};
+ghost use Rattle.reading.specs.Passes.{Passes};
 ghost use Rattle.listing_read.specs.Forms.{IsForm, form_of};
-ghost use Rattle.listing_read.specs.Restored.{next_place, is_listing};
+ghost use Rattle.listing_read.specs.Restored.{next_place, is_listing, listing_in};
 ghost use Rattle.listing_read.specs.Reading.{read_no};
 
 use crate::Form;
@@ -13,7 +14,7 @@ use listing_line::Place;
 use listing_line::kernel::pass_line;
 use numbers::kernel::magnitude;
 use question_values::kernel::tp_type::channels_of;
-use reading::kernel::pass_slice;
+use reading::kernel::Reader;
 use sheet_counts::Counts;
 use sheet_counts::kernel::{ask_counts, cells_of};
 
@@ -63,12 +64,12 @@ pub fn next_place(place: Place, form: Form) -> Place
     }
 }
 
-// Question 22: whether the text is the listing of `cells` entries.
-fn is_listing(text: &[u8], form: Form, cells: usize) -> bool
-    requires { IsForm form × (cells < 1099511627776) }
-    ensures { result ≡ is_listing form.points form.bands1 form.bands2 form.channels cells text.now }
+// Passes over the listing of `cells` entries from the front of a text on: its header, and the line of each.
+fn pass_listing(reader: &mut Reader<'_>, form: Form, cells: usize) -> Option<()>
+    requires { (reader.old.at ≡ 0) × IsForm form × (cells < 1099511627776) }
+    ensures { Passes (listing_in form.points form.bands1 form.bands2 form.channels cells reader.old.text.now) reader.old reader.new result }
 {
-    let mut at = pass_slice(text, 0, b"triplet\tpoint\tb1\tb2\tflag\tw\n");
+    reader.pass_slice(b"triplet\tpoint\tb1\tb2\tflag\tw\n")?;
     let mut place = Place {
         triplet: 0,
         point: 0,
@@ -76,13 +77,20 @@ fn is_listing(text: &[u8], form: Form, cells: usize) -> bool
         b2: 0,
     };
     for _entry in 0..cells {
-        if text.len() < at {
-            return false;
-        }
-        at = pass_line(text, at, place, form.channels);
+        pass_line(reader, place, form.channels)?;
         place = next_place(place, form);
     }
-    at == text.len()
+    Some(())
+}
+
+// Question 22: whether the text is the listing of `cells` entries.
+fn is_listing(text: &[u8], form: Form, cells: usize) -> bool
+    requires { IsForm form × (cells < 1099511627776) }
+    ensures { result ≡ is_listing form.points form.bands1 form.bands2 form.channels cells text.now }
+{
+    let mut reader = Reader::new(text);
+    let passed = pass_listing(&mut reader, form, cells);
+    passed.is_some() && reader.at == text.len()
 }
 
 // Questions 8, 9, 12 and 22 of a listing and two buffers for its record.

@@ -23,6 +23,10 @@ is_averaged_at marks q = eqb (mark_at marks q) 2
 unfoldable pub alike : Bool → Bool → Bool
 alike a b = (a && b) || (not a && not b)
 
+-- Question 13 of a mark beside the first of its triplet's: 0, 1 or 2, and 2 exactly where the first is
+unfoldable pub is_mark_beside : ℕ → ℕ → Bool
+is_mark_beside mark first = ltb mark 3 && alike (eqb mark 2) (eqb first 2)
+
 -- Question 13 of piece q: its mark is 0, 1 or 2, and 2 exactly where the first of its triplet's is
 unfoldable pub is_mark : ℕ → List ℕ → ℕ → Bool
 is_mark pairs marks q = ltb (mark_at marks q) 3 && alike (is_averaged_at marks q) (is_averaged_at marks (q / pairs * pairs))

@@ -1,7 +1,7 @@
 // Marks, read and written.
 ghost use Rattle.std.specs.Prelude.{◌≡◌, ◌+◌, ◌*◌, ◌≤◌, ◌<◌, eqb};
-ghost use Rattle.marks.specs.Bytes.{mark_at, patch_marks, places_in, bytes_for, IsMark, FewPieces, Few, Holds};
-ghost use Rattle.marks.specs.Marks.{is_mark, are_marks, is_not_averaged, are_computed, open_pieces, averaged_marks};
+ghost use Rattle.marks.specs.Bytes.{mark_at, patch_marks, places_in, bytes_for, IsMark, FewPieces, Holds};
+ghost use Rattle.marks.specs.Marks.{is_mark_beside, are_marks, is_not_averaged, are_computed, open_pieces, averaged_marks};
 
 // Numbers and no enum: marks lie in a lent sheet of bytes, which other languages read and write.
 
@@ -38,15 +38,13 @@ pub fn set_mark(marks: &mut [u8], q: usize, mark: u8)
     marks[q] = mark;
 }
 
-// Question 13, of piece `q`.
-fn mark_ok(pairs: usize, marks: &[u8], q: usize) -> bool
-    requires { (0 < pairs) × (Few marks.now × (q < places_in marks.now)) }
-    ensures { result ≡ is_mark pairs marks.now q }
+// Question 13, of a mark and of the first mark of its triplet.
+fn mark_ok(mark: u8, first: u8) -> bool
+    ensures { result ≡ is_mark_beside mark first }
 {
-    let mark = mark_at(marks, q);
     let averaged = mark == AVERAGED;
-    let first = mark_at(marks, q / pairs * pairs) == AVERAGED;
-    (mark < 3) & ((averaged & first) | (!averaged & !first))
+    let first_averaged = first == AVERAGED;
+    (mark < 3) & ((averaged & first_averaged) | (!averaged & !first_averaged))
 }
 
 // Question 13.
@@ -56,14 +54,15 @@ pub fn marks_ok(pairs: usize, pieces: usize, marks: &[u8]) -> bool
 {
     let mut ok = true;
     for q in 0..pieces {
-        ok = ok & mark_ok(pairs, marks, q);
+        let first = q / pairs * pairs;
+        ok = ok & mark_ok(mark_at(marks, q), mark_at(marks, first));
     }
     ok
 }
 
 // Question 15.
 pub fn not_averaged(pairs: usize, marks: &[u8], t: usize) -> bool
-    requires { Few marks.now × (t * pairs < places_in marks.now) }
+    requires { t * pairs < places_in marks.now }
     ensures { result ≡ is_not_averaged pairs marks.now t }
 {
     mark_at(marks, t * pairs) != AVERAGED
@@ -71,7 +70,7 @@ pub fn not_averaged(pairs: usize, marks: &[u8], t: usize) -> bool
 
 // Question 18.
 pub fn all_computed(pairs: usize, marks: &[u8], t: usize) -> bool
-    requires { Few marks.now × (t * pairs + pairs ≤ places_in marks.now) }
+    requires { t * pairs + pairs ≤ places_in marks.now }
     ensures { result ≡ are_computed pairs marks.now t }
 {
     let base = t * pairs;
@@ -90,7 +89,7 @@ pub fn open_pieces(pieces: usize, marks: &[u8]) -> u64
 
 // A triplet's marks become 2.
 pub fn average_marks(pairs: usize, marks: &mut [u8], t: usize)
-    requires { (0 < pairs) × (Few marks.old × (t * pairs + pairs ≤ places_in marks.old)) }
+    requires { (0 < pairs) × (t * pairs + pairs ≤ places_in marks.old) }
     ensures { marks.new ≡ averaged_marks pairs t marks.old }
 {
     let base = t * pairs;

@@ -1,6 +1,6 @@
 // Helpers for the crates above.
 ghost use Rattle.std.specs.Prelude.{◌≡◌, ◌<◌, length};
-ghost use Rattle.std.specs.Int.Signed.{non_neg, mag};
+ghost use Rattle.std.specs.Int.Signed.{mag};
 ghost use Rattle.list_laws.specs.Lists.{at, one_if};
 ghost use Rattle.list_laws.specs.Signed.{eq_z, is_nat, is_below, is_between, within};
 ghost use Rattle.ieee_laws.specs.Magnitude.{absolute};
@@ -50,15 +50,16 @@ pub fn is_within(n: usize, z: i64) -> bool
 
 // ---- a test
 
-// 1 where the test holds, otherwise 0.
+// 1 where the test holds, otherwise 0: std's, with a contract in the words of the definitions.
 pub fn one_if(yes: bool) -> u64
     ensures { result ≡ one_if yes }
 {
-    if yes { 1 } else { 0 }
+    u64::from(yes)
 }
 
 // ---- an element of a slice
 
+// An element that is read is a number of the machine: here it is shown once to be the number of the list, and not by each of the callers.
 pub fn magnitude_at(xs: &[i64], k: usize) -> usize
     requires { k < length xs.now }
     ensures { result ≡ mag (at xs.now k) }
@@ -66,25 +67,12 @@ pub fn magnitude_at(xs: &[i64], k: usize) -> usize
     magnitude(xs[k])
 }
 
-// ---- for the callers that still name them
-
-pub fn nonneg(z: i64) -> bool
-    ensures { result ≡ non_neg z }
-{
-    0 <= z
-}
-
-fn is_equal(a: i64, b: i64) -> bool
-    ensures { result ≡ eq_z a b }
-{
-    a == b
-}
-
+// The same of `==`.
 pub fn equal_at(xs: &[i64], k: usize, z: i64) -> bool
     requires { k < length xs.now }
     ensures { result ≡ eq_z (at xs.now k) z }
 {
-    is_equal(xs[k], z)
+    xs[k] == z
 }
 
 // ---- the mesh numbers
@@ -110,15 +98,9 @@ pub fn mesh_count(m: Mesh) -> usize
 
 // ---- floats
 
-// The magnitude of x.
+// The magnitude of x: std's, with a contract in the words of the definitions.
 pub fn abs(x: f64) -> f64
     ensures { result ≡ absolute x }
 {
-    if x < 0.0 {
-        return -x;
-    }
-    if x == 0.0 {
-        return 0.0;
-    }
-    x
+    x.abs()
 }

@@ -36,27 +36,39 @@ fn is_nonzero(weight: f64) -> bool
     weight != 0.0
 }
 
-// Whether entry `e` of `cells` has a weight other than zero in one of its channels.
-fn is_open(weights: &[f64], channels: usize, cells: usize, e: usize) -> bool
-    requires { (e < cells) × (length weights.now ≡ channels * cells) }
-    ensures { result ≡ is_open channels cells weights.now e }
-{
-    for c in 0..channels {
-        if is_nonzero(weights[c * cells + e]) {
-            return true;
-        }
-    }
-    false
+// The weights of a sheet, channel after channel, of so many cells each.
+#[derive(Clone, Copy)]
+pub struct Channels<'a> {
+    pub weights: &'a [f64],
+    pub channels: usize,
+    pub cells: usize,
+    // each cell has a weight in each channel
+    pub ghost lengths: { length weights.now ≡ channels * cells },
 }
 
-// How many of the `n` entries from `start` on are open.
-pub fn open_from(weights: &[f64], channels: usize, cells: usize, start: usize, n: usize) -> u64
-    requires { (start + n ≤ cells) × (length weights.now ≡ channels * cells) }
-    ensures { result ≡ open_from channels cells weights.now start n }
-{
-    let mut count: u64 = 0;
-    for i in 0..n {
-        count = count + one_if(is_open(weights, channels, cells, start + i));
+impl<'a> Channels<'a> {
+    // Whether entry `e` has a weight other than zero in one of its channels.
+    fn is_open(&self, e: usize) -> bool
+        requires { e < self.now.cells }
+        ensures { result ≡ is_open self.now.channels self.now.cells self.now.weights.now e }
+    {
+        for c in 0..self.channels {
+            if is_nonzero(self.weights[c * self.cells + e]) {
+                return true;
+            }
+        }
+        false
     }
-    count
+
+    // How many of the `n` entries from `start` on are open.
+    pub fn open_from(&self, start: usize, n: usize) -> u64
+        requires { start + n ≤ self.now.cells }
+        ensures { result ≡ open_from self.now.channels self.now.cells self.now.weights.now start n }
+    {
+        let mut count: u64 = 0;
+        for i in 0..n {
+            count = count + one_if(self.is_open(start + i));
+        }
+        count
+    }
 }

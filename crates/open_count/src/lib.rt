@@ -6,6 +6,7 @@ ghost use Rattle.std.specs.Prelude.{◌≡◌};
 ghost use Rattle.open_count.specs.OpenCount.{open_count_answer};
 
 use ask::Refusal;
+use kernel::Channels;
 use numbers::kernel::magnitude;
 use question_values::kernel::tp_type::channels_of;
 use sheet_counts::Counts;
@@ -24,9 +25,11 @@ pub fn open_count(
     ensures { result ≡ open_count_answer tp_type counts weights.now triplet }
 {
     kernel::ask_open(tp_type, counts, weights.len(), triplet)?;
-    let channels = channels_of(tp_type);
-    let cells = cells_of(counts);
+    let sheet = Channels {
+        weights,
+        channels: channels_of(tp_type),
+        cells: cells_of(counts),
+    };
     let size = cells_per_triplet(counts);
-    let start = magnitude(triplet) * size;
-    Ok(kernel::open_from(weights, channels, cells, start, size))
+    Ok(sheet.open_from(magnitude(triplet) * size, size))
 }

@@ -7,8 +7,9 @@ ghost use Rattle.sheet_play.specs.Outcomes.{outcome};
 ghost use Rattle.sheet_list.specs.Play.{list_no};
 ghost use Rattle.pelmetsavory.specs.Sheets.{CalledPlay};
 
-use sheet::Answered;
-use sheet_list::{Shape, Study, Tally};
+use sheet_list::{Calls, Shape, SheetMut, Study, Tally};
+
+// The parameters of the next function are the C interface: a struct in their place would be another version of it.
 
 // Plays a list of calls, six numbers a call, on a sheet with any marks, and counts the runs behind `tally`. Each call's status goes to its
 // place in `answers`, the sixteen counts after it to their places in `tallies`. The status is 0, or 12: has the list six numbers, and
@@ -37,7 +38,7 @@ pub extern "C" fn pelmetsavory_play(
         answers.old tallies.old result (outcome (sheet_out weights flags marks tally.new) answers.new tallies.new) }
 {
     let runs = *tally;
-    let before = Tally { runs };
+    let mut counted = Tally { runs };
     let study = Study {
         shape,
         addresses,
@@ -48,11 +49,15 @@ pub extern "C" fn pelmetsavory_play(
         frequency_points,
         triplets,
     };
-    let done = sheet_list::play(
-        study, weights, flags, marks, before, list, ids, answers, tallies,
-    );
-    let said = Answered::new(done, before);
-    let counts = said.tally.runs;
+    let mut lent = SheetMut {
+        weights,
+        flags,
+        marks,
+    };
+    let calls = Calls { list, ids };
+    let done = sheet_list::play(study, &mut lent, counted, calls, answers, tallies);
+    let status = counted.settle(done);
+    let counts = counted.runs;
     *tally = counts;
-    said.number
+    status
 }

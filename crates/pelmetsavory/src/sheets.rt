@@ -8,7 +8,9 @@ ghost use Rattle.sheet_tally.specs.Tallies.{tally_questions, with_runs};
 ghost use Rattle.open_count.specs.OpenCount.{open_no, open_entries};
 
 use crate::Piece;
-use sheet::{Answered, Counts, NamedPiece, Shape, Study, Tally};
+use sheet::{Counts, NamedPiece, Shape, SheetMut, Study, Tally};
+
+// The parameters of the next function are the C interface: a struct in their place would be another version of it.
 
 // Runs one piece, and counts it behind `tally` for its worker, 0 to 15. Questions 3 to 15, 21, 20.
 #[unsafe(no_mangle)]
@@ -32,7 +34,7 @@ pub extern "C" fn pelmetsavory_run_piece(
         (sheet_in weights flags marks tally.old) (run worker piece.triplet piece.b1 piece.b2) result (sheet_out weights flags marks tally.new) }
 {
     let runs = *tally;
-    let before = Tally { runs };
+    let mut counted = Tally { runs };
     let named = NamedPiece {
         triplet: piece.triplet,
         b1: piece.b1,
@@ -48,12 +50,19 @@ pub extern "C" fn pelmetsavory_run_piece(
         frequency_points,
         triplets,
     };
-    let done = sheet::run_piece(study, weights, flags, marks, before, worker, named);
-    let said = Answered::new(done, before);
-    let counts = said.tally.runs;
+    let mut lent = SheetMut {
+        weights,
+        flags,
+        marks,
+    };
+    let done = sheet::run_piece(study, &mut lent, counted, worker, named);
+    let status = counted.settle(done);
+    let counts = counted.runs;
     *tally = counts;
-    said.number
+    status
 }
+
+// The parameters of the next function are the C interface: a struct in their place would be another version of it.
 
 // Runs all pieces marked 0, in ascending order, and counts them behind `tally` for their worker, 0 to 15.
 // Questions 3 to 13, 21, 20.
@@ -77,7 +86,7 @@ pub extern "C" fn pelmetsavory_carry_on(
         (sheet_in weights flags marks tally.old) (carry worker) result (sheet_out weights flags marks tally.new) }
 {
     let runs = *tally;
-    let before = Tally { runs };
+    let mut counted = Tally { runs };
     let study = Study {
         shape,
         addresses,
@@ -88,12 +97,19 @@ pub extern "C" fn pelmetsavory_carry_on(
         frequency_points,
         triplets,
     };
-    let done = sheet::carry_on(study, weights, flags, marks, before, worker);
-    let said = Answered::new(done, before);
-    let counts = said.tally.runs;
+    let mut lent = SheetMut {
+        weights,
+        flags,
+        marks,
+    };
+    let done = sheet::carry_on(study, &mut lent, counted, worker);
+    let status = counted.settle(done);
+    let counts = counted.runs;
     *tally = counts;
-    said.number
+    status
 }
+
+// The parameters of the next function are the C interface: a struct in their place would be another version of it.
 
 // Averages a triplet over the degenerate sets of two id lists; all counts stay, and it names no worker. Questions 3 to 19.
 #[unsafe(no_mangle)]
@@ -118,7 +134,7 @@ pub extern "C" fn pelmetsavory_average_triplet(
         (sheet_in weights flags marks tally.old) (average triplet degenerate_ids1.now degenerate_ids2.now) result (sheet_out weights flags marks tally.new) }
 {
     let runs = *tally;
-    let before = Tally { runs };
+    let mut counted = Tally { runs };
     let study = Study {
         shape,
         addresses,
@@ -129,20 +145,23 @@ pub extern "C" fn pelmetsavory_average_triplet(
         frequency_points,
         triplets,
     };
-    let done = sheet::average_triplet(
-        study,
+    let mut lent = SheetMut {
         weights,
         flags,
         marks,
-        before,
+    };
+    let done = sheet::average_triplet(
+        study,
+        &mut lent,
+        counted,
         triplet,
         degenerate_ids1,
         degenerate_ids2,
     );
-    let said = Answered::new(done, before);
-    let counts = said.tally.runs;
+    let status = counted.settle(done);
+    let counts = counted.runs;
     *tally = counts;
-    said.number
+    status
 }
 
 // The open count of a triplet, behind `count`: its entries (point, b1, b2) with a weight other than zero in some output of the type. Either

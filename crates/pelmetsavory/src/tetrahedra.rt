@@ -14,6 +14,8 @@ use crate::Grid;
 use grid_point_weights::GridPointStudy;
 use question_grids::Grid as LentGrid;
 
+// The parameters of the next function are the C interface: a struct in their place would be another version of it.
+
 // The weights of each band at each frequency point, for each grid point; `letter` 'I' (73) asks for the density's weight, any other byte for
 // that of the number of states, J. Questions 3 to 7, 9 to 12.
 #[unsafe(no_mangle)]

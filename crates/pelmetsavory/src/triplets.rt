@@ -28,6 +28,8 @@ fn status_of_triplet(study: Study, triplet: [i64; 3], weights: &mut [f64], flags
     status_of(triplet_iw::integration_weight_per_triplet(study, triplet, weights, flags))
 }
 
+// The parameters of the next function are the C interface: a struct in their place would be another version of it.
+
 // The weights and flags of all triplets. Questions 3 to 12.
 #[unsafe(no_mangle)]
 pub extern "C" fn pelmetsavory_integration_weight(
@@ -57,6 +59,8 @@ pub extern "C" fn pelmetsavory_integration_weight(
     };
     status_of_weights(study, weights, flags)
 }
+
+// The parameters of the next function are the C interface: a struct in their place would be another version of it.
 
 // The weights and flags of one triplet. Questions 3 to 12.
 #[unsafe(no_mangle)]
@@ -88,6 +92,8 @@ pub extern "C" fn pelmetsavory_integration_weight_per_triplet(
     };
     status_of_triplet(study, triplet, weights, flags)
 }
+
+// The parameters of the next function are the C interface: a struct in their place would be another version of it.
 
 // Averages the weights and the flags of one triplet in place. Questions 8, 9, 12, 17, 19.
 #[unsafe(no_mangle)]

@@ -1,23 +1,32 @@
 -- What the answers yes to questions 3 to 6 say of the mesh numbers, of P and at each index. Assumes nothing.
-use mathlib.Core.Path.{◌≡◌}
+use mathlib.Core.Path.{◌≡◌, ◌∙◌, sym}
 use mathlib.Core.Bool.{true, ◌&&◌}
 use mathlib.Core.List.{List}
-use Prim.Native.Nat.{ℕ, zero, suc, ◌+◌, ◌-◌, ◌*◌, ◌%◌, ◌<◌, ◌≤◌}
+use mathlib.Core.Logic.{⊎_elim}
+use Prim.Native.Nat.{ℕ, zero, suc, ◌+◌, ◌-◌, ◌*◌, ◌/◌, ◌%◌, ◌<◌, ◌≤◌}
 use native.Mathlib.Numerals.{add-one}
 use native.Mathlib.Nat.{add-zero}
 use native.Mathlib.Omega.{arith}
-use borrow.Author.Tests.{leb-true, eqb-true, ltb-true}
+use borrow.Author.Tests.{leb-true, eqb-true, ltb-true, le-leb, lt-leb}
 use lib.Dec.{leb, eqb, ltb}
 use lib.IntN.{ℤ}
 use lib.ListN.{length}
 use lib.Signed.{non_neg, mag, lt_z}
 use Rattle.list_laws.specs.Lists.{all_below, at}
 use Rattle.list_laws.specs.Signed.{is_nat, is_between, within}
-use Rattle.list_laws.proofs.BoolLaws.{and_left, and_right}
+use Rattle.list_laws.proofs.BoolLaws.{and_left, and_right, lt-or-le}
 use Rattle.list_laws.proofs.BelowLaws.{below_at}
 use Rattle.list_laws.proofs.SignedLaws.{between-low, between-high, nat-is, nat-nonneg, rises}
 use Rattle.numbers.specs.Mesh.{mesh_of, MeshWithin}
 use Rattle.question_grids.specs.Grids.{is_mesh, are_triples, triples_in, are_addresses, is_place, is_sparse_map, is_dense_map}
+
+-- p at most 8 n, said by a division
+pub eighths : (p n : ℕ) → leb ((p + 7) / 8) n ≡ leb p (8 * n)
+eighths p n =
+    ⊎_elim
+    (λ l. lt-leb ((p + 7) / 8) n (omega (arith, l)) ∙ sym (lt-leb p (8 * n) l))
+    (λ l. le-leb ((p + 7) / 8) n (omega (arith, l)) ∙ sym (le-leb p (8 * n) l))
+    (lt-or-le (8 * n) p)
 
 pub mesh-within : (top : ℕ) (diag : List ℤ) → is_mesh top diag ≡ true → MeshWithin top (mesh_of diag)
 unfolding is_mesh mesh_of

@@ -1,7 +1,7 @@
 -- The digits of a number, counted and compared from the last on. Assumes nothing.
-use Prim.Native.Nat.{ℕ, zero, suc, ◌+◌, ◌-◌, ◌/◌, ◌%◌, ◌^◌, ◌≤◌, ◌<◌}
+use Prim.Native.Nat.{ℕ, zero, suc, ◌+◌, ◌-◌, ◌/◌, ◌%◌, ◌^◌, ◌*◌, ◌≤◌, ◌<◌}
 use mathlib.Core.Path.{◌≡◌, refl, sym, ap, ◌∙◌}
-use mathlib.Core.List.{List, ◌∷◌, ◌++◌, append-nil}
+use mathlib.Core.List.{List, ◌∷◌, ◌++◌}
 use native.Mathlib.Nat.{mod-lt, pow-succ'}
 use native.Mathlib.Omega.{arith}
 use lib.ListN.{length, get_or, take, drop}
@@ -18,23 +18,23 @@ places-more : (f m : ℕ) → 10 ≤ m → places (suc f) m ≡ suc (places f (m
 unfolding places
 places-more f m t = rw (le-ltb m 10 t)
 
--- one digit off
-pub places-step : (k m : ℕ) → k ≤ 20 → 10 ≤ m → m < 10 ^ (21 - k) → (k + 1 ≤ 20) × (m / 10 < 10 ^ (21 - (k + 1))) × (places (20 - k) m ≡ suc (places (20 - (k + 1)) (m / 10)))
-places-step k m h t l = go (20 - k) refl
-  where
-    go : (f : ℕ) → 20 - k ≡ f → (k + 1 ≤ 20) × (m / 10 < 10 ^ (21 - (k + 1))) × (places (20 - k) m ≡ suc (places (20 - (k + 1)) (m / 10)))
-    go zero e = let q : 21 - k ≡ 1 = omega arith in absurd (omega (arith, t, rw q at l))
-    go (suc f) e =
-        let q : 21 - k ≡ suc (suc f) = omega arith in
-        let r : 21 - (k + 1) ≡ suc f = omega arith in
-        let z : 20 - (k + 1) ≡ f = omega arith in
-        (omega arith, rw r (omega (arith, rw q at l, pow-succ' 10 (suc f))), rw (e, z) (places-more f m t))
-
 -- one digit
 pub places-last : (f m : ℕ) → m < 10 → places f m ≡ 1
 unfolding places
 places-last zero m h = refl
 places-last (suc f) m h = rw (lt-ltb m 10 h)
+
+-- one more than the power of ten that it reaches
+pub places_power : (f k n : ℕ) → k ≤ f → 10 ^ k ≤ n → n < 10 * 10 ^ k → places f n ≡ k + 1
+places_power f zero n h a b = places-last f n (omega arith)
+places_power zero (suc k) n h a b = absurd (omega (arith, h))
+places_power (suc f) (suc k) n h a b =
+    let p : 10 ^ suc k ≡ 10 * 10 ^ k = pow-succ' 10 k in
+    places-more f n (omega (arith, a, p, pow-pos k)) ∙ omega (arith, places_power f k (n / 10) (omega (arith, h)) (omega (arith, a, p)) (omega (arith, b, p)))
+  where
+    pow-pos : (k : ℕ) → 1 ≤ 10 ^ k
+    pow-pos zero = omega arith
+    pow-pos (suc k) = omega (arith, pow-pos k, pow-succ' 10 k)
 
 -- ---- from the last on
 
@@ -66,7 +66,3 @@ module _ (n k m i at : ℕ) (text : List ℕ) (e : last_digits 10 k n ≡ last_d
       ∙ (ap (λ (x : List ℕ). get_or x (i - 1) 0) (s ∙ parted (i - 1) p)
       ∙ get_or_at (last_digits 10 (i - 1) (m / 10)) (48 + m % 10) (take (k - i) (drop (at + i) text)) 0 (i - 1) (length_digits 10 (i - 1) (m / 10))))
       )
-
--- all digits, at first
-pub digits-all : (n k at : ℕ) (text : List ℕ) → last_digits 10 k n ≡ last_digits 10 k n ++ take (k - k) (drop (at + k) text)
-digits-all n k at text = let q : k - k ≡ 0 = omega arith in rw q (sym (append-nil (last_digits 10 k n)))

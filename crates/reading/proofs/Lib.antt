@@ -1,3 +1,4 @@
 pub mod PassedLaws
 pub mod DigitLaws
 pub mod RowLaws
+pub mod ReaderLaws

@@ -4,12 +4,9 @@ use mathlib.Core.Path.{◌≡◌, refl, sym, ap, ◌∙◌}
 use mathlib.Core.Bool.{Bool, true, false, cond}
 use mathlib.Core.List.{List, [], ◌∷◌, ◌++◌}
 use mathlib.Core.Logic.{◌⊎◌, inl, inr}
-use native.Mathlib.Nat.{add-zero}
-use native.Mathlib.Numerals.{add-one}
 use native.Mathlib.Omega.{arith}
 use lib.ListN.{length, get_or, take, drop, length-append, length-drop}
-use lib.Seq.{take_all, take-nil, take-add, take-take, take-suc, drop-drop, drop-cons, take-append_seam, drop-append_seam, take-length, get_or-drop, get_or-take}
-use Rattle.list_laws.specs.Lists.{rows}
+use lib.Seq.{take_all, take-nil, take-add, take-take, drop-drop, drop-cons, take-append_seam, drop-append_seam, take-length, get_or-drop, get_or-take}
 use Rattle.list_laws.proofs.BoolLaws.{clash, lt-or-le}
 use Rattle.text.specs.Pieces.{same}
 use Rattle.text.proofs.FieldLaws.{drop_past}
@@ -20,6 +17,10 @@ use Rattle.reading.specs.Passed.{stands, passed}
 abbrev pub Stand : List ℕ → ℕ → List ℕ → Type 0
 Stand bytes at text = take (length bytes) (drop at text) ≡ bytes
 
+-- they stand there, or something else does
+abbrev pub Either : List ℕ → ℕ → List ℕ → Type 0
+Either bytes at text = (Stand bytes at text × (passed bytes at text ≡ at + length bytes)) ⊎ ((Stand bytes at text → ⊥) × (passed bytes at text ≡ length text + 1))
+
 module _ (bytes : List ℕ) (at : ℕ) (text : List ℕ) where
   pub passed-yes : Stand bytes at text → at + length bytes ≡ passed bytes at text
   unfolding passed stands
@@ -29,7 +30,7 @@ module _ (bytes : List ℕ) (at : ℕ) (text : List ℕ) where
   unfolding passed stands
   passed-no n = rw (same-no (take (length bytes) (drop at text)) bytes n)
 
-  pub passed-either : (Stand bytes at text × (passed bytes at text ≡ at + length bytes)) ⊎ ((Stand bytes at text → ⊥) × (passed bytes at text ≡ length text + 1))
+  pub passed-either : Either bytes at text
   unfolding passed stands
   passed-either = go (same (take (length bytes) (drop at text)) bytes) refl
     where
@@ -54,13 +55,13 @@ module _ (bytes : List ℕ) (at : ℕ) (text : List ℕ) where
   pub passed-in : passed bytes at text ≤ length text → Stand bytes at text × (passed bytes at text ≡ at + length bytes)
   passed-in h = go passed-either
     where
-      go : (Stand bytes at text × (passed bytes at text ≡ at + length bytes)) ⊎ ((Stand bytes at text → ⊥) × (passed bytes at text ≡ length text + 1)) → Stand bytes at text × (passed bytes at text ≡ at + length bytes)
+      go : Either bytes at text → Stand bytes at text × (passed bytes at text ≡ at + length bytes)
       go (inl y) = y
       go (inr n) = absurd (omega (arith, n.1, h))
 
   -- no room for them
-  pub passed-short : length text < at + length bytes → at ≤ length text → length text + 1 ≡ passed bytes at text
-  passed-short h l = passed-no (λ s. go (stand-room s))
+  pub no-room : length text < at + length bytes → at ≤ length text → Stand bytes at text → ⊥
+  no-room h l s = go (stand-room s)
     where
       go : (length bytes ≡ 0) ⊎ (at + length bytes ≤ length text) → ⊥
       go (inl e) = omega (arith, e, h, l)
@@ -70,7 +71,7 @@ module _ (bytes : List ℕ) (at : ℕ) (text : List ℕ) where
 pub lost-stays : (bytes : List ℕ) (at : ℕ) (text : List ℕ) → at ≡ length text + 1 → length text + 1 ≡ passed bytes at text
 lost-stays bytes at text p = go (passed-either bytes at text)
   where
-    go : (Stand bytes at text × (passed bytes at text ≡ at + length bytes)) ⊎ ((Stand bytes at text → ⊥) × (passed bytes at text ≡ length text + 1)) → length text + 1 ≡ passed bytes at text
+    go : Either bytes at text → length text + 1 ≡ passed bytes at text
     go (inl y) =
         let e : bytes ≡ [] = sym y.0 ∙ ap (take (length bytes)) (drop_past text at (omega arith)) ∙ take-nil (length bytes) in
         omega (arith, y.1, ap length e)
@@ -100,13 +101,12 @@ module _ (a b : List ℕ) (at : ℕ) (text : List ℕ) where
   pub passed-append : passed (a ++ b) at text ≡ passed b (passed a at text) text
   passed-append = go (passed-either a at text)
     where
-      second : passed a at text ≡ at + length a → Stand a at text
-          → (Stand b (at + length a) text × (passed b (at + length a) text ≡ at + length a + length b)) ⊎ ((Stand b (at + length a) text → ⊥) × (passed b (at + length a) text ≡ length text + 1))
+      second : passed a at text ≡ at + length a → Stand a at text → Either b (at + length a) text
           → passed (a ++ b) at text ≡ passed b (at + length a) text
       second q s (inl y) = sym (passed-yes (a ++ b) at text (stand-both s y.0)) ∙ omega (arith, y.1, length-append a b)
       second q s (inr n) = sym (passed-no (a ++ b) at text (λ w. n.0 (stand-second w))) ∙ sym n.1
 
-      go : (Stand a at text × (passed a at text ≡ at + length a)) ⊎ ((Stand a at text → ⊥) × (passed a at text ≡ length text + 1)) → passed (a ++ b) at text ≡ passed b (passed a at text) text
+      go : Either a at text → passed (a ++ b) at text ≡ passed b (passed a at text) text
       go (inl y) = rw y.1 (second y.1 y.0 (passed-either b (at + length a) text))
       go (inr n) = sym (passed-no (a ++ b) at text (λ w. n.0 (stand-first w))) ∙ lost-stays b (passed a at text) text n.1
 
@@ -115,24 +115,9 @@ pub passed_then : (a : List ℕ) (g : ℕ → List ℕ) (at p q : ℕ) (text : L
     → q ≡ passed (a ++ g (at + length a)) at text
 passed_then a g at p q text e f = f ∙ (go (passed-either a at text) ∙ sym (passed-append a (g (at + length a)) at text))
   where
-    go : (Stand a at text × (passed a at text ≡ at + length a)) ⊎ ((Stand a at text → ⊥) × (passed a at text ≡ length text + 1))
-        → passed (g p) p text ≡ passed (g (at + length a)) (passed a at text) text
+    go : Either a at text → passed (g p) p text ≡ passed (g (at + length a)) (passed a at text) text
     go (inl y) = let h : p ≡ at + length a = e ∙ y.1 in rw (h, y.1)
     go (inr n) = sym (lost-stays (g p) p text (e ∙ n.1)) ∙ lost-stays (g (at + length a)) (passed a at text) text n.1
-
--- four pieces
-pub passed-four : (a b c d : List ℕ) (at : ℕ) (text : List ℕ) → passed (a ++ b ++ c ++ d) at text ≡ passed d (passed c (passed b (passed a at text) text) text) text
-passed-four a b c d at text =
-    passed-append (a ++ b ++ c) d at text
-    ∙ ap (λ (p : ℕ). passed d p text) (passed-append (a ++ b) c at text ∙ ap (λ (p : ℕ). passed c p text) (passed-append a b at text))
-
--- at the end of the text or behind it no byte stands
-pub passed-end : (bytes : List ℕ) (at : ℕ) (text : List ℕ) → 0 < length bytes → length text ≤ at → length text + 1 ≡ passed bytes at text
-passed-end bytes at text h l = passed-no bytes at text (λ s. go (stand-room bytes at text s))
-  where
-    go : (length bytes ≡ 0) ⊎ (at + length bytes ≤ length text) → ⊥
-    go (inl e) = omega (arith, e, h)
-    go (inr e) = omega (arith, e, h, l)
 
 -- the whole text is passed over exactly where it is the bytes
 pub whole_is : (bytes text : List ℕ) → passed bytes 0 text ≡ length text → text ≡ bytes
@@ -144,25 +129,9 @@ pub whole-passed : (bytes text : List ℕ) → text ≡ bytes → passed bytes 0
 whole-passed bytes text e =
     sym (passed-yes bytes 0 text (rw e (take-length bytes))) ∙ omega (arith, ap length e)
 
--- ---- a loop over the bytes
+-- ---- one byte
 
--- one byte more is the same
-pub stand-next : (src text : List ℕ) (at i : ℕ) → i < length src → at + i < length text → take i (drop at text) ≡ take i src → get_or text (at + i) 0 ≡ get_or src i 0
-    → take (i + 1) (drop at text) ≡ take (i + 1) src
-stand-next src text at i h k e f =
-    rw add-one
-    (take-suc (drop at text) i 0 (omega (arith, length-drop at text))
-    ∙ (cc (e, get_or-dropped, f) ∙ sym (take-suc src i 0 h)))
-  where
-    get_or-dropped : get_or (drop at text) i 0 ≡ get_or text (at + i) 0
-    get_or-dropped = get_or-drop at text i 0
-
--- one byte is another
-pub stand-other : (src text : List ℕ) (at i : ℕ) → i < length src → (get_or text (at + i) 0 ≡ get_or src i 0 → ⊥) → Stand src at text → ⊥
-stand-other src text at i h n s =
-    n (sym (get_or-drop at text i 0) ∙ (sym (get_or-take (length src) (drop at text) i 0 h) ∙ ap (λ (l : List ℕ). get_or l i 0) s))
-
--- one byte alone
+-- alone
 pub stand-one : (b at : ℕ) (text : List ℕ) → at < length text → get_or text at 0 ≡ b → Stand (b ∷ []) at text
 stand-one b at text h e = rw (drop-cons text at 0 h) (cc e)
 
@@ -171,8 +140,3 @@ pub stand-byte : (b : ℕ) (rest : List ℕ) (at : ℕ) (text : List ℕ) → St
 stand-byte b rest at text s =
     let z : at + 0 ≡ at = omega arith in
     ap (λ (k : ℕ). get_or text k 0) (sym z) ∙ (sym (get_or-drop at text 0 0) ∙ (sym (get_or-take (suc (length rest)) (drop at text) 0 0 (omega arith)) ∙ ap (λ (l : List ℕ). get_or l 0 0) s))
-
--- ---- pieces f 0, f 1, ..
-pub passed_none : (f : ℕ → List ℕ) (at : ℕ) (text : List ℕ) → at ≡ passed (rows 0 f) at text
-unfolding rows
-passed_none f at text = sym (add-zero at) ∙ passed-yes [] at text refl

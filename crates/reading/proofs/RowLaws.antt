@@ -9,8 +9,7 @@ use native.Mathlib.Omega.{arith}
 use lib.ListN.{length, take, drop, length-append, length-take}
 use lib.Seq.{take-append-le, take-append-add, take-length, take-take}
 use Rattle.list_laws.specs.Lists.{rows}
-use Rattle.reading.specs.Passed.{passed}
-use Rattle.reading.proofs.PassedLaws.{Stand, stand-second, passed-append, passed_then, lost-stays}
+use Rattle.reading.proofs.PassedLaws.{Stand, stand-second}
 
 pub rows_ext : (n : ℕ) (f g : ℕ → List ℕ) → ((i : ℕ) → i < n → f i ≡ g i) → rows n f ≡ rows n g
 unfolding rows
@@ -65,24 +64,3 @@ module _ (front : List ℕ) (f : ℕ → List ℕ) where
       let s : Stand (front ++ rows k f ++ f k) 0 text = rw (one_more_lem k) at (front-stands n (k + 1) text e (omega arith)) in
       let z : at ≡ 0 + length (front ++ rows k f) = omega (arith, a) in
       rw z (stand-second (front ++ rows k f) (f k) 0 text s)
-
-  -- passing over one piece more
-  pub piece-passed : (g : ℕ → List ℕ) (k p q : ℕ) (text : List ℕ) → g (length (front ++ rows k f)) ≡ f k
-      → p ≡ passed (front ++ rows k f) 0 text → q ≡ passed (g p) p text → q ≡ passed (front ++ rows (k + 1) f) 0 text
-  piece-passed g k p q text e a b =
-      let z : 0 + length (front ++ rows k f) ≡ length (front ++ rows k f) = omega arith in
-      passed_then (front ++ rows k f) g 0 p q text a b
-      ∙ (ap (λ (i : ℕ). passed (front ++ rows k f ++ g i) 0 text) z
-      ∙ (ap (λ (l : List ℕ). passed (front ++ rows k f ++ l) 0 text) e ∙ ap (λ (l : List ℕ). passed l 0 text) (sym (one_more_lem k))))
-
-  -- once lost, lost for good
-  pub rows-lost : (k n : ℕ) (text : List ℕ) → k ≤ n → passed (front ++ rows k f) 0 text ≡ length text + 1 → passed (front ++ rows n f) 0 text ≡ length text + 1
-  rows-lost k zero text h e = let z : k ≡ 0 = omega arith in rw z at e
-  rows-lost k (suc n) text h e = go (eq-or-lt_of_le {n = k} {m = suc n} h) (rows-lost k n text)
-    where
-      go : (k ≡ suc n) ⊎ (k < suc n) → (k ≤ n → passed (front ++ rows k f) 0 text ≡ length text + 1 → passed (front ++ rows n f) 0 text ≡ length text + 1) → passed (front ++ rows (suc n) f) 0 text ≡ length text + 1
-      go (inl q) r = rw q at e
-      go (inr l) r =
-          ap (λ (t : List ℕ). passed t 0 text) (ap (λ (j : ℕ). front ++ rows j f) (sym (add-one n)) ∙ one_more_lem n)
-          ∙ (passed-append (front ++ rows n f) (f n) 0 text
-          ∙ sym (lost-stays (f n) (passed (front ++ rows n f) 0 text) text (r (omega arith) e)))

@@ -1,1 +1,2 @@
 pub mod Passed
+pub mod Passes

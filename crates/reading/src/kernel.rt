@@ -1,88 +1,93 @@
-// Each function is given an index and answers the one behind what it expects there, or one behind the end of the text where something else
-// stands. Behind the end nothing stands, so that calls in a row need no test between them.
+// What a reader passes over where it stands in the text. Where something else stands the answer is none, and where the reader is then is of no use.
 ghost use Rattle.std.specs.Prelude.{◌+◌, ◌≤◌, [], ◌∷◌, ◌++◌, ◌≡◌, length};
 ghost use Rattle.io.specs.Digits.{last_digits};
 ghost use Rattle.text.specs.Spelled.{decimal, places};
-ghost use Rattle.reading.specs.Passed.{passed};
 
-// Passes over src.
-pub fn pass_slice(text: &[u8], at: usize, src: &[u8]) -> usize
-    requires { at ≤ length text.now + 1 }
-    ensures value { result ≡ passed src.now at text.now }
-    ensures upper_bound { result ≤ length text.now + 1 }
-{
-    let lost = text.len() + 1;
-    if text.len() < at {
-        return lost;
-    }
-    if text.len() - at < src.len() {
-        return lost;
-    }
-    for i in 0..src.len() {
-        if text[at + i] != src[i] {
-            return lost;
-        }
-    }
-    at + src.len()
+// A text, and how many of its first bytes are read.
+#[derive(Clone, Copy)]
+pub struct Reader<'a> {
+    pub text: &'a [u8],
+    pub at: usize,
+    // never more than it has
+    pub ghost within: { at ≤ length text.now },
 }
 
-// Passes over one byte.
-pub fn pass_byte(text: &[u8], at: usize, b: u8) -> usize
-    requires { at ≤ length text.now + 1 }
-    ensures value { result ≡ passed (b ∷ []) at text.now }
-    ensures upper_bound { result ≤ length text.now + 1 }
-{
-    if text.len() <= at {
-        return text.len() + 1;
-    }
-    if text[at] == b {
-        return at + 1;
-    }
-    text.len() + 1
-}
-
-// How many decimal digits a number has. The loop counts no index: it ends when the number does.
+// How many decimal digits a number has.
 fn places_of(n: u64) -> usize
     ensures { result ≡ places 19 n }
 {
-    let mut m = n;
-    let mut k = 1;
-    while 10 <= m {
-        m = m / 10;
-        k += 1;
+    if n < 10 {
+        return 1;
     }
-    k
+    n.ilog10() as usize + 1
 }
 
-// Passes over the last k decimal digits of a number, zeros in front where it has fewer: the last is compared first.
-fn pass_digits(text: &[u8], at: usize, n: u64, k: usize) -> usize
-    requires { at ≤ length text.now + 1 }
-    ensures value { result ≡ passed (last_digits 10 k n) at text.now }
-    ensures upper_bound { result ≤ length text.now + 1 }
-{
-    let lost = text.len() + 1;
-    if text.len() < at {
-        return lost;
+impl<'a> Reader<'a> {
+    ghost use Rattle.reading.specs.Passes.{Passes};
+
+    // At the front of a text.
+    pub fn new(text: &'a [u8]) -> Reader<'a>
+        ensures front { result.at ≡ 0 }
+        ensures text { result.text ≡ text.entry }
+    {
+        Reader { text, at: 0 }
     }
-    if text.len() - at < k {
-        return lost;
+
+    // Goes on by n bytes, whatever they are.
+    pub fn skip(&mut self, n: usize)
+        requires { self.old.at + n ≤ length self.old.text.now }
+        ensures at { self.new.at ≡ self.old.at + n }
+        ensures text { self.new.text ≡ self.old.text }
+    {
+        self.at += n;
     }
-    let mut m = n;
-    for i in (0..k).rev() {
-        if text[at + i] != (48 + m % 10) as u8 {
-            return lost;
+
+    // Passes over src.
+    pub fn pass_slice(&mut self, src: &[u8]) -> Option<()>
+        ensures { Passes src.now self.old self.new result }
+    {
+        if !self.text[self.at..].starts_with(src) {
+            return None;
         }
-        m = m / 10;
+        self.at += src.len();
+        Some(())
     }
-    at + k
-}
 
-// Passes over a number in decimal, and a byte after it.
-pub fn pass_decimal(text: &[u8], at: usize, n: u64, end: u8) -> usize
-    requires { at ≤ length text.now + 1 }
-    ensures value { result ≡ passed (decimal n ++ (end ∷ [])) at text.now }
-    ensures upper_bound { result ≤ length text.now + 1 }
-{
-    let p = pass_digits(text, at, n, places_of(n));
-    pass_byte(text, p, end)
+    // Passes over one byte.
+    pub fn pass_byte(&mut self, b: u8) -> Option<()>
+        ensures { Passes (b ∷ []) self.old self.new result }
+    {
+        if *self.text.get(self.at)? != b {
+            return None;
+        }
+        self.at += 1;
+        Some(())
+    }
+
+    // Passes over the last k decimal digits of a number, zeros in front where it has fewer: the last is compared first.
+    fn pass_digits(&mut self, n: u64, k: usize) -> Option<()>
+        ensures { Passes (last_digits 10 k n) self.old self.new result }
+    {
+        let at = self.at;
+        if self.text.len() - at < k {
+            return None;
+        }
+        let mut m = n;
+        for i in (0..k).rev() {
+            if self.text[at + i] != (48 + m % 10) as u8 {
+                return None;
+            }
+            m = m / 10;
+        }
+        self.at = at + k;
+        Some(())
+    }
+
+    // Passes over a number in decimal, and a byte after it.
+    pub fn pass_decimal(&mut self, n: u64, end: u8) -> Option<()>
+        ensures { Passes (decimal n ++ (end ∷ [])) self.old self.new result }
+    {
+        self.pass_digits(n, places_of(n))?;
+        self.pass_byte(end)
+    }
 }

@@ -10,13 +10,13 @@ use Rattle.list_laws.specs.Signed.{within}
 use Rattle.common.specs.Matrix.{is_vector}
 use Rattle.relative_grid_address.specs.Diagonal.{main_diagonals, length_of, least_up_to, main_diagonal_of}
 
-pub diagonal-small : (i : ℕ) → i < 4 → is_vector (get_or main_diagonals i []) ≡ true
+pub diagonal_small : (i : ℕ) → i < 4 → is_vector (get_or main_diagonals i []) ≡ true
 unfolding is_vector within main_diagonals
-diagonal-small zero h = refl
-diagonal-small (suc zero) h = refl
-diagonal-small (suc (suc zero)) h = refl
-diagonal-small (suc (suc (suc zero))) h = refl
-diagonal-small (suc (suc (suc (suc i)))) h = absurd (omega arith)
+diagonal_small zero h = refl
+diagonal_small (suc zero) h = refl
+diagonal_small (suc (suc zero)) h = refl
+diagonal_small (suc (suc (suc zero))) h = refl
+diagonal_small (suc (suc (suc (suc i)))) h = absurd (omega arith)
 
 module _ (size : ℕ → Float) where
   pub least-none : 0 ≡ least_up_to size (1 - 1)
@@ -50,6 +50,6 @@ module _ (size : ℕ → Float) where
       go true h = omega arith
       go false h = omega arith
 
-pub main-diagonal-lt : (a : _) → main_diagonal_of a < 4
+pub main_diagonal_lt : (a : _) → main_diagonal_of a < 4
 unfolding main_diagonal_of
-main-diagonal-lt a = omega (arith, least-le (length_of a) 3)
+main_diagonal_lt a = omega (arith, least-le (length_of a) 3)

@@ -1,6 +1,5 @@
 // The main diagonals and their lengths.
-ghost use Rattle.std.specs.Prelude.{◌≡◌, ◌<◌, get_or, length, []};
-ghost use Rattle.relative_grid_address.specs.Answer.{all_tables};
+ghost use Rattle.std.specs.Prelude.{◌≡◌, ◌<◌, get_or, []};
 ghost use Rattle.relative_grid_address.specs.Diagonal.{main_diagonals, norm_squared, length_of, main_diagonal_of};
 
 const MAIN_DIAGONALS: [[i64; 3]; 4] = [[1, 1, 1], [-1, 1, 1], [1, -1, 1], [1, 1, -1]];
@@ -21,6 +20,7 @@ fn norm_squared(a: [f64; 3]) -> f64
 }
 
 // The squared length of main diagonal i.
+#[tactic(auto, unfolding(crate::specs::Diagonal::length_of))]
 fn length_of(rec_lattice: [[f64; 3]; 3], i: usize) -> f64
     requires { i < 4 }
     ensures { result ≡ length_of rec_lattice i }
@@ -42,15 +42,4 @@ pub fn get_main_diagonal(rec_lattice: [[f64; 3]; 3]) -> usize
         }
     }
     shortest
-}
-
-// Writes the four tables, one after the other.
-pub fn copy_all(out: &mut [i64])
-    requires { length out.old ≡ 1152 }
-    ensures { out.new ≡ all_tables }
-{
-    for t in 0..4 {
-        let start = t * 288;
-        tetrahedron_tables::kernel::copy_table(t, &mut out[start..start + 288]);
-    }
 }

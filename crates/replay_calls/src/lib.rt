@@ -2,4 +2,5 @@
 
 #![tactic(auto)]
 
-pub mod kernel;
+pub mod calls;
+pub mod study;

@@ -10,14 +10,14 @@ use Rattle.list_laws.specs.Signed.{eq_z}
 unfoldable pub all_are : List ℤ → ℤ → Bool
 all_are xs z = all_below (length xs) (λ k. eq_z (at xs k) z)
 
--- xs and ys are as long as each other, and equal at each place
-unfoldable pub same_numbers : List ℤ → List ℤ → Bool
-same_numbers xs ys = eqb (length xs) (length ys) && all_below (length xs) (λ k. eq_z (at xs k) (at ys k))
+-- two floats have the same bits
+abbrev pub same_bits : Float → Float → Bool
+same_bits x y = eqb (to_bits binary64 x) (to_bits binary64 y)
 
--- the floats of two lists have the same bits, as far as both go
-abbrev pub floats_agree : List Float → List Float → Bool
-floats_agree xs ys = list_all (λ p. eqb (to_bits binary64 p.0) (to_bits binary64 p.1)) (zip xs ys)
+-- the entries of two lists agree, as far as both go
+abbrev pub entries_agree : {A : Type 0} → (A → A → Bool) → List A → List A → Bool
+entries_agree agrees xs ys = list_all (λ p. agrees p.0 p.1) (zip xs ys)
 
--- two lists of floats are as long as each other, and have the same bits at each place
-abbrev pub same_floats : List Float → List Float → Bool
-same_floats xs ys = eqb (length xs) (length ys) && floats_agree xs ys
+-- two lists are as long as each other, and agree at each place
+abbrev pub agree : {A : Type 0} → (A → A → Bool) → List A → List A → Bool
+agree agrees xs ys = eqb (length xs) (length ys) && entries_agree agrees xs ys

@@ -1,22 +1,81 @@
 // Comparing an answer with a stored one.
-ghost use Rattle.std.specs.Prelude.{◌≡◌, eqb};
-ghost use Rattle.std.specs.Float.{binary64};
-ghost use Rattle.std.specs.Float.Ieee.{to_bits};
-ghost use Rattle.replay_compare.specs.Sameness.{same_numbers, floats_agree, same_floats, all_are};
+ghost use Rattle.std.specs.Prelude.{◌≡◌};
+ghost use Rattle.replay_compare.specs.Sameness.{entries_agree, agree, all_are};
 
-// Whether two lists are equal.
-pub fn same(a: &[i64], b: &[i64]) -> bool
-    ensures { result ≡ same_numbers a.now b.now }
+// A value that is held to the stored one.
+pub trait Compared: Copy {
+    ghost use Rattle.std.specs.Prelude.{Bool};
+
+    // Whether a value is the stored one.
+    ghost agrees: { Self → Self → Bool };
+
+    fn agrees(self, stored: Self) -> bool
+        ensures { result ≡ agrees self stored };
+}
+
+// By their bits, all NaNs being one.
+impl Compared for f64 {
+    ghost use Rattle.replay_compare.specs.Sameness.{same_bits};
+
+    ghost agrees = { same_bits };
+
+    fn agrees(self, stored: f64) -> bool {
+        text::kernel::bits_of(self) == text::kernel::bits_of(stored)
+    }
+}
+
+impl Compared for u64 {
+    ghost use Rattle.std.specs.Prelude.{eqb};
+
+    ghost agrees = { eqb };
+
+    fn agrees(self, stored: u64) -> bool {
+        self == stored
+    }
+}
+
+impl Compared for u8 {
+    ghost use Rattle.std.specs.Prelude.{eqb};
+
+    ghost agrees = { eqb };
+
+    fn agrees(self, stored: u8) -> bool {
+        self == stored
+    }
+}
+
+impl Compared for i64 {
+    ghost use Rattle.list_laws.specs.Signed.{eq_z};
+
+    ghost agrees = { eq_z };
+
+    fn agrees(self, stored: i64) -> bool {
+        self == stored
+    }
+}
+
+impl Compared for i8 {
+    ghost use Rattle.list_laws.specs.Signed.{eq_z};
+
+    ghost agrees = { eq_z };
+
+    fn agrees(self, stored: i8) -> bool {
+        self == stored
+    }
+}
+
+// Whether the entries of two lists agree, as far as both go.
+fn entries_agree<T: Compared>(a: &[T], b: &[T]) -> bool
+    ensures { result ≡ entries_agree T.agrees a.now b.now }
 {
-    if a.len() != b.len() {
-        return false;
-    }
-    let mut ok = true;
-    for i in 0..a.len() {
-        let z = b[i];
-        ok = ok & numbers::kernel::equal_at(a, i, z);
-    }
-    ok
+    a.iter().zip(b).all(|(x, y)| x.agrees(*y))
+}
+
+// Whether two lists agree.
+pub fn agree<T: Compared>(a: &[T], b: &[T]) -> bool
+    ensures { result ≡ agree T.agrees a.now b.now }
+{
+    a.len() == b.len() && entries_agree(a, b)
 }
 
 // Whether each number is the value.
@@ -24,25 +83,4 @@ pub fn all_are(a: &[i64], value: i64) -> bool
     ensures { result ≡ all_are a.now value }
 {
     a.iter().all(|x| *x == value)
-}
-
-// Whether two floats have the same bits, all NaNs being one.
-pub fn same_bits(a: f64, b: f64) -> bool
-    ensures { result ≡ eqb (to_bits binary64 a) (to_bits binary64 b) }
-{
-    text::kernel::bits_of(a) == text::kernel::bits_of(b)
-}
-
-// Whether the floats of two lists have the same bits, as far as both go.
-fn floats_agree(a: &[f64], b: &[f64]) -> bool
-    ensures { result ≡ floats_agree a.now b.now }
-{
-    a.iter().zip(b).all(|(x, y)| same_bits(*x, *y))
-}
-
-// Whether two lists of floats have the same bits.
-pub fn same_reals(a: &[f64], b: &[f64]) -> bool
-    ensures { result ≡ same_floats a.now b.now }
-{
-    a.len() == b.len() && floats_agree(a, b)
 }

@@ -84,64 +84,11 @@ module _ (n : ℕ) where
       rw (to_z-of_z (minus-fits ((n - 1) % 2 ^ 63) (omega arith)), to_z_pos w64 {n = (n - 1) % 2 ^ 63} (omega arith), minus-one-minus ((n - 1) % 2 ^ 63))
       (simp (ne_eqb n 0 z))
 
--- ---- a whole number
-
-pub get_d_past : (s : List ℕ) (i : ℕ) → length s ≤ i → get_or s i 0 ≡ 0
-get_d_past [] i h = refl
-get_d_past (b ∷ s) zero h = absurd (omega arith)
-get_d_past (b ∷ s) (suc i) h = get_d_past s i (omega arith)
-
-module _ (text : List ℕ) (at : ℕ) where
-  pub whole-minus : get_or text at 0 ≡ 45 → (whole_at text at ≡ negated (count_at text (at + 1))) × (after_whole text at ≡ after_count text (at + 1))
-  unfolding whole_at after_whole
-  whole-minus e = (simp (eq-eqb (get_or text at 0) 45 e), simp (eq-eqb (get_or text at 0) 45 e))
-
-  pub whole_plain : (get_or text at 0 ≡ 45 → ⊥) → (whole_at text at ≡ plain (count_at text at)) × (after_whole text at ≡ after_count text at)
-  unfolding whole_at after_whole
-  whole_plain z = (simp (ne_eqb (get_or text at 0) 45 z), simp (ne_eqb (get_or text at 0) 45 z))
-
-  pub whole-past : length text ≤ at → (whole_at text at ≡ plain (count_at text at)) × (after_whole text at ≡ after_count text at)
-  whole-past h = whole_plain (λ e. omega (arith, get_d_past text at h, e))
-
 -- ---- fields one after the other
-
-module _ (after : ℕ → ℕ) (start : ℕ) where
-  pub place-first : start ≡ field_place after start 0
-  unfolding field_place
-  place-first = refl
-
-  pub place-next : (i : ℕ) {p q : ℕ} → p ≡ field_place after start i → q ≡ after p → q ≡ field_place after start (i + 1)
-  unfolding field_place
-  place-next i e w = rw add-one (w ∙ ap after e)
-
-  pub place_end : {t i n p : ℕ} → start ≡ t → i ≡ n → p ≡ field_place after start i → p ≡ field_place after t n
-  place_end e w h = cc
 
 module _ {A : Type 0} (l : List A) where
   pub list-next : (f : ℕ → A) {out : List A} (i : ℕ) {v : A} → i < length l → out ≡ fronted i f l → v ≡ f i → set out i v ≡ fronted (i + 1) f l
   list-next f i {v} h e w = rw e (front-next f l i v h w)
-
-  pub list-end : (f : ℕ → ℕ → A) {out : List A} {s t i n : ℕ} → s ≡ t → i ≡ n → out ≡ fronted i (f s) l → out ≡ fronted n (f t) l
-  list-end f e w h = cc
-
-module _ (text : List ℕ) (start i : ℕ) where
-  pub whole-next : {p : ℕ} {v : ℤ} → p ≡ field_place (after_whole text) start i → v ≡ whole_at text p → v ≡ whole_from text start i
-  unfolding whole_from
-  whole-next e w = w ∙ ap (whole_at text) e
-
-  pub real-next : {p : ℕ} {v : Float} → p ≡ field_place (after_bits text) start i → v ≡ of_bits binary64 (bits_at text p) → v ≡ real_from text start i
-  unfolding real_from
-  real-next e w = w ∙ ap (λ (n : ℕ). of_bits binary64 (bits_at text n)) e
-
-pub three-wholes : (text : List ℕ) (at : ℕ) {p q s : ℕ} {x y z : ℤ} → x ≡ whole_at text at → p ≡ after_whole text at
-    → y ≡ whole_at text p → q ≡ after_whole text p → z ≡ whole_at text q → s ≡ after_whole text q
-    → (x ∷ y ∷ z ∷ [] ≡ tabulate 3 (whole_from text at)) × (s ≡ field_place (after_whole text) at 3)
-unfolding tabulate whole_from field_place
-three-wholes text at a b c d e f = (cc, cc)
-
--- a digit more fits 64 bits
-pub room-next : (base room q d : ℕ) → q < room → d < base → room * base ≤ 2 ^ 64 → q * base + d < 2 ^ 64
-room-next base room q d h l e = omega (arith, e, suc-mul q base, mul-le-mul_right {m = suc q} {n = room} base h)
 
 -- a list read is one of whole numbers, or of floats
 pub wholes-read : (text : List ℕ) (at : ℕ) (a b : List ℤ) (n next : ℕ) → ListRead whole_at after_whole text at a b n next → WholesRead text at a b n next

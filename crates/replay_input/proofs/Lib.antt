@@ -1,3 +1,4 @@
 -- The laws.
 pub mod FieldLaws
 pub mod ReaderLaws
+pub mod FlagLaws

@@ -1,8 +1,10 @@
 -- The fields of a record: what each spells, and where the next one starts.
-use Rattle.std.specs.Prelude.{ℕ, zero, suc, min, ◌+◌, ◌-◌, ◌*◌, ◌%◌, ◌^◌, ◌≡◌, cond, List, [], ◌∷◌, ltb, eqb, ℤ, pos, negsuc, get_or, drop, length, Float}
+use Rattle.std.specs.Prelude.{ℕ, zero, suc, min, ◌+◌, ◌-◌, ◌*◌, ◌%◌, ◌^◌, ◌≡◌, Bool, ◌||◌, cond, List, [], ◌∷◌, ltb, eqb, ℤ, pos, negsuc, get_or, drop, length, Float}
 use Rattle.std.specs.Float.{binary64}
 use Rattle.std.specs.Float.Ieee.{of_bits}
-use Rattle.list_laws.specs.Lists.{fronted}
+use Rattle.list_laws.specs.Lists.{tabulate, fronted}
+use Rattle.list_laws.specs.Signed.{eq_z}
+use Rattle.replay_compare.specs.Sameness.{entries_agree}
 use Rattle.text.specs.Fields.{digit_of}
 
 -- n followed by the digits at the front of s in a base; where n is `room` or more, its first digits are lost
@@ -67,6 +69,26 @@ real_at text at = of_bits binary64 (bits_at text at)
 -- number k from a place on, where `value` gives the number of a field and `after` the place after it
 unfoldable pub value_from : {A : Type 0} → (List ℕ → ℕ → A) → (List ℕ → ℕ → ℕ) → List ℕ → ℕ → ℕ → A
 value_from value after text at k = value text (field_place (after text) at k)
+
+-- the flags that occur
+unfoldable pub is_flag : ℤ → Bool
+is_flag n = eq_z n (pos 0) || eq_z n (pos 1) || eq_z n (pos 2) || eq_z n (pos 5) || eq_z n (pos 9) || eq_z n (negsuc 0) || eq_z n (pos 127)
+
+-- a stored number as a flag: -128 for any that does not occur
+unfoldable pub flag_of : ℤ → ℤ
+flag_of n = cond (is_flag n) n (negsuc 127)
+
+-- the flag at a place of the text
+unfoldable pub flag_at : List ℕ → ℕ → ℤ
+flag_at text at = flag_of (whole_at text at)
+
+-- the mark at a place of the text, a byte
+unfoldable pub mark_at : List ℕ → ℕ → ℕ
+mark_at text at = min (count_at text at) 255
+
+-- the entries of a list agree with value 0, value 1, ..
+unfoldable pub agrees_from : {A : Type 0} → (A → A → Bool) → List A → (ℕ → A) → Bool
+agrees_from agrees xs value = entries_agree agrees xs (tabulate (length xs) value)
 
 -- a list read into a buffer: its count, cut to the buffer's length; the place after it; and its numbers at the front of the buffer
 unfoldable pub ListRead : {A : Type 0} → (List ℕ → ℕ → A) → (List ℕ → ℕ → ℕ) → List ℕ → ℕ → List A → List A → ℕ → ℕ → Type 0

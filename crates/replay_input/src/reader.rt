@@ -1,11 +1,12 @@
 // The fields of a text, read one after the other. A field that is no number, or lies past the end, gives some number.
-ghost use Rattle.std.specs.Prelude.{◌≤◌, ◌<◌, ◌*◌, ◌+◌, ◌^◌, ◌≡◌, IsTrue, ◌↔◌, eqb, length, get_or, take, drop};
+ghost use Rattle.std.specs.Prelude.{◌≤◌, ◌<◌, ◌*◌, ◌+◌, ◌^◌, ◌≡◌, IsTrue, ◌↔◌, eqb, min, length, get_or, take, drop};
 ghost use Rattle.std.specs.Float.{binary64};
 ghost use Rattle.std.specs.Float.Ieee.{of_bits};
-ghost use Rattle.replay_input.specs.Fields.{spelled, passed, count_at, after_count, bits_at, after_bits, whole_at, after_whole, field_place, whole_from, value_from, ListRead};
+ghost use Rattle.replay_input.specs.Fields.{spelled, passed, count_at, after_count, bits_at, after_bits, whole_at, after_whole, field_place, whole_from, value_from, agrees_from, ListRead};
 ghost use Rattle.list_laws.specs.Lists.{tabulate};
 
-use crate::kernel::{at_most, negative, positive, read_block};
+use crate::kernel::{at_most, byte_of, flag_of, negative, positive, read_block};
+use replay_compare::kernel::Compared;
 
 // A text, and where its next field starts.
 #[derive(Clone, Copy)]
@@ -127,20 +128,45 @@ impl<'a> Reader<'a> {
         }
     }
 
+    // Whether the fields that come next, one an entry, agree with a list. All of them are read.
+    pub fn agrees_with<T: Field>(&mut self, list: &[T]) -> bool
+        ensures agrees { result ≡ agrees_from T.agrees list.now (value_from T.value_at T.after self.old.text.now self.old.at) }
+        ensures next { self.new ≡ record self.old { at = field_place (T.after self.old.text.now) self.old.at (length list.now) } }
+    {
+        let mut agrees = true;
+        for x in list {
+            agrees &= x.agrees(T::next(self));
+        }
+        agrees
+    }
+
+    // The next bytes as they are, fewer where the text ends before.
+    pub fn next_bytes(&mut self, size: u64) -> &'a [u8]
+        ensures bytes { result.now ≡ take size (drop self.old.at self.old.text.now) }
+        ensures next { self.new ≡ record self.old { at = min self.old.at (length self.old.text.now) + length result.now } }
+    {
+        let text = self.text;
+        let from = self.at.min(text.len());
+        let left = &text[from..];
+        let bytes = &left[..length_within(size, left)];
+        self.at = from + bytes.len();
+        bytes
+    }
+
     // A list, its count and then its numbers, to the start of a buffer: how many they are, cut to the buffer's length.
     pub fn fill_list<T: Field>(&mut self, out: &mut [T]) -> usize
         ensures count_in_bounds { (result ≤ length out.new) × (result ≡ length (take result out.new)) }
         ensures text { self.new ≡ record self.old { at = self.new.at } }
         ensures list_read { ListRead T.value_at T.after self.old.text.now self.old.at out.old out.new result self.new.at }
     {
-        let count = at_most(self.next_count(), out.len());
+        let count = length_within(self.next_count(), out);
         self.fill(&mut out[..count]);
         count
     }
 }
 
 // A number that a field spells.
-pub trait Field: Copy {
+pub trait Field: Compared {
     ghost use Rattle.std.specs.Prelude.{ℕ, List};
 
     // The number of the field at a place of a text.
@@ -179,10 +205,10 @@ impl Field for f64 {
     }
 }
 
+// A count of a sheet: hexadecimal digits.
 impl Field for u64 {
     ghost use Rattle.replay_input.specs.Fields.{bits_at, after_bits};
 
-    // A count of a sheet: hexadecimal digits.
     ghost value_at = { bits_at };
 
     ghost after = { after_bits };
@@ -192,9 +218,38 @@ impl Field for u64 {
     }
 }
 
+// A flag of a sheet.
+impl Field for i8 {
+    ghost use Rattle.replay_input.specs.Fields.{flag_at, after_whole};
+
+    ghost value_at = { flag_at };
+
+    ghost after = { after_whole };
+
+    #[tactic(auto, unfolding(crate::specs::Fields::flag_at))]
+    fn next(reader: &mut Reader<'_>) -> i8 {
+        flag_of(reader.next_whole())
+    }
+}
+
+// A mark of a sheet: decimal digits.
+impl Field for u8 {
+    ghost use Rattle.replay_input.specs.Fields.{mark_at, after_count};
+
+    ghost value_at = { mark_at };
+
+    ghost after = { after_count };
+
+    #[tactic(auto, unfolding(crate::specs::Fields::mark_at))]
+    fn next(reader: &mut Reader<'_>) -> u8 {
+        byte_of(reader.next_count())
+    }
+}
+
 // How much of a buffer a count takes: the count, or all of the buffer where that is shorter.
 pub fn length_within<T>(n: u64, buf: &[T]) -> usize
-    ensures { (result ≤ length buf.now) × (result ≡ length (take result buf.now)) }
+    ensures value { result ≡ min n (length buf.now) }
+    ensures in_bounds { (result ≤ length buf.now) × (result ≡ length (take result buf.now)) }
 {
     at_most(n, buf.len())
 }

@@ -3,10 +3,9 @@ ghost use Rattle.std.specs.Prelude.{◌≡◌, ◌<◌, cond, replicate};
 ghost use Rattle.replay_report.specs.Report.{one_more, refused_more, stored_answer, stored_content};
 
 use std::{fmt, io};
-use thiserror::Error;
 
 // A case: the number it was to be refused with, 0 where it was to be accepted, and whether the answer agrees with the stored one.
-// No Option: a case has both.
+// Not an Option or a Result: a case has both, and the refusals of cases that differ are counted too.
 #[derive(Clone, Copy, Debug, PartialEq, Eq)]
 pub struct Judged {
     pub refusal: u64,
@@ -23,11 +22,6 @@ pub fn stored<T: Drop>(refusal: u64, given: T) -> Result<T, u64>
         Err(refusal)
     }
 }
-
-// A record whose kind is none of the program's.
-#[derive(Clone, Copy, Debug, PartialEq, Eq, Drop, Error)]
-#[error("no record is of kind {0}")]
-pub struct UnknownRecord(pub u64);
 
 // Cases of one kind: how many, how many agree with the stored answer, how many differ, and how many were to be refused, by number.
 #[derive(Clone, Copy, Debug, PartialEq, Eq)]
@@ -145,14 +139,6 @@ impl fmt::Display for Cases {
         let (title, count) = (self.title, &self.count);
         write!(f, "{title}\t{count}")
     }
-}
-
-// A line for each kind.
-pub fn print_all(rt: &impl Print, kinds: &[Cases]) -> io::Result<()> {
-    for cases in kinds {
-        println!(rt; "{cases}")?;
-    }
-    Ok(())
 }
 
 // What a buffer is to hold after a call: what is stored, or what it held before where the call is refused.

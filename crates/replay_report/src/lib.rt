@@ -2,4 +2,6 @@
 
 #![tactic(auto)]
 
+pub mod blocks;
 pub mod cases;
+pub mod kinds;

@@ -1,65 +1,50 @@
--- Flags and marks followed field by field. Assumes nothing.
-use Prim.Native.Nat.{ℕ, min}
-use mathlib.Core.Path.{◌≡◌, refl, sym, ap, ◌∙◌}
+-- A sheet's content read, and held to the stored one, list by list. Assumes nothing.
+use Prim.Native.Nat.{ℕ}
+use mathlib.Core.Path.{◌≡◌, refl}
+use mathlib.Core.Bool.{Bool, ◌&&◌}
 use mathlib.Core.List.{List}
-use lib.Ieee.{Float}
+use lib.Dec.{eqb}
+use lib.IntN.{ℤ, pos}
+use lib.Ieee.{Float, nan}
 use lib.ListN.{length}
 use Rattle.list_laws.specs.Lists.{tabulate}
-use lib.IntN.{ℤ, pos, negsuc}
-use mir.Syntax.{w64}
-use mir.Val.{to_z, of_z, SFits}
-use mir.Facts.{to_z-of_z}
-use mathlib.Core.Bool.{Bool, false, ◌&&◌}
-use borrow.Author.Tests.{ne_eqb}
 use Rattle.list_laws.specs.Signed.{eq_z}
-use Rattle.replay_input.specs.Fields.{count_at, after_count, bits_at, after_bits, real_from, whole_at, after_whole, field_place}
-use Rattle.replay_input.proofs.FieldLaws.{whole-next}
-use Rattle.replay_sheet.specs.Content.{is_flag, flag_of, flag_from, mark_from, bits_from, SheetRead, same_weights, same_flags, same_marks, same_sheet, after_sheet}
+use Rattle.replay_compare.specs.Sameness.{same_bits}
+use Rattle.replay_compare.proofs.AgreeLaws.{entries-below}
+use Rattle.replay_input.specs.Fields.{after_count, bits_at, after_bits, real_at, real_from, whole_from, after_whole, flag_at, mark_at, field_place, value_from, agrees_from}
+use Rattle.replay_input.specs.declared.reader.Reader.{Reader}
+use Rattle.replay_sheet.specs.Content.{flag_from, mark_from, bits_from, same_weights, same_flags, same_marks, same_answers, same_counts, same_sheet, after_sheet}
 
-module _ (text : List ℕ) (start i : ℕ) where
-  pub mark-next : {p n m : ℕ} → p ≡ field_place (after_count text) start i → n ≡ count_at text p → m ≡ min n 255 → m ≡ mark_from text start i
-  unfolding mark_from
-  mark-next e w h = h ∙ ap (λ (k : ℕ). min k 255) (w ∙ ap (count_at text) e)
+-- ---- a list that agrees with the fields from a place on, by its places
 
-  pub bits-next : {p n : ℕ} → p ≡ field_place (after_bits text) start i → n ≡ bits_at text p → n ≡ bits_from text start i
-  unfolding bits_from
-  bits-next e w = w ∙ ap (bits_at text) e
+module _ (text : List ℕ) (at : ℕ) where
+  pub weights-agree : (w : List Float) → agrees_from same_bits w (value_from real_at after_bits text at) ≡ same_weights text at w
+  unfolding agrees_from same_weights value_from real_at real_from
+  weights-agree w = entries-below same_bits w _ nan
 
-  pub flag-next : {p : ℕ} {n m : ℤ} → p ≡ field_place (after_whole text) start i → n ≡ whole_at text p → m ≡ flag_of n → m ≡ flag_from text start i
-  unfolding flag_from
-  flag-next e w h = h ∙ ap flag_of (whole-next text start i e w)
+  pub flags-agree : (f : List ℤ) → agrees_from eq_z f (value_from flag_at after_whole text at) ≡ same_flags text at f
+  unfolding agrees_from same_flags value_from flag_at flag_from whole_from
+  flags-agree f = entries-below eq_z f _ (pos 0)
 
-pub sheet-read : (text : List ℕ) (at p q next : ℕ) (w x : List Float) (f g : List ℤ) (m n : List ℕ) → (x ≡ tabulate (length w) (real_from text at)) × (p ≡ field_place (after_bits text) at (length w))
-    → (g ≡ tabulate (length f) (flag_from text p)) × (q ≡ field_place (after_whole text) p (length f))
-    → (n ≡ tabulate (length m) (mark_from text q)) × (next ≡ field_place (after_count text) q (length m)) → SheetRead text at w x f g m n next
-unfolding SheetRead
-sheet-read text at p q next w x f g m n one two three = rw (sym one.1, sym two.1) (one.0, two.0, three.0, three.1)
+  pub marks-agree : (m : List ℕ) → agrees_from eqb m (value_from mark_at after_count text at) ≡ same_marks text at m
+  unfolding agrees_from same_marks value_from mark_at mark_from
+  marks-agree m = entries-below eqb m _ 0
 
-pub sheet-same : (text : List ℕ) (at p q next : ℕ) (w : List Float) (f : List ℤ) (m : List ℕ) (a b d : Bool) → (a ≡ same_weights text at w) × (p ≡ field_place (after_bits text) at (length w))
-    → (b ≡ same_flags text p f) × (q ≡ field_place (after_whole text) p (length f)) → (d ≡ same_marks text q m) × (next ≡ field_place (after_count text) q (length m))
-    → ((a && b) && d ≡ same_sheet text at w f m) × (next ≡ after_sheet text at (length w) (length f) (length m))
-unfolding same_sheet after_sheet
-sheet-same text at p q next w f m a b d one two three =
-    rw (sym one.1, sym two.1, sym one.0, sym two.0, sym three.0) (refl, three.1)
+  pub answers-agree : (a : List ℕ) → agrees_from eqb a (value_from bits_at after_bits text at) ≡ same_answers text at a
+  unfolding agrees_from same_answers value_from bits_from
+  answers-agree a = entries-below eqb a _ 0
 
--- ---- the flags that occur
+  pub counts-agree : (t : List ℕ) → length t ≡ 16 → agrees_from eqb t (value_from bits_at after_bits text at) ≡ same_counts text at t
+  unfolding same_answers same_counts
+  counts-agree t e = rw (answers-agree t, e) refl
 
-unequal : (a b : ℤ) → (a ≡ b → ⊥) → eq_z a b ≡ false
-unequal (pos a) (pos b) h = ne_eqb a b (λ e. h (ap pos e))
-unequal (pos a) (negsuc b) h = refl
-unequal (negsuc a) (pos b) h = refl
-unequal (negsuc a) (negsuc b) h = ne_eqb a b (λ e. h (ap negsuc e))
+-- ---- a reader that moves on from list to list
 
-module _ (n : ℤ) where
-  -- by the bits of the number
-  pub a-flag : (b : ℕ) (k : ℤ) → SFits w64 n → of_z w64 n ≡ b → to_z w64 b ≡ k → k ≡ flag_of k → k ≡ flag_of n
-  a-flag b k f e g h = h ∙ ap flag_of (sym g ∙ ap (to_z w64) (sym e) ∙ to_z-of_z {w = w64} {z = n} f)
-
-  pub no_flag : (of_z w64 n ≡ 0 → ⊥) → (of_z w64 n ≡ 1 → ⊥) → (of_z w64 n ≡ 2 → ⊥) → (of_z w64 n ≡ 5 → ⊥) → (of_z w64 n ≡ 9 → ⊥) → (of_z w64 n ≡ 18446744073709551615 → ⊥)
-      → (of_z w64 n ≡ 127 → ⊥) → negsuc 127 ≡ flag_of n
-  unfolding flag_of is_flag
-  no_flag a b c d e f g =
-      rw (other (pos 0) a, other (pos 1) b, other (pos 2) c, other (pos 5) d, other (pos 9) e, other (negsuc 0) f, other (pos 127) g)
-    where
-      other : (k : ℤ) → (of_z w64 n ≡ of_z w64 k → ⊥) → eq_z n k ≡ false
-      other k h = unequal n k (λ w. h (ap (of_z w64) w))
+module _ (r s t u : Reader) where
+  pub sheet-same : (w : List Float) (f : List ℤ) (m : List ℕ) {a b d : Bool} → a ≡ agrees_from same_bits w (value_from real_at after_bits r.text.now r.at) → s ≡ record r { at = field_place (after_bits r.text.now) r.at (length w) }
+      → b ≡ agrees_from eq_z f (value_from flag_at after_whole s.text.now s.at) → t ≡ record s { at = field_place (after_whole s.text.now) s.at (length f) }
+      → d ≡ agrees_from eqb m (value_from mark_at after_count t.text.now t.at) → u ≡ record t { at = field_place (after_count t.text.now) t.at (length m) }
+      → ((a && b) && d ≡ same_sheet r.text.now r.at w f m) × (u ≡ record r { at = after_sheet r.text.now r.at (length w) (length f) (length m) })
+  unfolding same_sheet after_sheet
+  sheet-same w f m e₁ g₁ e₂ g₂ e₃ g₃ =
+      rw (g₃, e₃, marks-agree t.text.now t.at m, g₂, e₂, flags-agree s.text.now s.at f, g₁, e₁, weights-agree r.text.now r.at w) (refl, refl)

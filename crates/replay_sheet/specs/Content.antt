@@ -4,15 +4,7 @@ use Rattle.std.specs.Float.{binary64, nan}
 use Rattle.std.specs.Float.Ieee.{to_bits}
 use Rattle.list_laws.specs.Lists.{tabulate, all_below}
 use Rattle.list_laws.specs.Signed.{eq_z}
-use Rattle.replay_input.specs.Fields.{count_at, after_count, bits_at, after_bits, after_whole, field_place, whole_from, real_from}
-
--- the flags that occur
-unfoldable pub is_flag : ℤ → Bool
-is_flag n = eq_z n (pos 0) || eq_z n (pos 1) || eq_z n (pos 2) || eq_z n (pos 5) || eq_z n (pos 9) || eq_z n (negsuc 0) || eq_z n (pos 127)
-
--- a stored number as a flag: -128 for any that does not occur
-unfoldable pub flag_of : ℤ → ℤ
-flag_of n = cond (is_flag n) n (negsuc 127)
+use Rattle.replay_input.specs.Fields.{flag_of, flag_at, mark_at, real_at, value_from, count_at, after_count, bits_at, after_bits, after_whole, field_place, whole_from, real_from}
 
 -- flag k of those from a place on
 unfoldable pub flag_from : List ℕ → ℕ → ℕ → ℤ
@@ -26,13 +18,15 @@ mark_from text at k = min (count_at text (field_place (after_count text) at k)) 
 unfoldable pub bits_from : List ℕ → ℕ → ℕ → ℕ
 bits_from text at k = bits_at text (field_place (after_bits text) at k)
 
--- a sheet read: weights, then flags, then marks fill their buffers, whose content before and after is given; and the place after them
-unfoldable pub SheetRead : List ℕ → ℕ → List Float → List Float → List ℤ → List ℤ → List ℕ → List ℕ → ℕ → Type 0
-SheetRead text at weights weights' flags flags' marks marks' next =
-    let second = field_place (after_bits text) at (length weights) in
-    let third = field_place (after_whole text) second (length flags) in
-    (weights' ≡ tabulate (length weights) (real_from text at)) × (flags' ≡ tabulate (length flags) (flag_from text second))
-    × (marks' ≡ tabulate (length marks) (mark_from text third)) × (next ≡ field_place (after_count text) third (length marks))
+-- the sheet at a place of the text: so many weights, flags and marks, and the sixteen counts of its tally; and the place after them
+unfoldable pub IsSheet : List ℕ → ℕ → ℕ → ℕ → ℕ → List Float → List ℤ → List ℕ → List ℕ → ℕ → Type 0
+IsSheet text at w f m weights flags marks tally next =
+    let second = field_place (after_bits text) at w in
+    let third = field_place (after_whole text) second f in
+    let fourth = field_place (after_count text) third m in
+    (weights ≡ tabulate w (value_from real_at after_bits text at)) × (flags ≡ tabulate f (value_from flag_at after_whole text second))
+    × (marks ≡ tabulate m (value_from mark_at after_count text third)) × (tally ≡ tabulate 16 (bits_from text fourth))
+    × (next ≡ field_place (after_bits text) fourth 16)
 
 -- the weights are the stored ones from a place on, by bits, all NaNs being one
 unfoldable pub same_weights : List ℕ → ℕ → List Float → Bool

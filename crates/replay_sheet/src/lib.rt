@@ -2,4 +2,6 @@
 
 #![tactic(auto)]
 
-pub mod kernel;
+pub mod content;
+pub mod counts;
+pub mod open;

@@ -2,6 +2,5 @@
 
 #![tactic(auto)]
 
-pub mod kernel;
 pub mod owned;
 pub mod records;

@@ -1,11 +1,28 @@
 // The records that stay with a program: their lists on the heap.
 ghost use Rattle.std.specs.Prelude.{◌≡◌, length, IfOk};
+ghost use Rattle.list_laws.specs.Lists.{tabulate};
+ghost use Rattle.replay_input.specs.Fields.{field_place, value_from};
 ghost use Rattle.replay_study.specs.Records.{after_list, list_at, IsGrid, AreValues};
 
 use question_grids::Grid;
 use replay_input::kernel::at_most;
 use replay_input::reader::{Field, Reader};
 use std::alloc::{AllocError, Global};
+
+// So many numbers, one a field.
+pub fn next_numbers<T: Field + Default>(
+    reader: &mut Reader<'_>,
+    alloc: Global,
+    count: usize,
+) -> Result<Vec<T>, AllocError>
+    ensures same_text { reader.new.text ≡ reader.old.text }
+    ensures list { IfOk result (λ list. list.items ≡ tabulate count (value_from T.value_at T.after reader.old.text.now reader.old.at)) }
+    ensures next { IfOk result (λ list. reader.new.at ≡ field_place (T.after reader.old.text.now) reader.old.at count) }
+{
+    let mut list = vec![in alloc; T::default(); count]?;
+    reader.fill(list.as_mut_slice());
+    Ok(list)
+}
 
 // A list: its count, cut to the length of the text, and then its numbers.
 #[tactic(auto, unfolding(crate::specs::Records::list_at, crate::specs::Records::after_list))]
@@ -19,9 +36,7 @@ pub fn next_list<T: Field + Default>(
 {
     let most = reader.text.len();
     let count = at_most(reader.next_count(), most);
-    let mut list = vec![in alloc; T::default(); count]?;
-    reader.fill(list.as_mut_slice());
-    Ok(list)
+    next_numbers(reader, alloc, count)
 }
 
 // A grid: kind, mesh, list of addresses, list of the map.

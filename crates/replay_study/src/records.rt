@@ -8,7 +8,7 @@ use replay_input::reader::Reader;
 #[derive(Clone, Copy)]
 pub struct GridRecord {
     // as stored: any number, which question 3 judges
-    pub kind: i64,
+    pub bz_grid_type: i64,
     pub mesh: [i64; 3],
     pub addresses: usize,
     pub map: usize,
@@ -27,14 +27,14 @@ pub fn read_grid(reader: &mut Reader<'_>, addresses: &mut [i64], map: &mut [i64]
     ensures addresses_in_bounds { (result.addresses ≤ length addresses.new) × (result.addresses ≡ length (take result.addresses addresses.new)) }
     ensures map_in_bounds { (result.map ≤ length map.new) × (result.map ≡ length (take result.map map.new)) }
     ensures text { reader.new ≡ record reader.old { at = reader.new.at } }
-    ensures grid_read { GridRead reader.old.text.now reader.old.at result.kind result.mesh addresses.old addresses.new result.addresses map.old map.new result.map reader.new.at }
+    ensures grid_read { GridRead reader.old.text.now reader.old.at result.bz_grid_type result.mesh addresses.old addresses.new result.addresses map.old map.new result.map reader.new.at }
 {
-    let kind = reader.next_whole();
+    let bz_grid_type = reader.next_whole();
     let mesh = reader.next_three();
     let addresses = reader.fill_list(addresses);
     let map = reader.fill_list(map);
     GridRecord {
-        kind,
+        bz_grid_type,
         mesh,
         addresses,
         map,

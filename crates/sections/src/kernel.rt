@@ -1,97 +1,38 @@
 // Lines and sections of values of any type that a field spells.
-ghost use Rattle.std.specs.Prelude.{◌+◌, ◌≤◌, ◌≡◌, drop, eqb, length, IfSome};
+ghost use Rattle.std.specs.Prelude.{◌+◌, ◌<◌, ◌≤◌, ◌≡◌, eqb, length, IfNone, IfSome};
 ghost use Rattle.text.specs.Pieces.{ended, split_from};
-ghost use Rattle.sections.specs.Lines.{line_kind, once, rows, told, told_line, told_one, told_rows, told_section, told_single, values};
-ghost use Rattle.sections.specs.Left.{left};
+ghost use Rattle.sections.specs.Lines.{once, rows, tagged, told, values};
+ghost use Rattle.sections.specs.Left.{left, parts, told_one, told_rows, told_tagged};
 
-use crate::Line;
 use text::Field;
 use text::kernel::cut;
 
-// A section as read: how many values, and where the next section starts.
+// The fields of a line that are left from index next on; none behind its end.
 #[derive(Clone, Copy)]
-struct Section {
-    count: usize,
+struct Fields<'a> {
+    line: &'a [u8],
     next: usize,
 }
 
-// The fields of a line from index p on: whether they are as many values as row has places. These are then in row.
-fn parse_values<T: Field>(line: &[u8], p: usize, row: &mut [T]) -> Option<()>
-    ensures { values T.spelled (length row.new) (split_from 9 line.now p) ≡ told result row.new }
-{
-    let mut from = p;
-    for value in row.iter_mut() {
-        if line.len() < from {
-            return None;
-        }
-        let end = cut(line, from, b'\t');
-        *value = T::parse(&line[from..end])?;
-        from = end + 1;
-    }
-    if from <= line.len() {
-        return None;
-    }
-    Some(())
-}
-
-// A line against a tag and as many values as row has places. Where it is such a row, they are then in row.
-fn parse_line<T: Field>(line: &[u8], tag: &[u8], row: &mut [T]) -> Line
-    ensures { line_kind T.spelled tag.now (length row.new) line.now ≡ told_line result row.new }
-{
-    let end = cut(line, 0, b'\t');
-    if &line[..end] != tag {
-        return Line::Other;
-    }
-    match parse_values(line, end + 1, row) {
-        Some(()) => Line::Row,
-        None => Line::Bad,
-    }
-}
-
-// The lines from index from on that bear the tag, n values each. Their values are then at the start of out.
-fn parse_rows<T: Field>(
-    text: &[u8],
-    from: usize,
-    tag: &[u8],
-    n: usize,
-    out: &mut [T],
-) -> Option<Section>
-    requires { length text.now + n ≤ length out.old }
-    ensures section { rows T.spelled tag.now n (ended 10 (drop from text.now)) ≡ told_section result out.new text.now }
-    ensures within { IfSome result (λ s. s.count ≤ length out.new) }
-{
-    let mut next = from;
-    let mut count = 0;
-    // by lines, whose ends only the reading tells
-    while next < text.len() {
-        let end = cut(text, next, b'\n');
-        match parse_line(&text[next..end], tag, &mut out[count..count + n]) {
-            Line::Row => {
-                count += n;
-                next = end + 1;
-            }
-            Line::Other => {
-                break;
-            }
-            Line::Bad => {
+impl<'a> Fields<'a> {
+    // Whether they are as many values as row has places. These are then in row.
+    fn read<T: Field>(self, row: &mut [T]) -> Option<()>
+        ensures { values T.spelled (length row.new) (parts self.entry) ≡ told result row.new }
+    {
+        let line = self.line;
+        let mut from = self.next;
+        for value in row.iter_mut() {
+            if line.len() < from {
                 return None;
             }
+            let end = cut(line, from, b'\t');
+            *value = T::parse(&line[from..end])?;
+            from = end + 1;
         }
-    }
-    Some(Section { count, next })
-}
-
-// The line at index from, which bears the tag and as many values as row has places. They are then in row. Tells where the next line starts.
-fn parse_one<T: Field>(text: &[u8], from: usize, tag: &[u8], row: &mut [T]) -> Option<usize>
-    ensures { once T.spelled tag.now (length row.new) (ended 10 (drop from text.now)) ≡ told_single result row.new text.now }
-{
-    if text.len() <= from {
-        return None;
-    }
-    let end = cut(text, from, b'\n');
-    match parse_line(&text[from..end], tag, row) {
-        Line::Row => Some(end + 1),
-        Line::Other | Line::Bad => None,
+        if from <= line.len() {
+            return None;
+        }
+        Some(())
     }
 }
 
@@ -117,13 +58,37 @@ impl<'a> Lines<'a> {
         self.text.len() <= self.next
     }
 
+    // The values of the next line, where it bears the tag: the line is then read. None where it has another tag, or where no line is left.
+    fn tagged(&mut self, tag: &[u8]) -> Option<Fields<'a>>
+        ensures line { tagged tag.now (left self.old) ≡ told_tagged result (left self.new) }
+        ensures stays { IfNone result (self.new ≡ self.old) }
+        ensures bytes { IfSome result (λ f. self.old.next + length (parts f) < self.new.next) }
+        ensures within { IfSome result (λ f. self.old.next < length self.old.text.now) }
+        ensures same { self.new.text ≡ self.old.text }
+    {
+        let text = self.text;
+        if text.len() <= self.next {
+            return None;
+        }
+        let end = cut(text, self.next, b'\n');
+        let line = &text[self.next..end];
+        let tag_end = cut(line, 0, b'\t');
+        if &line[..tag_end] != tag {
+            return None;
+        }
+        self.next = end + 1;
+        Some(Fields {
+            line,
+            next: tag_end + 1,
+        })
+    }
+
     // The next line, which bears the tag and as many values as row has places. They are then in row.
     pub fn one<T: Field>(&mut self, tag: &[u8], row: &mut [T]) -> Option<()>
         ensures line { once T.spelled tag.now (length row.new) (left self.old) ≡ told_one result row.new (left self.new) }
         ensures same { self.new.text ≡ self.old.text }
     {
-        self.next = parse_one(self.text, self.next, tag, row)?;
-        Some(())
+        self.tagged(tag)?.read(row)
     }
 
     // The next lines that bear the tag, n values each: their values, which are then at the start of out.
@@ -132,8 +97,12 @@ impl<'a> Lines<'a> {
         ensures section { rows T.spelled tag.now n (left self.old) ≡ told_rows result (left self.new) }
         ensures same { self.new.text ≡ self.old.text }
     {
-        let section = parse_rows(self.text, self.next, tag, n, out)?;
-        self.next = section.next;
-        Some(&out[..section.count])
+        let mut count = 0;
+        // `while let`: a `for` would need an iterator over `self`, a struct and a contract more for this one loop
+        while let Some(fields) = self.tagged(tag) {
+            fields.read(&mut out[count..count + n])?;
+            count += n;
+        }
+        Some(&out[..count])
     }
 }

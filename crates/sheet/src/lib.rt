@@ -8,6 +8,6 @@ pub use open_count::open_count;
 pub use sheet_averaging::average_triplet;
 pub use sheet_carry::carry_on;
 pub use sheet_counts::Counts;
-pub use sheet_run::{NamedPiece, run_piece};
-pub use sheet_tally::{Answered, Tally};
+pub use sheet_run::{NamedPiece, SheetMut, run_piece};
+pub use sheet_tally::Tally;
 pub use triplet_study::{Shape, Study};

@@ -9,7 +9,8 @@ use lib.Arith.{digits_div, mod-mul}
 use lib.Dec.{eqb}
 use lib.Ieee.{Float, nan}
 use lib.IntN.{ℤ, pos}
-use lib.ListN.{length, take, drop}
+use lib.ListN.{length, take, drop, length-drop}
+use lib.Seq.{length-take-le}
 use borrow.Author.Tests.{lt-ltb}
 use Rattle.list_laws.specs.Matrix.{each_part}
 use Rattle.list_laws.proofs.PatchLaws.{length-patch, patch-ext}
@@ -54,6 +55,12 @@ module _ (z : Sizes) (h : Counted z) (ids1 ids2 : List ℤ) (same : z.bands1 ≡
       let size : from + z.points * z.pairs - from ≡ z.points * z.pairs = omega arith in
       ap (λ (n : ℕ). take from w ++ (y ++ drop n (drop from w))) size
       ∙ group-back d z.points z.pairs f h.pairs-some h.points-some keep q from w y start fits (ey ∙ (λ i. each_part (sym square i) f z.points (take (size i) (drop from w))))
+
+  -- a slice of a triplet's entries holds that many square matrices
+  pub part-square : {A : Type 0} (from : ℕ) (w : List A) → from + z.points * z.pairs ≤ length w
+      → (length (take (from + z.points * z.pairs - from) (drop from w)) ≡ z.points * (z.bands1 * z.bands1)) × (z.bands1 ≤ 64)
+  part-square from w fits =
+      (length-take-le (from + z.points * z.pairs - from) (drop from w) (omega (arith, length-drop from w, fits)) ∙ (omega arith) ∙ ap (λ (n : ℕ). z.points * n) square, h.bands1-few)
 
   -- one channel
   pub channel-back : (t c : ℕ) (w y : List Float)

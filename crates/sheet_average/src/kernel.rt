@@ -1,39 +1,10 @@
 // For the crates above, on a tested study and sheet: the averages of one triplet.
-ghost use Rattle.std.specs.Prelude.{◌≡◌, ◌+◌, ◌*◌, ◌<◌, length};
-ghost use Rattle.std.specs.Float.{nan};
-ghost use Rattle.list_laws.specs.Groups.{group_made};
-ghost use Rattle.averaging_blocks.specs.Weights.{averaged};
+ghost use Rattle.std.specs.Prelude.{◌≡◌, ◌*◌, ◌<◌, length};
 ghost use Rattle.triplet_study.specs.Tested.{Counted};
 ghost use Rattle.sheet_step.specs.Steps.{triplet_averaged, triplet_flags_averaged};
 
+use averaging_walk::kernel::walk::average_points;
 use triplet_study::Sizes;
-
-// The weights of triplet `t` in channel `c`.
-fn average_channel(
-    z: Sizes,
-    weights: &mut [f64],
-    t: usize,
-    c: usize,
-    degenerate_ids1: &[i64],
-    degenerate_ids2: &[i64],
-)
-    requires counted { Counted z × (((t < z.triplets) × (c < z.channels)) × (z.bands1 ≡ z.bands2)) }
-    requires weights_len { (length weights.old ≡ z.channels * z.cells) × ((length degenerate_ids1.now ≡ z.bands1) × (length degenerate_ids2.now ≡ z.bands1)) }
-    ensures { weights.new ≡ group_made z.points z.pairs (averaged z.bands1 degenerate_ids1.now degenerate_ids2.now) nan (c * z.triplets + t) weights.old }
-{
-    let points = z.points;
-    let bands = z.bands1;
-    let size = points * z.pairs;
-    let start = c * z.cells + t * size;
-    let end = start + size;
-    averaging_walk::kernel::walk::average_points(
-        &mut weights[start..end],
-        degenerate_ids1,
-        degenerate_ids2,
-        bands,
-        points,
-    );
-}
 
 // The weights of triplet `t`, channel by channel.
 pub fn average_weights(
@@ -43,13 +14,26 @@ pub fn average_weights(
     degenerate_ids1: &[i64],
     degenerate_ids2: &[i64],
 )
-    requires counted { Counted z × ((t < z.triplets) × (z.bands1 ≡ z.bands2)) }
-    requires weights_len { (length weights.old ≡ z.channels * z.cells) × ((length degenerate_ids1.now ≡ z.bands1) × (length degenerate_ids2.now ≡ z.bands1)) }
+    requires counted { Counted z }
+    requires on_sheet { (t < z.triplets) × (z.bands1 ≡ z.bands2) }
+    requires lengths { (length weights.old ≡ z.channels * z.cells) × ((length degenerate_ids1.now ≡ z.bands1) × (length degenerate_ids2.now ≡ z.bands1)) }
     ensures { weights.new ≡ triplet_averaged z t degenerate_ids1.now degenerate_ids2.now weights.old }
 {
+    let points = z.points;
+    let bands = z.bands1;
     let channels = z.channels;
+    let cells = z.cells;
+    let size = points * z.pairs;
     for c in 0..channels {
-        average_channel(z, weights, t, c, degenerate_ids1, degenerate_ids2);
+        let start = c * cells + t * size;
+        let end = start + size;
+        average_points(
+            &mut weights[start..end],
+            degenerate_ids1,
+            degenerate_ids2,
+            bands,
+            points,
+        );
     }
 }
 
@@ -61,8 +45,9 @@ pub fn average_flags(
     degenerate_ids1: &[i64],
     degenerate_ids2: &[i64],
 )
-    requires counted { Counted z × ((t < z.triplets) × (z.bands1 ≡ z.bands2)) }
-    requires flags_len { (length flags.old ≡ z.cells) × ((length degenerate_ids1.now ≡ z.bands1) × (length degenerate_ids2.now ≡ z.bands1)) }
+    requires counted { Counted z }
+    requires on_sheet { (t < z.triplets) × (z.bands1 ≡ z.bands2) }
+    requires lengths { (length flags.old ≡ z.cells) × ((length degenerate_ids1.now ≡ z.bands1) × (length degenerate_ids2.now ≡ z.bands1)) }
     ensures { flags.new ≡ triplet_flags_averaged z t degenerate_ids1.now degenerate_ids2.now flags.old }
 {
     let points = z.points;
@@ -70,7 +55,7 @@ pub fn average_flags(
     let size = points * z.pairs;
     let start = t * size;
     let end = start + size;
-    averaging_walk::kernel::walk::average_points(
+    average_points(
         &mut flags[start..end],
         degenerate_ids1,
         degenerate_ids2,

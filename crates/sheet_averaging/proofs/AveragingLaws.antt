@@ -14,7 +14,7 @@ use Rattle.ask.specs.Refusals.{answer_of}
 use Rattle.ask.specs.declared.refusal.Refusal.{Refusal}
 use Rattle.triplet_study.specs.declared.Sizes.{Sizes}
 use Rattle.triplet_study.specs.Study.{Study, sizes_of}
-use Rattle.marks.specs.Bytes.{places_in, Few}
+use Rattle.marks.specs.Bytes.{places_in}
 use Rattle.marks.specs.Marks.{averaged_marks}
 use Rattle.sheet_step.specs.Steps.{Sheet, sheet, average, average_questions, triplet_averaged, triplet_flags_averaged, verdict, effect, Called, Did}
 use Rattle.sheet_step.proofs.CountLaws.{marks-place}
@@ -37,8 +37,8 @@ module _ (g : Study) (s : Sheet) {z : Sizes} (y : common_no g s ≡ 0) (ez : z �
         let n : _ = average-named z s.weights s.marks t ids1 ids2 e in
         ((rw et n.0, n.1.0), n.1.1)
 
-    pub average-place : Few s.marks × (nt * z.pairs + z.pairs ≤ places_in s.marks)
-    average-place = marks-place z (counted-yes g s y ez) s.marks (long-yes g s y ez).1.1 nt average-on.0.0
+    pub average-place : nt * z.pairs + z.pairs ≤ places_in s.marks
+    average-place = (marks-place z (counted-yes g s y ez) s.marks (long-yes g s y ez).1.1 nt average-on.0.0).1
 
     pub average-done : {w : List Float} {f : List ℤ} {m : List ℕ} → w ≡ triplet_averaged z nt ids1 ids2 s.weights
         → f ≡ triplet_flags_averaged z nt ids1 ids2 s.flags → m ≡ averaged_marks z.pairs nt s.marks

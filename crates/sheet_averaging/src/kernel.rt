@@ -2,12 +2,13 @@
 ghost use Rattle.std.specs.Prelude.{◌≡◌};
 ghost use Rattle.triplet_study.specs.Lent.{study_of};
 ghost use Rattle.sheet_tally.specs.Tallies.{runs_after};
-ghost use Rattle.sheet_step.specs.Lent.{sheet_in, sheet_out};
+ghost use Rattle.sheet_step.specs.Lent.{sheet_of, SameBuffers};
 ghost use Rattle.sheet_step.specs.Steps.{average, Did};
-ghost use Rattle.sheet_turn.specs.Turns.{sheet_now, common_no};
+ghost use Rattle.sheet_turn.specs.Turns.{common_no};
 
 use ask::Refusal;
 use marks::kernel as mark;
+use sheet_step::SheetMut;
 use sheet_step::kernel::asks;
 use sheet_tally::Tally;
 use triplet_study::TestedStudy;
@@ -15,22 +16,21 @@ use triplet_study::TestedStudy;
 // Averages a triplet over the degenerate sets of two id lists: each channel, then the flags; its marks become 2, and the tally stays.
 // Questions 14 to 19.
 pub fn average_asked(
-    weights: &mut [f64],
-    flags: &mut [i8],
-    marks: &mut [u8],
+    sheet: &mut SheetMut,
     tested: &TestedStudy,
     tally: Tally,
     triplet: i64,
     ids1: &[i64],
     ids2: &[i64],
 ) -> Result<Tally, Refusal>
-    requires { common_no (study_of tested.now.study) (sheet_now weights flags marks tally.runs) ≡ 0 }
-    ensures { Did (study_of tested.now.study) (sheet_in weights flags marks tally.runs) (average triplet ids1.now ids2.now) result (sheet_out weights flags marks (runs_after result tally.runs)) }
+    requires { common_no (study_of tested.now.study) (sheet_of sheet.old tally.runs) ≡ 0 }
+    ensures did { Did (study_of tested.now.study) (sheet_of sheet.old tally.runs) (average triplet ids1.now ids2.now) result (sheet_of sheet.new (runs_after result tally.runs)) }
+    ensures same { SameBuffers sheet.old sheet.new }
 {
-    asks::ask_average(tested, weights, marks, triplet, ids1, ids2)?;
+    asks::ask_average(tested, sheet, triplet, ids1, ids2)?;
     let t = numbers::kernel::magnitude(triplet);
-    sheet_average::kernel::average_weights(tested.sizes, weights, t, ids1, ids2);
-    sheet_average::kernel::average_flags(tested.sizes, flags, t, ids1, ids2);
-    mark::average_marks(tested.sizes.pairs, marks, t);
+    sheet_average::kernel::average_weights(tested.sizes, sheet.weights, t, ids1, ids2);
+    sheet_average::kernel::average_flags(tested.sizes, sheet.flags, t, ids1, ids2);
+    mark::average_marks(tested.sizes.pairs, sheet.marks, t);
     Ok(tally)
 }

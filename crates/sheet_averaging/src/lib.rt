@@ -4,10 +4,11 @@
 
 ghost use Rattle.triplet_study.specs.Lent.{study_of};
 ghost use Rattle.sheet_tally.specs.Tallies.{runs_after};
-ghost use Rattle.sheet_step.specs.Lent.{sheet_in, sheet_out};
+ghost use Rattle.sheet_step.specs.Lent.{sheet_of, SameBuffers};
 ghost use Rattle.sheet_step.specs.Steps.{average, Did};
 
 use ask::Refusal;
+pub use sheet_step::SheetMut;
 pub use sheet_tally::Tally;
 pub use triplet_study::{Shape, Study};
 
@@ -17,22 +18,19 @@ pub mod kernel;
 // Questions 3 to 19.
 pub fn average_triplet(
     study: Study,
-    weights: &mut [f64],
-    flags: &mut [i8],
-    marks: &mut [u8],
+    sheet: &mut SheetMut,
     tally: Tally,
     triplet: i64,
     degenerate_ids1: &[i64],
     degenerate_ids2: &[i64],
 ) -> Result<Tally, Refusal>
-    ensures { Did (study_of study.entry) (sheet_in weights flags marks tally.runs) (average triplet degenerate_ids1.now degenerate_ids2.now) result
-        (sheet_out weights flags marks (runs_after result tally.runs)) }
+    ensures did { Did (study_of study.entry) (sheet_of sheet.old tally.runs) (average triplet degenerate_ids1.now degenerate_ids2.now) result
+        (sheet_of sheet.new (runs_after result tally.runs)) }
+    ensures same { SameBuffers sheet.old sheet.new }
 {
-    let tested = sheet_step::kernel::asks::ask_common(study, weights.len(), flags.len(), marks)?;
+    let tested = sheet_step::kernel::asks::ask_common(study, sheet)?;
     kernel::average_asked(
-        weights,
-        flags,
-        marks,
+        sheet,
         &tested,
         tally,
         triplet,

@@ -1,65 +1,62 @@
 // One call of a list, by its kind.
 ghost use Rattle.std.specs.Prelude.{◌≡◌, ◌+◌, ◌*◌, ◌≤◌, length};
 ghost use Rattle.sheet_tally.specs.Tallies.{runs_after};
-ghost use Rattle.sheet_step.specs.Lent.{sheet_in, sheet_out};
+ghost use Rattle.sheet_step.specs.Lent.{sheet_of, SameBuffers};
 ghost use Rattle.sheet_step.specs.Steps.{Did};
 ghost use Rattle.sheet_fill.specs.Kept.{Keeps, study_in};
-ghost use Rattle.sheet_turn.specs.Turns.{sheet_now, common_no};
+ghost use Rattle.sheet_turn.specs.Turns.{common_no};
 ghost use Rattle.sheet_calls.specs.Calls.{call_at};
+ghost use Rattle.sheet_calls.specs.Named.{call_named};
 
-use crate::calls;
+use crate::parts::call_of;
+use crate::{Call, Calls};
 use ask::Refusal;
 use sheet_fill::{PreparedStudy, Work};
-use sheet_step::NamedPiece;
+use sheet_step::SheetMut;
 use sheet_tally::Tally;
 
 // Call `i` of a list.
+pub fn call_at<'a>(calls: Calls<'a>, i: usize) -> Call<'a>
+    requires { i * 6 + 6 ≤ length calls.list.now }
+    ensures { call_named result ≡ call_at calls.entry.list.now calls.entry.ids.now i }
+{
+    let start = i * 6;
+    let end = start + 6;
+    call_of(&calls.list[start..end], calls.ids)
+}
+
+// Makes a call.
 pub fn one_turn(
     work: &mut Work,
-    weights: &mut [f64],
-    flags: &mut [i8],
-    marks: &mut [u8],
+    sheet: &mut SheetMut,
     prepared: &PreparedStudy,
     tally: Tally,
-    list: &[i64],
-    ids: &[i64],
-    i: usize,
+    call: Call,
 ) -> Result<Tally, Refusal>
-    requires i_in_bounds { i * 6 + 6 ≤ length list.now }
-    requires common { common_no (study_in prepared.now) (sheet_now weights flags marks tally.runs) ≡ 0 }
+    requires common { common_no (study_in prepared.now) (sheet_of sheet.old tally.runs) ≡ 0 }
     requires kept { Keeps (study_in prepared.now) prepared.now.tested.sizes.triplets work.old }
-    ensures did { Did (study_in prepared.now) (sheet_in weights flags marks tally.runs) (call_at list.now ids.now i) result (sheet_out weights flags marks (runs_after result tally.runs)) }
+    ensures did { Did (study_in prepared.now) (sheet_of sheet.old tally.runs) (call_named call.entry) result (sheet_of sheet.new (runs_after result tally.runs)) }
+    ensures same { SameBuffers sheet.old sheet.new }
     ensures keeps { Keeps (study_in prepared.now) prepared.now.tested.sizes.triplets work.new }
 {
-    let kind = calls::number(list, i, 0);
-    let a = calls::number(list, i, 1);
-    let b = calls::number(list, i, 2);
-    let c = calls::number(list, i, 3);
-    let d = calls::number(list, i, 4);
-    if numbers::kernel::is_nat(kind, 0) {
-        let piece = NamedPiece {
-            triplet: b,
-            b1: c,
-            b2: d,
-        };
-        return sheet_turn::kernel::run_asked(
-            work, weights, flags, marks, prepared, tally, a, piece,
-        );
+    match call {
+        Call::Run { worker, piece } => {
+            sheet_turn::kernel::run_asked(work, sheet, prepared, tally, worker, piece)
+        }
+        Call::CarryOn { worker } => {
+            sheet_carry::kernel::carry_asked(work, sheet, prepared, tally, worker)
+        }
+        Call::Average {
+            triplet,
+            ids1,
+            ids2,
+        } => sheet_averaging::kernel::average_asked(
+            sheet,
+            &prepared.tested,
+            tally,
+            triplet,
+            ids1,
+            ids2,
+        ),
     }
-    if numbers::kernel::is_nat(kind, 1) {
-        return sheet_carry::kernel::carry_asked(work, weights, flags, marks, prepared, tally, a);
-    }
-    let e = calls::number(list, i, 5);
-    let ids1 = calls::ids_from(ids, b, c);
-    let ids2 = calls::ids_from(ids, d, e);
-    sheet_averaging::kernel::average_asked(
-        weights,
-        flags,
-        marks,
-        &prepared.tested,
-        tally,
-        a,
-        ids1,
-        ids2,
-    )
 }

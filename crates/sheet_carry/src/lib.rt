@@ -4,11 +4,12 @@
 
 ghost use Rattle.triplet_study.specs.Lent.{study_of};
 ghost use Rattle.sheet_tally.specs.Tallies.{runs_after};
-ghost use Rattle.sheet_step.specs.Lent.{sheet_in, sheet_out};
+ghost use Rattle.sheet_step.specs.Lent.{sheet_of, SameBuffers};
 ghost use Rattle.sheet_step.specs.Steps.{carry, Did};
 
 use ask::Refusal;
 use sheet_fill::{PreparedStudy, Work};
+pub use sheet_step::SheetMut;
 pub use sheet_tally::Tally;
 pub use triplet_study::{Shape, Study};
 
@@ -18,22 +19,20 @@ pub mod kernel;
 // the call.
 pub fn carry_on(
     study: Study,
-    weights: &mut [f64],
-    flags: &mut [i8],
-    marks: &mut [u8],
+    sheet: &mut SheetMut,
     tally: Tally,
     worker: i64,
 ) -> Result<Tally, Refusal>
-    ensures { Did (study_of study.entry) (sheet_in weights flags marks tally.runs) (carry worker) result
-        (sheet_out weights flags marks (runs_after result tally.runs)) }
+    ensures did { Did (study_of study.entry) (sheet_of sheet.old tally.runs) (carry worker) result (sheet_of sheet.new (runs_after result tally.runs)) }
+    ensures same { SameBuffers sheet.old sheet.new }
 {
-    let tested = sheet_step::kernel::asks::ask_common(study, weights.len(), flags.len(), marks)?;
+    let tested = sheet_step::kernel::asks::ask_common(study, sheet)?;
     let steps = tested.study.relative_grid_address;
-    let second = triplet_corners::kernel::second_steps(tested.sizes.tp, steps);
+    let second = triplet_corners::kernel::second_steps(tested.sizes.tp, tested.steps());
     let prepared = PreparedStudy {
         tested,
         second: &second[..steps.len()],
     };
     let mut work = Work::new(tested.sizes.triplets);
-    kernel::carry_asked(&mut work, weights, flags, marks, &prepared, tally, worker)
+    kernel::carry_asked(&mut work, sheet, &prepared, tally, worker)
 }

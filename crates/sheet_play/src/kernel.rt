@@ -1,15 +1,17 @@
 // For the crate of the list, on a sheet whose questions 3 to 13 say yes.
 ghost use Rattle.std.specs.Prelude.{◌≡◌, ◌*◌, length};
 ghost use Rattle.sheet_tally.specs.Tallies.{sixteen_of};
-ghost use Rattle.sheet_step.specs.Lent.{sheet_in, sheet_out};
+ghost use Rattle.sheet_step.specs.Lent.{sheet_of, SameBuffers};
 ghost use Rattle.sheet_fill.specs.Kept.{study_in};
-ghost use Rattle.sheet_turn.specs.Turns.{sheet_now, common_no};
+ghost use Rattle.sheet_turn.specs.Turns.{common_no};
 ghost use Rattle.sheet_calls.specs.Calls.{calls_of};
 ghost use Rattle.sheet_play.specs.Outcomes.{outcome, outcome_of};
 
-use sheet_calls::kernel::one_turn;
+use sheet_calls::Calls;
+use sheet_calls::kernel::{call_at, one_turn};
 use sheet_fill::{PreparedStudy, Work};
-use sheet_tally::{Answered, Tally};
+use sheet_step::SheetMut;
+use sheet_tally::Tally;
 
 // Stores the sixteen counts of a tally.
 pub fn store_counts(row: &mut [u64], tally: Tally)
@@ -21,30 +23,25 @@ pub fn store_counts(row: &mut [u64], tally: Tally)
 
 // Runs the calls, and gives the tally after the last. The corners of a triplet are looked up once for runs that follow each other.
 pub fn play_prepared(
-    weights: &mut [f64],
-    flags: &mut [i8],
-    marks: &mut [u8],
+    sheet: &mut SheetMut,
     prepared: &PreparedStudy,
     before: Tally,
-    list: &[i64],
-    ids: &[i64],
+    calls: Calls,
     answers: &mut [u64],
     tallies: &mut [u64],
 ) -> Tally
-    requires common { common_no (study_in prepared.now) (sheet_now weights flags marks before.runs) ≡ 0 }
-    requires list_len { (length list.now ≡ length answers.old * 6) × (length tallies.old ≡ length answers.old * 16) }
-    ensures { outcome (sheet_out weights flags marks result.runs) answers.new tallies.new
-        ≡ outcome_of (study_in prepared.now) (sheet_in weights flags marks before.runs) (calls_of list.now ids.now) }
+    requires common { common_no (study_in prepared.now) (sheet_of sheet.old before.runs) ≡ 0 }
+    requires list_len { (length calls.list.now ≡ length answers.old * 6) × (length tallies.old ≡ length answers.old * 16) }
+    ensures played { outcome (sheet_of sheet.new result.runs) answers.new tallies.new
+        ≡ outcome_of (study_in prepared.now) (sheet_of sheet.old before.runs) (calls_of calls.entry.list.now calls.entry.ids.now) }
+    ensures same { SameBuffers sheet.old sheet.new }
 {
     let mut work = Work::new(prepared.tested.sizes.triplets);
     let mut tally = before;
     for i in 0..answers.len() {
-        let turn = one_turn(
-            &mut work, weights, flags, marks, prepared, tally, list, ids, i,
-        );
-        let said = Answered::new(turn, tally);
-        tally = said.tally;
-        answers[i] = said.number;
+        let call = call_at(calls, i);
+        let turn = one_turn(&mut work, sheet, prepared, tally, call);
+        answers[i] = tally.settle(turn);
         let start = i * 16;
         let end = start + 16;
         store_counts(&mut tallies[start..end], tally);

@@ -2,7 +2,26 @@
 
 #![tactic(auto)]
 
+ghost use Rattle.std.specs.Prelude.{◌≡◌};
+
 pub mod kernel;
+
+// The buffers of a sheet as a caller lends them: weights, flags and marks.
+#[derive(Drop)]
+pub struct SheetMut<'a> {
+    pub weights: &'a mut [f64],
+    pub flags: &'a mut [i8],
+    pub marks: &'a mut [u8],
+}
+
+impl<'a> SheetMut<'a> {
+    // The marks, to read.
+    pub fn marks(&self) -> &[u8]
+        ensures { result.now ≡ self.now.marks.now }
+    {
+        self.marks
+    }
+}
 
 // A piece as a caller names it, any numbers: its triplet and its two bands.
 #[derive(Clone, Copy)]

@@ -16,29 +16,6 @@ pub struct Tally {
     pub runs: [u64; 16],
 }
 
-// An answer as a number, 0 where the call is done, and the tally that the caller then holds.
-#[derive(Clone, Copy)]
-pub struct Answered {
-    pub number: u64,
-    pub tally: Tally,
-}
-
-impl Answered {
-    // The answer to a call that took the tally `before`.
-    pub fn new(answer: Result<Tally, Refusal>, before: Tally) -> Answered
-        ensures number { result.number ≡ number_of answer }
-        ensures tally { result.tally.runs ≡ runs_after answer before.runs }
-    {
-        match answer {
-            Ok(tally) => Answered { number: 0, tally },
-            Err(why) => Answered {
-                number: why.number(),
-                tally: before,
-            },
-        }
-    }
-}
-
 impl Tally {
     // The tally with a worker's accepted runs. Question 21: is there such a worker; 20: has its count room.
     pub fn add(self, worker: i64, runs: u64) -> Result<Tally, Refusal>
@@ -46,5 +23,19 @@ impl Tally {
     {
         kernel::ask_tally(self, worker, runs)?;
         Ok(kernel::with_runs(self, worker, runs))
+    }
+
+    // The number of an answer to a call that took this tally, 0 where the call is done; it becomes the tally that the caller then holds.
+    pub fn settle(&mut self, answer: Result<Tally, Refusal>) -> u64
+        ensures number { result ≡ number_of answer }
+        ensures tally { self.new.runs ≡ runs_after answer self.old.runs }
+    {
+        match answer {
+            Ok(after) => {
+                *self = after;
+                0
+            }
+            Err(why) => why.number(),
+        }
     }
 }

@@ -1,5 +1,5 @@
 // Reading a study, part by part.
-ghost use Rattle.std.specs.Prelude.{◌≤◌, ◌≡◌, length};
+ghost use Rattle.std.specs.Prelude.{◌+◌, ◌≤◌, ◌≡◌, length};
 ghost use Rattle.sections.specs.Left.{left};
 ghost use Rattle.study.specs.Studies.{floats_part, grid_part, study_in};
 ghost use Rattle.study.specs.Told.{told_floats, told_grid, told_study};
@@ -9,8 +9,8 @@ use sections::kernel::Lines;
 use study_head::kernel::{ends_line, parse_head};
 
 // The sections `addr` and `map`, which come next in a text.
-pub fn parse_grid<'b>(lines: &mut Lines, buffers: &'b mut GridBuffers) -> Option<GridText<'b>>
-    requires { length lines.old.text.now ≤ 16384 }
+pub fn parse_grid<'b>(lines: &mut Lines, buffers: GridBuffers<'b>) -> Option<GridText<'b>>
+    requires { (length lines.old.text.now + 3 ≤ length buffers.addresses.now) × (length lines.old.text.now + 1 ≤ length buffers.gp_map.now) }
     ensures grid { grid_part (left lines.old) ≡ told_grid result (left lines.new) }
     ensures same { lines.new.text ≡ lines.old.text }
 {
@@ -21,8 +21,8 @@ pub fn parse_grid<'b>(lines: &mut Lines, buffers: &'b mut GridBuffers) -> Option
 }
 
 // The sections `f1`, `f2` and `point`, which come next in a text.
-pub fn parse_floats<'b>(lines: &mut Lines, buffers: &'b mut FloatsBuffers) -> Option<FloatsText<'b>>
-    requires { length lines.old.text.now ≤ 16384 }
+pub fn parse_floats<'b>(lines: &mut Lines, buffers: FloatsBuffers<'b>) -> Option<FloatsText<'b>>
+    requires { (length lines.old.text.now + 1 ≤ length buffers.f1.now) × (length lines.old.text.now + 1 ≤ length buffers.f2.now) × (length lines.old.text.now + 1 ≤ length buffers.points.now) }
     ensures floats { floats_part (left lines.old) ≡ told_floats result (left lines.new) }
     ensures same { lines.new.text ≡ lines.old.text }
 {
@@ -43,12 +43,15 @@ pub fn read_study<'b>(text: &[u8], buffers: &'b mut StudyBuffers) -> Option<Held
     let mut lines = Lines::new(text);
     let head = parse_head(&mut lines)?;
     let StudyBuffers {
-        grid,
-        floats,
+        addresses,
+        gp_map,
+        f1,
+        f2,
+        points,
         triplets,
     } = buffers;
-    let grid = parse_grid(&mut lines, grid)?;
-    let floats = parse_floats(&mut lines, floats)?;
+    let grid = parse_grid(&mut lines, GridBuffers { addresses, gp_map })?;
+    let floats = parse_floats(&mut lines, FloatsBuffers { f1, f2, points })?;
     let triplets = lines.rows(b"triplet", 3, triplets)?;
     if !lines.is_empty() {
         return None;

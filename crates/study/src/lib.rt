@@ -30,41 +30,40 @@ pub struct HeldStudy<'a> {
     pub triplets: &'a [i64],
 }
 
-// Room for the sections `addr` and `map`: a text has at most 16,384 numbers, and a row may be begun behind them.
+// Room for the sections `addr` and `map`.
 #[derive(Drop)]
-pub struct GridBuffers {
-    pub addresses: [i64; 16387],
-    pub gp_map: [i64; 16385],
+pub struct GridBuffers<'b> {
+    pub addresses: &'b mut [i64],
+    pub gp_map: &'b mut [i64],
 }
 
 // Room for the sections `f1`, `f2` and `point`.
 #[derive(Drop)]
-pub struct FloatsBuffers {
+pub struct FloatsBuffers<'b> {
+    pub f1: &'b mut [u64],
+    pub f2: &'b mut [u64],
+    pub points: &'b mut [u64],
+}
+
+// Room for the sections of a study: a text has at most 16,384 numbers, and a row may be begun behind them.
+#[derive(Drop)]
+pub struct StudyBuffers {
+    pub addresses: [i64; 16387],
+    pub gp_map: [i64; 16385],
     pub f1: [u64; 16385],
     pub f2: [u64; 16385],
     pub points: [u64; 16385],
-}
-
-// Room for the sections of a study.
-#[derive(Drop)]
-pub struct StudyBuffers {
-    pub grid: GridBuffers,
-    pub floats: FloatsBuffers,
     pub triplets: [i64; 16387],
 }
 
 impl StudyBuffers {
     pub fn new() -> StudyBuffers {
         StudyBuffers {
-            grid: GridBuffers {
-                addresses: [0; 16387],
-                gp_map: [0; 16385],
-            },
-            floats: FloatsBuffers {
-                f1: [0; 16385],
-                f2: [0; 16385],
-                points: [0; 16385],
-            },
+            addresses: [0; 16387],
+            gp_map: [0; 16385],
+            f1: [0; 16385],
+            f2: [0; 16385],
+            points: [0; 16385],
             triplets: [0; 16387],
         }
     }

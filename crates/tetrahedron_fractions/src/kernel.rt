@@ -1,6 +1,6 @@
 // The quotients that every formula is made of, the guard of a denominator, and the branch of omega, for the crates above.
 ghost use Rattle.std.specs.Prelude.{◌≡◌};
-ghost use Rattle.tetrahedron_fractions.specs.Branch.{values, branch_of};
+ghost use Rattle.tetrahedron_fractions.specs.Branch.{branch_of};
 ghost use Rattle.tetrahedron_fractions.specs.Fraction.{is_small, fraction, guarded};
 
 const THM_EPSILON: f64 = 1e-10;
@@ -8,6 +8,7 @@ const THM_EPSILON: f64 = 1e-10;
 const MINUS_THM_EPSILON: f64 = -1e-10;
 
 // Under 1e-10 in magnitude, by two comparisons: most often the first one tells.
+#[tactic(auto, using(crate::proofs::FractionLaws::small_is))]
 fn is_small(delta: f64) -> bool
     ensures { result ≡ is_small delta }
 {
@@ -19,6 +20,7 @@ fn is_small(delta: f64) -> bool
 }
 
 // (omega - m) / (n - m), or 0 where the difference is under 1e-10 in magnitude.
+#[tactic(auto, unfolding(tetrahedron_paper::specs::Paper::fraction))]
 pub fn _f(omega: f64, n: f64, m: f64) -> f64
     ensures { result ≡ fraction omega n m }
 {
@@ -40,10 +42,12 @@ pub fn guard(denominator: f64, value: f64) -> f64
     }
 }
 
-// The branch of omega. At a vertex it is the branch above.
-pub fn branch(omega: f64, a: f64, b: f64, c: f64, d: f64) -> usize
-    ensures { result ≡ branch_of omega (values a b c d) }
+// The branch of omega among four sorted values. At a vertex it is the branch above.
+#[tactic(auto, unfolding(crate::specs::Branch::branch_of))]
+pub fn branch(omega: f64, v: [f64; 4]) -> usize
+    ensures { result ≡ branch_of omega v }
 {
+    let [a, b, c, d] = v;
     if omega < a {
         0
     } else if omega < b {

@@ -66,9 +66,9 @@ pub record Turned (a : List Float) (k : ℕ) (s : List Float) (p : List ℕ) : T
 pub turned_none : (a : List Float) (p : List ℕ) → length a ≡ 384 → length p ≡ 96 → Turned a 0 a p
 turned_none a p h g = record { size = h; count = g; done = λ k l. absurd (not-suc-le-zero l); kept = λ i l. refl }
 
-pub turned-next : (a s : List Float) (p : List ℕ) (k : ℕ) → k < 96 → Turned a k s p → (r : List Float) (n : ℕ) → r ≡ sorted_of (row_of s k) → n ≡ place_of (row_of s k)
+pub turned_next : (a s : List Float) (p : List ℕ) (k : ℕ) → k < 96 → Turned a k s p → (r : List Float) (n : ℕ) → r ≡ sorted_of (row_of s k) → n ≡ place_of (row_of s k)
     → Turned a (k + 1) (with_row s k r) (set p k n)
-turned-next a s p k h t r n e g =
+turned_next a s p k h t r n e g =
     let same : row_of s k ≡ row_of a k = rows_same s a k (λ i l m. t.kept i l) in
     record {
       size = with-length s k r ∙ t.size;

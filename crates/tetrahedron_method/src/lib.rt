@@ -19,6 +19,7 @@ pub enum WeightFunction {
 
 // The integration weight at one omega over directly given vertices: 24, 48, 72 or 96 rows of four values.
 // Questions 7 and 11 are asked.
+#[tactic(auto, using(list_laws::proofs::BoolLaws::yes_of, list_laws::proofs::BoolLaws::no_of), unfolding(ask::specs::Ask::first_no))]
 pub fn integration_weight(
     omega: f64,
     tetrahedra_omegas: &[f64],
@@ -35,6 +36,5 @@ pub fn integration_weight(
     if !question_values::kernel::frequencies::point_ok(omega) {
         return Err(Refusal::Frequencies);
     }
-    let rows = tetrahedra_omegas.len() / 4;
-    Ok(kernel::weight::get_integration_weight(function, omega, tetrahedra_omegas, rows))
+    Ok(kernel::weight::get_integration_weight(function, omega, tetrahedra_omegas))
 }

@@ -6,12 +6,8 @@ use Prim.Native.Nat.{ℕ, ◌+◌, ◌<◌}
 use native.Mathlib.Omega.{arith}
 use lib.ListN.{get_or}
 use lib.Ieee.{Float, nan, lt, is_nan}
-use Rattle.tetrahedron_sort.specs.Sort.{low2, high2, sorted4, place_by, sorted_of, place_of, sorted-omegas, sort_of}
+use Rattle.tetrahedron_sort.specs.Sort.{low2, high2, sorted4, place_by, sorted_of, place_of}
 use Rattle.ieee_laws.proofs.OrderLaws.{lt-asym, lt_irrefl, not-above-trans}
-
--- the struct that the sort gives, by its two parts
-pub sort-is : (v omegas : List Float) (place : ℕ) → omegas ≡ sorted_of v → place ≡ place_of v → sorted-omegas omegas place ≡ sort_of v
-sort-is v omegas place e f = rw (e, f)
 
 -- ---- the same values: any count over them is the same
 module _ (q : Float → ℕ) where

@@ -51,6 +51,7 @@ fn place_of_first(first: bool, lower: bool, upper: bool, middle: bool) -> usize
 }
 
 // First each half is put in order, then the two lower values, the two upper ones, and the middle.
+#[tactic(auto, unfolding(crate::specs::Sort::sorted_of, crate::specs::Sort::place_of))]
 pub fn sort_omegas(v: [f64; 4]) -> SortedOmegas
     ensures { result ≡ sort_of v }
 {

@@ -2,7 +2,25 @@
 
 #![tactic(auto)]
 
+ghost use Rattle.std.specs.Prelude.{◌≡◌, ◌*◌, ◌≤◌};
+
 pub mod kernel;
+
+// How many rows of four corners a work area holds: at most 96.
+#[derive(Clone, Copy)]
+pub struct Rows {
+    pub count: usize,
+    pub ghost few: { count ≤ 96 },
+}
+
+impl Rows {
+    // How many corners they have.
+    pub fn corners(self) -> usize
+        ensures { result ≡ self.count * 4 }
+    {
+        self.count * 4
+    }
+}
 
 // The four values in ascending order, and the place of the first.
 #[derive(Clone, Copy)]

@@ -1,8 +1,9 @@
-// The neighbour tables as constants, a row the twelve numbers of its four corners, read only under a bound on each index.
-ghost use Rattle.std.specs.Prelude.{◌≡◌, ◌<◌, ◌/◌, ◌%◌, length};
-ghost use Rattle.tetrahedron_tables.specs.Tables.{table_of, entry, flat};
+// The neighbour tables, a row the twelve numbers of its four corners, read only under a bound on each index.
+ghost use Rattle.std.specs.Prelude.{◌≡◌, ◌<◌, length};
+ghost use Rattle.list_laws.specs.Lists.{rows};
+ghost use Rattle.tetrahedron_tables.specs.Tables.{table_of, flat};
 
-const TABLES: [[[i8; 12]; 24]; 4] = [
+static TABLES: [[[i64; 12]; 24]; 4] = [
     [
         [0, 0, 0, 1, 0, 0, 1, 1, 0, 1, 1, 1],
         [0, 0, 0, 1, 0, 0, 1, 0, 1, 1, 1, 1],
@@ -109,27 +110,19 @@ const TABLES: [[[i8; 12]; 24]; 4] = [
     ],
 ];
 
-// Number j of row r of the table of a main diagonal.
-fn entry(diagonal: usize, r: usize, j: usize) -> i8
-    requires { (diagonal < 4) × ((r < 24) × (j < 12)) }
-    ensures { result ≡ entry (table_of diagonal) r j }
+// A table's 288 numbers, row by row, corner by corner, component by component.
+pub fn table(diagonal: usize) -> &'static [i64]
+    requires { diagonal < 4 }
+    ensures value { result.now ≡ flat (table_of diagonal) }
+    ensures len { length result.now ≡ 288 }
 {
-    TABLES[diagonal][r][j]
+    TABLES[diagonal].as_flattened()
 }
 
-fn number(diagonal: usize, i: usize) -> i64
-    requires { (diagonal < 4) × (i < 288) }
-    ensures { result ≡ entry (table_of diagonal) (i / 12) (i % 12) }
+// The numbers of the four tables, one after the other.
+pub fn tables() -> &'static [i64]
+    ensures value { result.now ≡ rows 4 (λ i. flat (table_of i)) }
+    ensures len { length result.now ≡ 1152 }
 {
-    entry(diagonal, i / 12, i % 12) as i64
-}
-
-// Writes a table's 288 numbers, row by row, corner by corner, component by component.
-pub fn copy_table(diagonal: usize, out: &mut [i64])
-    requires { (diagonal < 4) × (length out.old ≡ 288) }
-    ensures { out.new ≡ flat (table_of diagonal) }
-{
-    for i in 0..288 {
-        out[i] = number(diagonal, i);
-    }
+    TABLES.as_flattened().as_flattened()
 }

@@ -34,7 +34,7 @@ fn fill_copy(out: &mut [i64], table: &[i64], negated: bool)
     ensures { out.new ≡ copy_of negated table.now }
 {
     for k in 0..table.len() {
-        out[k] = triplet_corners::kernel::step_at(negated, table, k);
+        out[k] = triplet_corners::kernel::step_of(negated, table[k]);
     }
 }
 

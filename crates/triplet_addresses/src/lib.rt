@@ -9,6 +9,7 @@ ghost use Rattle.triplet_addresses.specs.Normal.{is_n_questions, is_normal};
 ghost use Rattle.triplet_addresses.specs.Copies.{copy_questions, both_copies};
 
 pub use ask::Refusal;
+use question_grids::Triples;
 
 mod copies;
 mod normal;
@@ -23,7 +24,10 @@ pub fn is_n(triplet: [i64; 3], bz_grid_addresses: &[i64]) -> Result<bool, Refusa
     if !normal::on_grid(triplet, bz_grid_addresses.len() / 3) {
         return Err(Refusal::GridPoints);
     }
-    Ok(normal::is_normal(triplet, bz_grid_addresses))
+    let addresses = Triples {
+        numbers: bz_grid_addresses,
+    };
+    Ok(normal::is_normal(triplet, addresses))
 }
 
 // The neighbour table for the second and for the third point of a triplet, one copy after the other. Questions 7, 8, 12.

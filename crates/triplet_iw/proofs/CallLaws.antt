@@ -1,5 +1,5 @@
 -- The number of the first no of a call by the tests that it makes, and what the yes to all of them tells. Assumes nothing.
-use mathlib.Core.Path.{◌≡◌, sym, ◌∙◌}
+use mathlib.Core.Path.{◌≡◌, ◌∙◌}
 use mathlib.Core.Bool.{Bool, true, false}
 use mathlib.Core.List.{[], ◌∷◌}
 use Prim.Native.Nat.{ℕ}
@@ -7,10 +7,9 @@ use native.Mathlib.Omega.{arith}
 use Rattle.ask.specs.Ask.{asks, first_no}
 use Rattle.ask.proofs.AskLaws.{group-no, group-yes}
 use Rattle.triplet_study.specs.declared.Sizes.{Sizes}
-use Rattle.triplet_study.specs.Study.{Study, study, sizes_of}
+use Rattle.triplet_study.specs.Study.{Study, sizes_of}
 use Rattle.triplet_study.specs.Questions.{study_questions, are_lengths}
-use Rattle.triplet_study.specs.Tested.{Counted, Ready}
-use Rattle.triplet_study.proofs.StudyLaws.{study-numbered, tested, counted, ready, ready-shaped}
+use Rattle.triplet_study.proofs.StudyLaws.{study-numbered}
 use Rattle.triplet_iw.specs.Calls.{weights_questions}
 
 -- question 12 alone

@@ -12,17 +12,22 @@ use lib.IntN.{ℤ}
 use lib.ListN.{length}
 use borrow.Author.Tests.{eq-eqb, lt-ltb, le-ltb, ltb-true, ltb-false, eqb-true, eqb-false}
 use Rattle.list_laws.proofs.StrideLaws.{both-none, both-all}
-use Rattle.bzgrid_lookup.specs.Neighbours.{SoundGrid}
 use Rattle.triplet_values.specs.Values.{Held}
 use Rattle.triplet_study.specs.declared.Sizes.{Sizes}
-use Rattle.triplet_study.specs.Study.{Study, tp_in, grid_in, bands1_in, bands2_in, triplet_count, sizes_by, sizes_of}
-use Rattle.triplet_study.specs.Tested.{Counted, Ready}
-use Rattle.triplet_study.proofs.StudyLaws.{ready-counted}
+use Rattle.triplet_study.specs.declared.tested.TestedStudy.{TestedStudy}
+use Rattle.triplet_study.specs.Study.{Study, tp_in, grid_in, bands1_in, bands2_in}
+use Rattle.triplet_study.specs.Lent.{study_of}
+use Rattle.triplet_study.specs.Tested.{Tested, Counted}
+use Rattle.triplet_study.proofs.StudyLaws.{rows_of, bands1-of, bands2-of}
+use Rattle.triplet_study.proofs.TestedLaws.{tested-keeps, tested-counted}
 use Rattle.question_grids.specs.Tables.{rows_in}
-use Rattle.triplet_corners.specs.Corners.{second_steps, corner_numbers}
+use Rattle.triplet_corners.specs.Corners.{second_steps}
 use Rattle.triplet_corners.proofs.CornerLaws.{corners-held, second-length}
+use Rattle.triplet_piece.specs.declared.Corners.{Corners}
+use Rattle.triplet_piece.specs.declared.Piece.{Piece}
 use Rattle.triplet_piece.specs.Layout.{AreWritten}
-use Rattle.triplet_piece.specs.Weights.{outputs_of_corners, point_of, first_corners, second_corners, outputs_of, AreComputed}
+use Rattle.triplet_piece.specs.Pieces.{AreCornersOf, IsPiece, IsHeld, number_of, outputs_of_piece}
+use Rattle.triplet_piece.specs.Weights.{outputs_of, AreComputed}
 use Rattle.triplet_piece.proofs.WeightLaws.{written-computed, computed-none, computed-join, computed-alike}
 
 -- ---- which pieces
@@ -64,105 +69,65 @@ triplet-next q t = go (eqb q t) refl (ltb q t) refl
 pub band-lt : (k bands1 bands2 : ℕ) → 1 ≤ bands2 → k < bands1 * bands2 → k / bands2 < bands1
 band-lt k bands1 bands2 h l = (div-lt_iff_lt-mul {k = bands2} {x = k} {y = bands1} h).1 l
 
--- ---- the counts of a study, by its parts
+-- the bands of pair k
+pub pair-bands : {z : Sizes} → Counted z → (k : ℕ) → k < z.pairs → (k / z.bands2 < z.bands1) × (k % z.bands2 < z.bands2)
+pair-bands {z} c k h = (band-lt k z.bands1 z.bands2 c.bands2-some (rw (← c.pairs-are) h), mod-lt k c.bands2-some)
 
-module _ (s : Study) where
-  tp-of : (sizes_of s).tp ≡ tp_in s
-  unfolding sizes_by
-  tp-of = refl
+-- ---- a piece by the corners of its triplet
 
-  grid-of : (sizes_of s).grid ≡ grid_in s
-  unfolding sizes_by
-  grid-of = refl
+module _ (t : TestedStudy) (c : Corners) (p : Piece) (e : AreCornersOf (study_of t.study) p.triplet c) (h : IsPiece t.sizes p) where
+  abbrev s : Study
+  s = study_of t.study
 
-  rows_of : (sizes_of s).rows ≡ rows_in s.steps
-  unfolding sizes_by
-  rows_of = refl
+  keeps : Tested s
+  keeps = tested-keeps t
 
-  bands1-of : (sizes_of s).bands1 ≡ bands1_in s
-  unfolding sizes_by
-  bands1-of = refl
+  -- each corner has its frequency of the piece's band
+  held_first : Held c.first (t.sizes.rows * 4) (length s.frequencies1) t.sizes.bands1 p.b1
+  held_first =
+      let k : p.b1 < bands1_in s = rw (t.counts, bands1-of s) at h.1.0 in
+      rw (e.0, t.counts, rows_of s, bands1-of s)
+      (corners-held (grid_in s) s.addresses s.gp-map keeps.grid s.steps _ (rows_in s.steps) (bands1_in s) p.b1 (length s.frequencies1) keeps.rows_whole keeps.held1 k)
 
-  bands2-of : (sizes_of s).bands2 ≡ bands2_in s
-  unfolding sizes_by
-  bands2-of = refl
+  held-second : Held c.second (t.sizes.rows * 4) (length s.frequencies2) t.sizes.bands2 p.b2
+  held-second =
+      let k : p.b2 < bands2_in s = rw (t.counts, bands2-of s) at h.1.1 in
+      rw (e.1, t.counts, rows_of s, bands2-of s)
+      (corners-held (grid_in s) s.addresses s.gp-map keeps.grid (second_steps (tp_in s) s.steps) _ (rows_in s.steps) (bands2_in s) p.b2 (length s.frequencies2) (second-length (tp_in s) s.steps ∙ keeps.rows_whole) keeps.held2 k)
 
-  triplets-of : (sizes_of s).triplets ≡ triplet_count s
-  unfolding sizes_by
-  triplets-of = refl
+  pub is-held : IsHeld t.sizes s.frequencies1 s.frequencies2 c p
+  is-held = (held_first, held-second)
 
--- ---- a study that is ready
-
-module _ {s : Study} {z : Sizes} {weights flags : ℕ} (r : Ready s z weights flags) where
-  pub tp-is : z.tp ≡ tp_in s
-  tp-is = rw r.counts (tp-of s)
-
-  pub grid-is : z.grid ≡ grid_in s
-  grid-is = rw r.counts (grid-of s)
-
-  pub grid-sound : SoundGrid z.grid s.addresses s.gp-map
-  grid-sound = rw grid-is r.tested.grid
-
-  -- its table has at most 1,152 numbers
-  pub steps-few : length s.steps ≤ 1152
-  steps-few = omega (arith, r.tested.rows_whole, r.tested.rows-high)
-
-  -- the corners of triplet t, as they are looked up
-  pub first-corners : (t g : ℕ) (n : List ℕ) → n ≡ corner_numbers z.grid s.addresses s.gp-map s.steps g → g ≡ point_of s.triplets t 1 → n ≡ first_corners s t
-  first-corners t g n e h = e ∙ rw (grid-is, h)
-
-  pub second-corners : (t g : ℕ) (second : List ℤ) (n : List ℕ) → n ≡ corner_numbers z.grid s.addresses s.gp-map second g → g ≡ point_of s.triplets t 2
-      → second ≡ second_steps z.tp s.steps → n ≡ second_corners s t
-  second-corners t g second n e h q = e ∙ rw (q, tp-is, grid-is, h)
-
-  -- each corner has its frequency of each band
-  pub held_first : (t : ℕ) (numbers : List ℕ) → numbers ≡ first_corners s t → (b : ℕ) → b < z.bands1 → Held numbers (z.rows * 4) (length s.frequencies1) z.bands1 b
-  held_first t numbers e b h =
-      let k : b < bands1_in s = rw (r.counts, bands1-of s) at h in
-      rw (e, r.counts, rows_of s, bands1-of s)
-      (corners-held (grid_in s) s.addresses s.gp-map r.tested.grid s.steps _ (rows_in s.steps) (bands1_in s) b (length s.frequencies1) r.tested.rows_whole r.tested.held1 k)
-
-  pub held-second : (t : ℕ) (numbers : List ℕ) → numbers ≡ second_corners s t → (b : ℕ) → b < z.bands2 → Held numbers (z.rows * 4) (length s.frequencies2) z.bands2 b
-  held-second t numbers e b h =
-      let k : b < bands2_in s = rw (r.counts, bands2-of s) at h in
-      rw (e, r.counts, rows_of s, bands2-of s)
-      (corners-held (grid_in s) s.addresses s.gp-map r.tested.grid (second_steps (tp_in s) s.steps) _ (rows_in s.steps) (bands2_in s) b (length s.frequencies2) (second-length (tp_in s) s.steps ∙ r.tested.rows_whole) r.tested.held2 k)
-
-  -- the three numbers of a triplet are there
-  pub triplet-in : (t : ℕ) → t < z.triplets → 3 * t + 2 < length s.triplets
-  triplet-in t h = let g : t < triplet_count s = rw (r.counts, triplets-of s) at h in omega (arith, r.tested.triplets-whole)
-
-  -- the bands of pair k
-  pub pair-bands : (k : ℕ) → k < z.pairs → (k / z.bands2 < z.bands1) × (k % z.bands2 < z.bands2)
-  pair-bands k h =
-      let c : Counted z = ready-counted r in
-      (band-lt k z.bands1 z.bands2 c.bands2-some (rw (← c.pairs-are) h), mod-lt k c.bands2-some)
-
-  -- ---- the pieces of a triplet
-
-  -- a piece of triplet t that is written by its corners is computed
-  pub corners-computed : (t b1 b2 : ℕ) (n1 n2 : List ℕ) → n1 ≡ first_corners s t → n2 ≡ second_corners s t → b1 < z.bands1 → b2 < z.bands2
-      → {w : List Float} {f : List ℤ} {w' : List Float} {f' : List ℤ}
-      → AreWritten z (t * z.pairs + (b1 * z.bands2 + b2)) (outputs_of_corners z s.points n1 n2 s.frequencies1 b1 s.frequencies2 b2) w f w' f'
-      → AreComputed s (λ n. eqb n (t * z.pairs + (b1 * z.bands2 + b2))) w f w' f'
+  -- written by its corners it is computed
+  pub corners-computed : {w : List Float} {f : List ℤ} {w' : List Float} {f' : List ℤ}
+      → AreWritten t.sizes (number_of t.sizes p) (outputs_of_piece t.sizes s.frequencies1 s.frequencies2 s.points c p) w f w' f' → AreComputed s (λ n. eqb n (number_of t.sizes p)) w f w' f'
   unfolding outputs_of
-  corners-computed t b1 b2 n1 n2 e1 e2 h1 h2 = written-computed s r.counts t b1 b2 outs h1 h2 refl
+  corners-computed = written-computed s t.counts p.triplet p.b1 p.b2 outs h.1.0 h.1.1 refl
     where
-      outs : (x : ℕ) → outputs_of_corners z s.points n1 n2 s.frequencies1 b1 s.frequencies2 b2 x ≡ outputs_of s t b1 b2 x
-      outs x = rw (e1, e2, r.counts)
+      outs : (x : ℕ) → outputs_of_piece t.sizes s.frequencies1 s.frequencies2 s.points c p x ≡ outputs_of s p.triplet p.b1 p.b2 x
+      outs x = rw (e.0, e.1, t.counts)
 
-  -- piece k of triplet t, written by its corners after those before it
-  pub pieces_more : (t k : ℕ) (n1 n2 : List ℕ) → n1 ≡ first_corners s t → n2 ≡ second_corners s t → k < z.pairs
+-- ---- the pieces of a triplet
+
+-- piece k of triplet q
+abbrev pub piece_of : Sizes → ℕ → ℕ → Piece
+piece_of z q k = record { triplet = q; b1 = k / z.bands2; b2 = k % z.bands2 }
+
+module _ (t : TestedStudy) (q k : ℕ) (hq : q < t.sizes.triplets) (hk : k < t.sizes.pairs) where
+  pub piece-in : IsPiece t.sizes (piece_of t.sizes q k)
+  piece-in = (hq, pair-bands (tested-counted t) k hk)
+
+  -- written by its corners after those before it
+  pub pieces_more : (c : Corners) → AreCornersOf (study_of t.study) q c
       → {w₀ : List Float} {f₀ : List ℤ} {w : List Float} {f : List ℤ} {w' : List Float} {f' : List ℤ}
-      → AreComputed s (in_triplet z.pairs t k) w₀ f₀ w f
-      → AreWritten z (t * z.pairs + (k / z.bands2 * z.bands2 + k % z.bands2)) (outputs_of_corners z s.points n1 n2 s.frequencies1 (k / z.bands2) s.frequencies2 (k % z.bands2)) w f w' f'
-      → AreComputed s (in_triplet z.pairs t (k + 1)) w₀ f₀ w' f'
-  pieces_more t k n1 n2 e1 e2 hk a b =
-      let q : ℕ = t * z.pairs + (k / z.bands2 * z.bands2 + k % z.bands2) in
-      let number : q ≡ t * z.pairs + k = ap (λ (m : ℕ). t * z.pairs + m) (div-add-mod' k z.bands2) in
-      let h : _ = pair-bands k hk in
-      computed-join s (in_triplet z.pairs t k) (λ n. eqb n q) (in_triplet z.pairs t (k + 1)) (λ n. rw number (in-next z.pairs t k n hk)) a
-      (corners-computed t (k / z.bands2) (k % z.bands2) n1 n2 e1 e2 h.0 h.1 b)
+      → AreComputed (study_of t.study) (in_triplet t.sizes.pairs q k) w₀ f₀ w f
+      → AreWritten t.sizes (number_of t.sizes (piece_of t.sizes q k)) (outputs_of_piece t.sizes t.study.frequencies1.now t.study.frequencies2.now t.study.frequency_points.now c (piece_of t.sizes q k)) w f w' f'
+      → AreComputed (study_of t.study) (in_triplet t.sizes.pairs q (k + 1)) w₀ f₀ w' f'
+  pieces_more c e a b =
+      let n : ℕ = number_of t.sizes (piece_of t.sizes q k) in
+      let number : n ≡ q * t.sizes.pairs + k = ap (λ (m : ℕ). q * t.sizes.pairs + m) (div-add-mod' k t.sizes.bands2) in
+      computed-join (study_of t.study) (in_triplet t.sizes.pairs q k) (λ m. eqb m n) (in_triplet t.sizes.pairs q (k + 1)) (λ m. rw number (in-next t.sizes.pairs q k m hk)) a
+      (corners-computed t c (piece_of t.sizes q k) e piece-in b)
 
 module _ (s : Study) (pairs t : ℕ) where
   pub pieces_none : (w : List Float) (f : List ℤ) → AreComputed s (in_triplet pairs t 0) w f w f

@@ -8,10 +8,13 @@ ghost use Rattle.triplet_iw.specs.Whole.{ComputesAll};
 ghost use Rattle.triplet_iw.specs.Calls.{DidFill};
 
 use ask::Refusal;
+use triplet_piece::kernel::{corners_of, fill_piece};
+use triplet_piece::{Piece, WorkAreas};
 use triplet_study::{Study, TestedStudy};
 
-// All pieces of triplet `t`: its corners are looked up once. `second` is the second copy of the steps.
+// All pieces of triplet `t`: its corners are looked up once. `second` is the second copy of the steps; the work areas are lent.
 pub fn fill_triplet(
+    areas: &mut WorkAreas,
     weights: &mut [f64],
     flags: &mut [i8],
     tested: &TestedStudy,
@@ -23,36 +26,16 @@ pub fn fill_triplet(
     requires t_in_bounds { t < tested.now.sizes.triplets }
     ensures { Computes (study_of tested.now.study) (λ n. eqb (n / tested.now.sizes.pairs) t) weights flags }
 {
-    let study = tested.study;
-    let z = tested.sizes;
-    let g1 = numbers::kernel::magnitude_at(study.triplets, 3 * t + 1);
-    let g2 = numbers::kernel::magnitude_at(study.triplets, 3 * t + 2);
-    let grid = z.grid;
-    let steps = study.relative_grid_address;
-    let numbers = [
-        triplet_corners::kernel::corner_numbers(grid, study.addresses, study.gp_map, steps, g1),
-        triplet_corners::kernel::corner_numbers(grid, study.addresses, study.gp_map, second, g2),
-    ];
-    let mut frequencies = [[0.0; 384]; 2];
-    let mut channels = [[0.0; 384]; 3];
-    let mut places = [[0usize; 96]; 3];
-    let bands2 = z.bands2;
-    for k in 0..z.pairs {
-        triplet_piece::kernel::fill_piece(
-            &mut frequencies,
-            &mut channels,
-            &mut places,
-            weights,
-            flags,
-            z,
-            &numbers,
-            study.frequencies1,
-            study.frequencies2,
-            study.frequency_points,
-            t,
-            k / bands2,
-            k % bands2,
-        );
+    let corners = corners_of(tested, second, t);
+    let counted = tested.counted();
+    let bands2 = tested.sizes.bands2;
+    for k in 0..tested.sizes.pairs {
+        let piece = Piece {
+            triplet: t,
+            b1: k / bands2,
+            b2: k % bands2,
+        };
+        fill_piece(areas, weights, flags, &counted, &corners, piece);
     }
 }
 
@@ -61,11 +44,18 @@ pub fn fill_tested(weights: &mut [f64], flags: &mut [i8], tested: &TestedStudy)
     requires { are_lengths tested.now.sizes (length weights.old) (length flags.old) ≡ true }
     ensures { ComputesAll (study_of tested.now.study) weights flags }
 {
-    let tp = tested.sizes.tp;
     let steps = tested.study.relative_grid_address;
-    let second = triplet_corners::kernel::second_steps(tp, steps);
+    let second = triplet_corners::kernel::second_steps(tested.sizes.tp, tested.steps());
+    let mut areas = WorkAreas::new();
     for t in 0..tested.sizes.triplets {
-        fill_triplet(weights, flags, tested, &second[..steps.len()], t);
+        fill_triplet(
+            &mut areas,
+            weights,
+            flags,
+            tested,
+            &second[..steps.len()],
+            t,
+        );
     }
 }
 

@@ -2,3 +2,4 @@
 pub mod LayoutLaws
 pub mod WeightLaws
 pub mod AreaLaws
+pub mod CornersLaws

@@ -1,5 +1,5 @@
 -- A piece that is written is one that is computed; computed pieces join. Assumes nothing.
-use mathlib.Core.Path.{◌≡◌, refl, sym, ap, ◌∙◌}
+use mathlib.Core.Path.{◌≡◌, sym, ap, ◌∙◌}
 use mathlib.Core.Bool.{Bool, true, false, cond}
 use mathlib.Core.List.{List}
 use Prim.Native.Nat.{ℕ, ◌+◌, ◌*◌, ◌/◌, ◌%◌, ◌<◌}
@@ -13,17 +13,10 @@ use Rattle.list_laws.proofs.ProductLaws.{digit_lt}
 use Rattle.triplet_outputs.specs.declared.Outputs.{Outputs}
 use Rattle.triplet_study.specs.declared.Sizes.{Sizes}
 use Rattle.triplet_study.specs.Study.{Study, bands1_in, bands2_in, sizes_by, sizes_of}
+use Rattle.triplet_study.proofs.StudyLaws.{bands1-of, bands2-of}
 use Rattle.triplet_piece.specs.Layout.{point_at, piece_at, cell_of, channel_of, weight_by, flag_by, piece_weights, piece_flags, AreWritten}
 use Rattle.triplet_piece.specs.Weights.{outputs_of, outputs_at_cell, weight_at, flag_at, computed_weights, computed_flags, AreComputed}
 use Rattle.triplet_piece.proofs.LayoutLaws.{piece-cell, point-cell, piece_is, cell-lt, patched-length, patched-none, patched-alike, patched_same, patched-join, weights-same, flags-same}
-
-bands1-are : (s : Study) → (sizes_of s).bands1 ≡ bands1_in s
-unfolding sizes_by
-bands1-are s = refl
-
-bands2-are : (s : Study) → (sizes_of s).bands2 ≡ bands2_in s
-unfolding sizes_by
-bands2-are s = refl
 
 -- the outputs at a cell of a piece
 cell-outputs : (s : Study) (t b1 b2 j : ℕ) → b1 < bands1_in s → b2 < bands2_in s → piece_at (sizes_of s).points (sizes_of s).pairs j ≡ t * (sizes_of s).pairs + (b1 * bands2_in s + b2)
@@ -119,9 +112,9 @@ pub written-computed : (s : Study) {z : Sizes} → z ≡ sizes_of s → (t b1 b2
     → b1 < z.bands1 → b2 < z.bands2 → q ≡ t * z.pairs + (b1 * z.bands2 + b2)
     → {w : List Float} {f : List ℤ} {w' : List Float} {f' : List ℤ} → AreWritten z q o w f w' f' → AreComputed s (λ n. eqb n q) w f w' f'
 written-computed s {z} c t b1 b2 {q} {o} h h1 h2 e {w} {f} a =
-    let g1 : b1 < bands1_in s = rw (c, bands1-are s) at h1 in
-    let g2 : b2 < bands2_in s = rw (c, bands2-are s) at h2 in
-    let g : q ≡ t * (sizes_of s).pairs + (b1 * bands2_in s + b2) = rw (c, bands2-are s) at e in
+    let g1 : b1 < bands1_in s = rw (c, bands1-of s) at h1 in
+    let g2 : b2 < bands2_in s = rw (c, bands2-of s) at h2 in
+    let g : q ≡ t * (sizes_of s).pairs + (b1 * bands2_in s + b2) = rw (c, bands2-of s) at e in
     record {
       weights-are = a.weights-are ∙ weights-same z q o (outputs_of s t b1 b2) h w ∙ ap (λ (y : Sizes). piece_weights y q (outputs_of s t b1 b2) w) c ∙ piece-weights s t b1 b2 q g1 g2 g w;
       flags-are = a.flags-are ∙ flags-same z q o (outputs_of s t b1 b2) h f ∙ ap (λ (y : Sizes). piece_flags y q (outputs_of s t b1 b2) f) c ∙ piece-flags s t b1 b2 q g1 g2 g f;

@@ -1,9 +1,8 @@
 -- Where weights and flags lie. A cell is a place of the flags: triplet, point, b1, b2; a weight's place is a channel and a cell.
 -- A piece is a triplet, b1 and b2; its number is the place of its mark.
-use Rattle.std.specs.Prelude.{Bool, cond, ◌≡◌, List, ℕ, ◌+◌, ◌*◌, ◌/◌, ◌%◌, ◌<◌, eqb, Float, ℤ, length}
+use Rattle.std.specs.Prelude.{Bool, cond, ◌≡◌, List, ℕ, ◌+◌, ◌*◌, ◌/◌, ◌%◌, eqb, Float, ℤ}
 use Rattle.list_laws.specs.Patch.{patch}
 use Rattle.triplet_outputs.specs.declared.Outputs.{Outputs}
-use Rattle.triplet_values.specs.Values.{area_at}
 use Rattle.triplet_study.specs.declared.Sizes.{Sizes}
 use Rattle.ask.specs.Lent.{LentMut}
 
@@ -62,14 +61,3 @@ pub record AreWritten (z : Sizes) (q : ℕ) (o : ℕ → Outputs) (weights : Lis
 -- a call writes piece q
 abbrev pub WritesPiece : Sizes → ℕ → (ℕ → Outputs) → LentMut Float → LentMut ℤ → Type 0
 WritesPiece z q o weights flags = AreWritten z q o weights.entry.now flags.entry.now weights.exit.now flags.exit.now
-
--- so many work areas of one size
-pub record AreSized {A : Type 0} (count size : ℕ) (areas : List (List A)) : Type 0 where
-  pub counted : length areas ≡ count
-  pub sized : (i : ℕ) → i < count → length (area_at areas i) ≡ size
-
--- the sizes of the work areas that a piece is lent
-pub record Areas (frequencies channels : List (List Float)) (places : List (List ℕ)) : Type 0 where
-  pub frequencies-sized : AreSized 2 384 frequencies
-  pub channels-sized : AreSized 3 384 channels
-  pub places-sized : AreSized 3 96 places

@@ -4,8 +4,8 @@ use Rattle.std.specs.Float.{nan}
 use Rattle.std.specs.Int.Signed.{mag}
 use Rattle.list_laws.specs.Lists.{at}
 use Rattle.triplet_outputs.specs.declared.Outputs.{Outputs}
-use Rattle.triplet_values.specs.declared.ValueBox.{ValueBox}
-use Rattle.triplet_values.specs.Values.{area_at, corner_frequencies, channel_values}
+use Rattle.triplet_values.specs.Values.{corner_frequencies, channel_values}
+use Rattle.triplet_channels.specs.declared.Channels.{Channels}
 use Rattle.triplet_channels.specs.Channels.{outputs_at}
 use Rattle.triplet_channels.specs.Ordered.{outputs_ordered}
 use Rattle.triplet_study.specs.declared.Sizes.{Sizes}
@@ -14,10 +14,9 @@ use Rattle.ask.specs.Lent.{LentMut}
 use Rattle.triplet_corners.specs.Corners.{second_steps, corner_numbers}
 use Rattle.triplet_piece.specs.Layout.{triplet_at, point_at, pair_at, channel_of, patch_pieces}
 
--- the outputs at point x, of channels in order, the places of their first values and their boxes
-abbrev pub outputs_of_sorted : Sizes → List Float → List (List Float) → List (List ℕ) → ValueBox → ValueBox → ValueBox → ℕ → Outputs
-outputs_of_sorted z points channels places x0 x1 x2 x =
-    outputs_ordered z.tp (get_or points x nan) (area_at channels 0) (area_at places 0) (area_at channels 1) (area_at places 1) (area_at channels 2) (area_at places 2) z.rows x0 x1 x2
+-- the outputs at point x, of channels in order
+abbrev pub outputs_of_sorted : Sizes → List Float → Channels → ℕ → Outputs
+outputs_of_sorted z points channels x = outputs_ordered z.tp (get_or points x nan) channels z.rows
 
 -- the outputs of bands b1, b2 at point x, of a triplet with these corner numbers of its second and third point
 unfoldable pub outputs_of_corners : Sizes → List Float → List ℕ → List ℕ → List Float → ℕ → List Float → ℕ → ℕ → Outputs

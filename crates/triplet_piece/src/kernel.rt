@@ -1,13 +1,40 @@
 // For the crates above, on a tested study.
-ghost use Rattle.std.specs.Prelude.{◌≡◌, ◌+◌, ◌*◌, ◌<◌, ◌≤◌, length};
-ghost use Rattle.triplet_values.specs.Values.{area_at, Held};
+ghost use Rattle.std.specs.Prelude.{◌≡◌, ◌+◌, ◌*◌, ◌<◌, length};
+ghost use Rattle.triplet_study.specs.Lent.{study_of};
+ghost use Rattle.triplet_corners.specs.Corners.{second_steps};
 ghost use Rattle.triplet_study.specs.Tested.{Counted, Fitting};
-ghost use Rattle.triplet_piece.specs.Layout.{channel_of, cell_weights, WritesPiece, Areas};
-ghost use Rattle.triplet_piece.specs.Weights.{outputs_of_sorted, outputs_of_corners};
+ghost use Rattle.triplet_piece.specs.Layout.{channel_of, cell_weights, WritesPiece};
+ghost use Rattle.triplet_piece.specs.Weights.{outputs_of_sorted};
+ghost use Rattle.triplet_piece.specs.Pieces.{AreCornersOf, IsPiece, IsHeld, number_of, outputs_of_piece};
 
+use crate::{Corners, Piece, WorkAreas};
+use question_grids::Triples;
+use tetrahedron_sort::Rows;
+use triplet_channels::Channels;
+use triplet_channels::kernel::{further_rows, prepare_channel};
 use triplet_outputs::Outputs;
-use triplet_study::Sizes;
-use triplet_values::ValueBox;
+use triplet_study::{CountedStudy, TestedSteps, TestedStudy};
+use triplet_values::kernel::fill_frequencies;
+use triplet_values::{Band, Combination};
+
+// The corners of triplet `t`, looked up; `second` is the second copy of the steps.
+pub fn corners_of(tested: &TestedStudy, second: &[i64], t: usize) -> Corners
+    requires copied { second.now ≡ second_steps tested.now.sizes.tp tested.now.study.relative_grid_address.now }
+    requires t_in_bounds { t < tested.now.sizes.triplets }
+    ensures { AreCornersOf (study_of tested.now.study) t result }
+{
+    let triplets = tested.study.triplets;
+    let g1 = numbers::kernel::magnitude_at(triplets, 3 * t + 1);
+    let g2 = numbers::kernel::magnitude_at(triplets, 3 * t + 2);
+    let grid = tested.grid();
+    let copy = TestedSteps {
+        triples: Triples { numbers: second },
+    };
+    Corners {
+        first: triplet_corners::kernel::corner_numbers(grid, tested.steps(), g1),
+        second: triplet_corners::kernel::corner_numbers(grid, copy, g2),
+    }
+}
 
 // The weight of an output channel.
 fn channel_of(o: Outputs, c: usize) -> f64
@@ -32,124 +59,90 @@ fn put_weights(weights: &mut [f64], cells: usize, channels: usize, cell: usize, 
     }
 }
 
-// The outputs of the band pair `pair` of a triplet at every point, of channels in order with their boxes.
+// The outputs of the band pair `pair` of triplet `t` at every point, of channels that are ready.
 fn fill_points(
     weights: &mut [f64],
     flags: &mut [i8],
-    z: Sizes,
-    points: &[f64],
+    study: &CountedStudy,
     t: usize,
     pair: usize,
-    channels: &[[f64; 384]; 3],
-    places: &[[usize; 96]; 3],
-    x0: ValueBox,
-    x1: ValueBox,
-    x2: ValueBox,
+    channels: &Channels,
 )
-    requires { Counted z × (Fitting z (length points.now) (length weights.old) (length flags.old) × ((t < z.triplets) × (pair < z.pairs))) }
-    ensures { WritesPiece z (t * z.pairs + pair)
-        (outputs_of_sorted z points.now channels.now places.now x0 x1 x2)
+    requires fits { Fitting study.now.sizes (length study.now.frequency_points.now) (length weights.old) (length flags.old) }
+    requires on_study { (t < study.now.sizes.triplets) × (pair < study.now.sizes.pairs) }
+    ensures { WritesPiece study.now.sizes (t * study.now.sizes.pairs + pair)
+        (outputs_of_sorted study.now.sizes study.now.frequency_points.now channels.now)
         weights flags }
 {
-    let tp = z.tp;
-    let rows = z.rows;
-    let n = z.points;
-    let pairs = z.pairs;
-    for x in 0..n {
-        let cell = (t * n + x) * pairs + pair;
-        let o = triplet_channels::kernel::outputs_at(
-            tp,
-            points[x],
-            &channels[0],
-            &places[0],
-            &channels[1],
-            &places[1],
-            &channels[2],
-            &places[2],
-            rows,
-            x0,
-            x1,
-            x2,
-        );
+    let z = study.sizes;
+    let points = study.frequency_points;
+    let rows = Rows { count: z.rows };
+    for x in 0..z.points {
+        let cell = (t * z.points + x) * z.pairs + pair;
+        let o = triplet_channels::kernel::outputs_at(z.tp, points[x], channels, rows);
         put_weights(weights, z.cells, z.channels, cell, o);
         let flag = o.flag;
         flags[cell] = flag;
     }
 }
 
-// Writes the piece of triplet `t` and bands `b1`, `b2`: its weights in every channel and its flag, at every point.
-// The numbers are the corners of the triplet's second and third point; the work areas are lent. Corner values and boxes are
-// made once, and the rows of each channel are put in order once; type 4 makes the first channel alone.
-pub fn fill_piece(
-    frequencies: &mut [[f64; 384]; 2],
-    channels: &mut [[f64; 384]; 3],
-    places: &mut [[usize; 96]; 3],
-    weights: &mut [f64],
-    flags: &mut [i8],
-    z: Sizes,
-    numbers: &[[usize; 384]; 2],
-    frequencies1: &[f64],
-    frequencies2: &[f64],
-    points: &[f64],
-    t: usize,
-    b1: usize,
-    b2: usize,
-)
-    requires counted { Counted z × (Fitting z (length points.now) (length weights.old) (length flags.old) × ((t < z.triplets) × ((b1 < z.bands1) × (b2 < z.bands2)))) }
-    requires held { Held (area_at numbers.now 0) (z.rows * 4) (length frequencies1.now) z.bands1 b1 × Held (area_at numbers.now 1) (z.rows * 4) (length frequencies2.now) z.bands2 b2 }
-    requires areas { Areas frequencies.old channels.old places.old }
-    ensures areas_2 { Areas frequencies.new channels.new places.new }
-    ensures writes_piece { WritesPiece z (t * z.pairs + (b1 * z.bands2 + b2))
-        (outputs_of_corners z points.now (area_at numbers.now 0) (area_at numbers.now 1) frequencies1.now b1 frequencies2.now b2)
-        weights flags }
+// The frequencies of the piece's bands at the corners, and its channels made ready: each row is put in order once, and type 4
+// makes the first channel alone.
+fn prepare(areas: &mut WorkAreas, study: &CountedStudy, corners: &Corners, piece: Piece)
+    requires held { IsHeld study.now.sizes study.now.frequencies1.now study.now.frequencies2.now corners.now piece }
+    ensures { (x : _) → outputs_of_sorted study.now.sizes study.now.frequency_points.now areas.new.channels x ≡ outputs_of_piece study.now.sizes study.now.frequencies1.now study.now.frequencies2.now study.now.frequency_points.now corners.now piece x }
 {
-    let tp = z.tp;
-    let rows = z.rows;
-    let n = rows * 4;
-    let bands1 = z.bands1;
-    let bands2 = z.bands2;
-    let pair = b1 * bands2 + b2;
-    let further = triplet_channels::kernel::further_rows(tp, rows);
-    triplet_values::kernel::fill_frequencies(
-        &mut frequencies[0],
-        tp,
-        &numbers[0],
-        n,
-        frequencies1,
-        bands1,
-        b1,
-    );
-    triplet_values::kernel::fill_frequencies(
-        &mut frequencies[1],
-        tp,
-        &numbers[1],
-        n,
-        frequencies2,
-        bands2,
-        b2,
-    );
-    let x0 = triplet_channels::kernel::prepare_channel(
-        &mut channels[0],
-        &mut places[0],
-        0,
-        frequencies,
+    let tp = study.sizes.tp;
+    let rows = Rows {
+        count: study.sizes.rows,
+    };
+    let band1 = Band {
+        frequencies: study.frequencies1,
+        bands: study.sizes.bands1,
+        band: piece.b1,
+    };
+    let band2 = Band {
+        frequencies: study.frequencies2,
+        bands: study.sizes.bands2,
+        band: piece.b2,
+    };
+    fill_frequencies(&mut areas.frequencies1, tp, &corners.first, rows, band1);
+    fill_frequencies(&mut areas.frequencies2, tp, &corners.second, rows, band2);
+    let f1 = &areas.frequencies1;
+    let f2 = &areas.frequencies2;
+    let further = further_rows(tp, rows);
+    prepare_channel(
+        &mut areas.channels.first,
+        Combination::SecondLessFirst,
+        f1,
+        f2,
         rows,
     );
-    let x1 = triplet_channels::kernel::prepare_channel(
-        &mut channels[1],
-        &mut places[1],
-        1,
-        frequencies,
+    prepare_channel(
+        &mut areas.channels.second,
+        Combination::FirstLessSecond,
+        f1,
+        f2,
         further,
     );
-    let x2 = triplet_channels::kernel::prepare_channel(
-        &mut channels[2],
-        &mut places[2],
-        2,
-        frequencies,
-        further,
-    );
-    fill_points(
-        weights, flags, z, points, t, pair, channels, places, x0, x1, x2,
-    );
+    prepare_channel(&mut areas.channels.third, Combination::Sum, f1, f2, further);
+}
+
+// Writes a piece: its weights in every channel and its flag, at every point. Its corners and the work areas are lent.
+pub fn fill_piece(
+    areas: &mut WorkAreas,
+    weights: &mut [f64],
+    flags: &mut [i8],
+    study: &CountedStudy,
+    corners: &Corners,
+    piece: Piece,
+)
+    requires fits { Fitting study.now.sizes (length study.now.frequency_points.now) (length weights.old) (length flags.old) }
+    requires on_study { IsPiece study.now.sizes piece }
+    requires held { IsHeld study.now.sizes study.now.frequencies1.now study.now.frequencies2.now corners.now piece }
+    ensures { WritesPiece study.now.sizes (number_of study.now.sizes piece) (outputs_of_piece study.now.sizes study.now.frequencies1.now study.now.frequencies2.now study.now.frequency_points.now corners.now piece) weights flags }
+{
+    prepare(areas, study, corners, piece);
+    let pair = piece.b1 * study.sizes.bands2 + piece.b2;
+    fill_points(weights, flags, study, piece.triplet, pair, &areas.channels);
 }

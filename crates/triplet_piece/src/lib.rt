@@ -2,4 +2,61 @@
 
 #![tactic(auto)]
 
+ghost use Rattle.triplet_piece.specs.Zeros.{AreZeros};
+
+use triplet_channels::{Channel, Channels};
+use triplet_values::ValueBox;
+
 pub mod kernel;
+
+// A piece of a tested study: a triplet and a band of each list of frequencies.
+#[derive(Clone, Copy)]
+pub struct Piece {
+    pub triplet: usize,
+    pub b1: usize,
+    pub b2: usize,
+}
+
+// The corners of a triplet: of its second point by the neighbour table, of its third by the second copy of the table.
+#[derive(Clone, Copy)]
+pub struct Corners {
+    pub first: [usize; 384],
+    pub second: [usize; 384],
+}
+
+// What pieces are worked out in: the frequencies of both bands at the corners, and the three channels.
+#[derive(Clone, Copy)]
+pub struct WorkAreas {
+    pub frequencies1: [f64; 384],
+    pub frequencies2: [f64; 384],
+    pub channels: Channels,
+}
+
+impl WorkAreas {
+    // Areas of zeros.
+    pub fn new() -> WorkAreas
+        ensures { AreZeros result }
+    {
+        let zeros = [0.0; 384];
+        let places = [0usize; 96];
+        let bounds = ValueBox {
+            fmin: 0.0,
+            fmax: 0.0,
+        };
+        let channel = Channel {
+            values: zeros,
+            places,
+            bounds,
+        };
+        let channels = Channels {
+            first: channel,
+            second: channel,
+            third: channel,
+        };
+        WorkAreas {
+            frequencies1: zeros,
+            frequencies2: zeros,
+            channels,
+        }
+    }
+}

@@ -1,5 +1,5 @@
 -- What the questions tell of a study, of its counts and of the lent lists. Assumes nothing.
-use mathlib.Core.Path.{◌≡◌, refl, sym, ap, ◌∙◌, subst⁻¹}
+use mathlib.Core.Path.{◌≡◌, refl, sym, ◌∙◌}
 use mathlib.Core.Bool.{true, false, ◌&&◌}
 use mathlib.Core.List.{List, ◌++◌}
 use Prim.Native.Nat.{ℕ, ◌*◌, ◌%◌, ◌≤◌}
@@ -18,16 +18,15 @@ use Rattle.question_values.specs.Counts.{are_counts, is_product}
 use Rattle.question_values.specs.Frequencies.{are_frequencies, are_points}
 use Rattle.question_values.specs.Rows.{has_rows}
 use Rattle.question_grids.specs.Grids.{are_triples, triples_in, grid_questions}
-use Rattle.question_grids.specs.Tables.{is_table}
+use Rattle.question_grids.specs.Tables.{is_table, rows_in}
 use Rattle.question_grids.specs.Steps.{are_grid_points}
 use Rattle.question_grids.proofs.StepLaws.{grid-points-at, product-yes}
 use Rattle.question_values.proofs.RowsLaws.{table-rows}
 use Rattle.question_values.proofs.CountLaws.{bands1-low, bands1-high, bands2-low, bands2-high, points-low, points-high, many-high}
 use Rattle.bzgrid_lookup.proofs.CallLaws.{sound-grid}
 use Rattle.triplet_types.proofs.TypeLaws.{channel-count-le}
-use Rattle.triplet_study.specs.declared.Shape.{Shape}
 use Rattle.triplet_study.specs.declared.Sizes.{Sizes}
-use Rattle.triplet_study.specs.Study.{Study, study, tp_in, bands1_in, bands2_in, triplet_count, sizes_by, sizes_of}
+use Rattle.triplet_study.specs.Study.{Study, tp_in, grid_in, bands1_in, bands2_in, triplet_count, sizes_by, sizes_of}
 use Rattle.triplet_study.specs.Questions.{triplets_in, are_triplets, hold_frequencies, are_study_frequencies, table_questions, value_questions, study_questions, are_lengths}
 use Rattle.triplet_study.specs.Tested.{Tested, Counted, Ready}
 
@@ -168,6 +167,32 @@ points-are : (s : Study) → length s.points ≡ (sizes_of s).points
 unfolding sizes_by
 points-are s = refl
 
+-- by the study's parts
+module _ (s : Study) where
+  pub tp-of : (sizes_of s).tp ≡ tp_in s
+  unfolding sizes_by
+  tp-of = refl
+
+  pub grid-of : (sizes_of s).grid ≡ grid_in s
+  unfolding sizes_by
+  grid-of = refl
+
+  pub rows_of : (sizes_of s).rows ≡ rows_in s.steps
+  unfolding sizes_by
+  rows_of = refl
+
+  pub bands1-of : (sizes_of s).bands1 ≡ bands1_in s
+  unfolding sizes_by
+  bands1-of = refl
+
+  pub bands2-of : (sizes_of s).bands2 ≡ bands2_in s
+  unfolding sizes_by
+  bands2-of = refl
+
+  pub triplets-of : (sizes_of s).triplets ≡ triplet_count s
+  unfolding sizes_by
+  triplets-of = refl
+
 pub ready : (s : Study) (z : Sizes) (w f : ℕ) → first_no (study_questions s) ≡ 0 → z ≡ sizes_of s → are_lengths z w f ≡ true → Ready s z w f
 ready s z w f e c y =
     let l : _ = lengths-say z w f y in
@@ -176,17 +201,3 @@ ready s z w f e c y =
 -- the counts of a study that is ready
 pub ready-counted : {s : Study} {z : Sizes} {w f : ℕ} → Ready s z w f → Counted z
 ready-counted r = rw r.counts (counted r.tested)
-
--- the counts keep the numbers as given
-pub study-shaped : (s : Study) (z : Sizes) → z ≡ sizes_of s
-    → study z.shape s.addresses s.gp-map s.steps s.frequencies1 s.frequencies2 s.points s.triplets ≡ s
-unfolding sizes_by
-study-shaped s z c =
-    ap (λ (h : Shape). study h s.addresses s.gp-map s.steps s.frequencies1 s.frequencies2 s.points s.triplets) (shape_is s z c)
-  where
-    shape_is : (s : Study) (z : Sizes) → z ≡ sizes_of s → z.shape ≡ s.shape
-    shape_is s z c = rw c
-
-pub ready-shaped : {s : Study} {z : Sizes} {w f : ℕ} → Ready s z w f
-    → Ready (study z.shape s.addresses s.gp-map s.steps s.frequencies1 s.frequencies2 s.points s.triplets) z w f
-ready-shaped {s} {z} {w} {f} r = subst⁻¹ (λ (y : Study). Ready y z w f) (study-shaped s z r.counts) r

@@ -7,6 +7,8 @@ use Rattle.ieee_laws.specs.Zeros.{zero_f}
 use Rattle.tetrahedron_fractions.specs.Binary64.{◌⊕◌, ◌⊖◌}
 use Rattle.triplet_types.specs.declared.TpType.{TpType}
 use Rattle.triplet_types.specs.declared.TpType.TheVariants.{Type2, Type3, Type4}
+use Rattle.triplet_values.specs.declared.Combination.{Combination}
+use Rattle.triplet_values.specs.declared.Combination.TheVariants.{SecondLessFirst, FirstLessSecond, Sum}
 use Rattle.triplet_values.specs.declared.ValueBox.{ValueBox}
 
 -- one of several work areas
@@ -37,6 +39,12 @@ unfoldable pub combined : ℕ → Float → Float → Float
 combined zero x y = neg x ⊕ y
 combined (suc zero) x y = x ⊖ y
 combined (suc (suc n)) x y = x ⊕ y
+
+-- the number of a channel, by what it makes of them
+abbrev pub number_of : Combination → ℕ
+number_of SecondLessFirst = 0
+number_of FirstLessSecond = 1
+number_of Sum = 2
 
 -- the values of a channel at the first n corners
 unfoldable pub channel_values : ℕ → List Float → List Float → ℕ → List Float

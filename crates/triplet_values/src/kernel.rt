@@ -1,11 +1,12 @@
 // Corner values of a band pair, in work areas of 384 floats, and their boxes.
 ghost use Rattle.std.specs.Prelude.{◌≡◌, ◌+◌, ◌*◌, ◌<◌, ◌≤◌, length};
-ghost use Rattle.triplet_values.specs.Values.{clamped, corner_frequency, corner_frequencies, combined, channel_values, Held, Begun, lesser, greater, box_of};
+ghost use Rattle.triplet_values.specs.Values.{clamped, corner_frequency, corner_frequencies, number_of, combined, channel_values, Held, Begun, lesser, greater, box_of};
 
-use crate::ValueBox;
+use crate::{Band, Combination, ValueBox};
+use tetrahedron_sort::Rows;
 use triplet_types::TpType;
 
-// A value below 0 replaced by 0. Here and below the comparison is written out: std's max and min may differ at a NaN and in a zero's sign.
+// A value below 0 replaced by 0. Not std's `max`: that gives 0 for a NaN, and may give either of two zeros.
 fn clamp(f: f64) -> f64
     ensures { result ≡ clamped f }
 {
@@ -23,68 +24,70 @@ fn corner_frequency(tp: TpType, f: f64) -> f64
     }
 }
 
-// The frequencies of one band at the first n corners of one point of a triplet, in front of a work area.
+// The frequencies of one band at the corners of one point of a triplet, in front of a work area.
 pub fn fill_frequencies(
     a: &mut [f64; 384],
     tp: TpType,
     numbers: &[usize; 384],
-    n: usize,
-    frequencies: &[f64],
-    bands: usize,
-    band: usize,
+    rows: Rows,
+    band: Band,
 )
-    requires { (n ≤ 384) × (Held numbers.now n (length frequencies.now) bands band × (length a.old ≡ 384)) }
-    ensures { Begun n a.new (corner_frequencies tp numbers.now n frequencies.now bands band) }
+    requires { Held numbers.now (rows.count * 4) (length band.frequencies.now) band.bands band.band }
+    ensures { Begun (rows.count * 4) a.new (corner_frequencies tp numbers.now (rows.count * 4) band.entry.frequencies.now band.entry.bands band.entry.band) }
 {
-    for i in 0..n {
-        let k = numbers[i] * bands + band;
-        a[i] = corner_frequency(tp, frequencies[k]);
+    for i in 0..rows.corners() {
+        let k = numbers[i] * band.bands + band.band;
+        a[i] = corner_frequency(tp, band.frequencies[k]);
     }
 }
 
 // The value of a channel at a corner.
-fn combine(channel: usize, f1: f64, f2: f64) -> f64
-    ensures { result ≡ combined channel f1 f2 }
+fn combine(channel: Combination, f1: f64, f2: f64) -> f64
+    ensures { result ≡ combined (number_of channel) f1 f2 }
 {
     match channel {
-        0 => -f1 + f2,
-        1 => f1 - f2,
-        _ => f1 + f2,
+        Combination::SecondLessFirst => -f1 + f2,
+        Combination::FirstLessSecond => f1 - f2,
+        Combination::Sum => f1 + f2,
     }
 }
 
-// The values of a channel at the first n corners, in front of a work area.
-pub fn fill_channel(a: &mut [f64; 384], channel: usize, f1: &[f64; 384], f2: &[f64; 384], n: usize)
-    requires { (n ≤ 384) × (length a.old ≡ 384) }
-    ensures { Begun n a.new (channel_values channel f1.now f2.now n) }
+// The values of a channel at the corners, in front of a work area.
+pub fn fill_channel(
+    a: &mut [f64; 384],
+    channel: Combination,
+    f1: &[f64; 384],
+    f2: &[f64; 384],
+    rows: Rows,
+)
+    ensures { Begun (rows.count * 4) a.new (channel_values (number_of channel) f1.now f2.now (rows.count * 4)) }
 {
-    for i in 0..n {
+    for i in 0..rows.corners() {
         a[i] = combine(channel, f1[i], f2[i]);
     }
 }
 
-// The lesser of two values.
+// The lesser of two values. Not std's `min`: that gives v where fmin is a NaN, and may give either of two zeros.
 fn lesser_of(fmin: f64, v: f64) -> f64
     ensures { result ≡ lesser fmin v }
 {
     if fmin > v { v } else { fmin }
 }
 
-// The greater of two values.
+// The greater of two values. Not std's `max`, as above.
 fn greater_of(fmax: f64, v: f64) -> f64
     ensures { result ≡ greater fmax v }
 {
     if fmax < v { v } else { fmax }
 }
 
-// The least and the greatest of the first n values.
-pub fn box_of(a: &[f64; 384], n: usize) -> ValueBox
-    requires { n ≤ 384 }
-    ensures { result ≡ box_of a.now n }
+// The least and the greatest of the values at the corners.
+pub fn box_of(a: &[f64; 384], rows: Rows) -> ValueBox
+    ensures { result ≡ box_of a.now (rows.count * 4) }
 {
     let mut fmin = a[0];
     let mut fmax = a[0];
-    for i in 0..n {
+    for i in 0..rows.corners() {
         fmin = lesser_of(fmin, a[i]);
         fmax = greater_of(fmax, a[i]);
     }

@@ -10,3 +10,22 @@ pub struct ValueBox {
     pub fmin: f64,
     pub fmax: f64,
 }
+
+// What a channel makes of two frequencies f1 and f2.
+#[derive(Clone, Copy)]
+pub enum Combination {
+    // -f1+f2
+    SecondLessFirst,
+    // f1-f2
+    FirstLessSecond,
+    // f1+f2
+    Sum,
+}
+
+// One band of a list of frequencies, which lie by grid point and band.
+#[derive(Clone, Copy)]
+pub struct Band<'a> {
+    pub frequencies: &'a [f64],
+    pub bands: usize,
+    pub band: usize,
+}

@@ -9,8 +9,9 @@
 
 use anyhow::Result;
 use averaging::{Averaging, average_weights_over_degenerate_sets};
-use replay_compare::kernel::same_reals;
-use replay_input::reader::{Field, Reader, next_block};
+use replay_compare::kernel::agree;
+use replay_input::reader::{Field, Reader};
+use replay_report::blocks::{Replay, replay_blocks};
 use replay_report::cases::{Cases, Judged, stored};
 use replay_study::owned::next_list;
 use std::alloc::{AllocError, Global};
@@ -111,34 +112,30 @@ fn average_case(reader: &mut Reader<'_>, alloc: Global) -> Result<Judged, AllocE
     let weights_after = after(&weights, refusal, alloc)?;
     let flags_after = flags_of(&after(&flags, refusal, alloc)?, alloc)?;
     let agrees = answer.map_err(|why| why.number()) == stored(refusal, ())
-        && same_reals(&iw, &weights_after)
+        && agree(&iw, &weights_after)
         && iw_zero == flags_after;
     Ok(Judged { refusal, agrees })
 }
 
-// Counts the cases of one block.
-fn replay(rt: &HostRuntime, text: &[u8], cases: &mut Cases) -> Result<()> {
-    let mut reader = Reader::new(text);
-    // a record has a byte at least
-    for _ in text {
-        if reader.is_at_end() {
-            break;
-        }
-        let judged = average_case(&mut reader, rt.alloc())?;
-        cases.add(rt, judged)?;
+// Averages; no record is kept for those after it.
+#[derive(Debug, Default, Drop)]
+struct Averages;
+
+impl Replay for Averages {
+    type Counts = Cases;
+
+    fn next_record(
+        &mut self,
+        rt: &impl Print,
+        alloc: Global,
+        reader: &mut Reader<'_>,
+        cases: &mut Cases,
+    ) -> Result<()> {
+        cases.add(rt, average_case(reader, alloc)?)?;
+        Ok(())
     }
-    Ok(())
 }
 
 fn main(rt: HostRuntime) -> Result<()> {
-    let mut cases = Cases::new("averages", "averages");
-    let mut text = io::large_buffer();
-    for _ in 0..1000 {
-        let Some(block) = next_block(&mut text) else {
-            break;
-        };
-        replay(&rt, block, &mut cases)?;
-    }
-    println!(rt; "{cases}")?;
-    Ok(())
+    replay_blocks::<Averages>(&rt, rt.alloc(), Cases::new("averages", "averages"))
 }

@@ -14,12 +14,14 @@
 use anyhow::{Context, Result};
 use ask::Refusal;
 use ask::kernel::status_of;
-use question_grids::Grid;
 use replay_input::kernel::stamps::stamp;
-use replay_input::reader::{Reader, next_block};
-use replay_report::cases::{Cases, Judged, UnknownRecord, after_call, print_all, stored};
+use replay_input::reader::Reader;
+use replay_report::blocks::{Replay, replay_blocks};
+use replay_report::cases::{Cases, Judged, after_call, stored};
+use replay_report::kinds::record_of;
 use replay_study::owned::{OwnGrid, next_grid, next_list};
 use std::alloc::{AllocError, Global};
+use std::fmt;
 
 #[derive(Clone, Copy, Debug, PartialEq, Eq)]
 enum Record {
@@ -30,35 +32,37 @@ enum Record {
     RepeatedPoint,
 }
 
-impl TryFrom<u64> for Record {
-    type Error = UnknownRecord;
+const RECORDS: [(u64, Record); 5] = [
+    (1, Record::Index),
+    (2, Record::Grid),
+    (3, Record::OnePoint),
+    (4, Record::ManyPoints),
+    (5, Record::RepeatedPoint),
+];
 
-    fn try_from(kind: u64) -> Result<Self, UnknownRecord> {
-        match kind {
-            1 => Ok(Record::Index),
-            2 => Ok(Record::Grid),
-            3 => Ok(Record::OnePoint),
-            4 => Ok(Record::ManyPoints),
-            5 => Ok(Record::RepeatedPoint),
-            _ => Err(UnknownRecord(kind)),
+// What is counted: the grid index, the neighbours of one point, and those of many.
+#[derive(Clone, Copy, Debug)]
+struct Counts {
+    index: Cases,
+    one: Cases,
+    many: Cases,
+}
+
+impl Counts {
+    fn new() -> Counts {
+        Counts {
+            index: Cases::new("index", "grid index"),
+            one: Cases::new("one", "neighbours of one point"),
+            many: Cases::new("many", "neighbours of many points"),
         }
     }
 }
 
-// What is counted.
-#[derive(Clone, Copy, Debug, PartialEq, Eq)]
-enum Kind {
-    Index,
-    One,
-    Many,
-}
-
-fn no_cases() -> [Cases; 3] {
-    [
-        Cases::new("index", "grid index"),
-        Cases::new("one", "neighbours of one point"),
-        Cases::new("many", "neighbours of many points"),
-    ]
+impl fmt::Display for Counts {
+    fn fmt<W: fmt::Write>(&self, f: &mut fmt::Formatter<W>) -> fmt::Result {
+        let Counts { index, one, many } = self;
+        write!(f, "{index}\n{one}\n{many}")
+    }
 }
 
 fn index_case(reader: &mut Reader<'_>) -> Judged {
@@ -70,17 +74,6 @@ fn index_case(reader: &mut Reader<'_>) -> Judged {
     Judged {
         refusal,
         agrees: answer.map_err(Refusal::number) == stored(refusal, index),
-    }
-}
-
-// The grid as a call takes it.
-fn lent(grid: &OwnGrid) -> Grid<'_> {
-    let d_diag = grid.d_diag;
-    Grid {
-        bz_grid_type: grid.bz_grid_type,
-        d_diag,
-        addresses: &grid.addresses,
-        gp_map: &grid.gp_map,
     }
 }
 
@@ -102,95 +95,105 @@ fn one_case(reader: &mut Reader<'_>, alloc: Global, grid: &OwnGrid) -> Result<Ju
         out.as_mut_slice(),
         point,
         &steps,
-        lent(grid),
+        grid.lent(),
     );
     let agrees = status_of(answer) == refusal
         && out.as_slice() == after_call(refusal, &numbers, &before);
     Ok(Judged { refusal, agrees })
 }
 
-// The neighbours of many points, in a buffer of a length, held to the stored numbers.
-fn many_judged(
-    alloc: Global,
-    grid: &OwnGrid,
-    refusal: u64,
-    points: &[i64],
-    steps: &[i64],
+// What a call on many points lends beside its grid, and what is stored of its answer.
+#[derive(Debug, Drop)]
+struct ManyPoints {
+    points: Vec<i64>,
+    steps: Vec<i64>,
     length: usize,
-    numbers: &[i64],
-) -> Result<Judged, AllocError> {
-    let mut out = stamped(alloc, length)?;
+    stored: Result<Vec<i64>, u64>,
+}
+
+// The neighbours of many points, in a buffer of the length, held to the stored numbers.
+fn many_case(many: &ManyPoints, alloc: Global, grid: &OwnGrid) -> Result<Judged, AllocError> {
+    let mut out = stamped(alloc, many.length)?;
     let before = out.clone()?;
     let answer = bzgrid::neighboring_grid_points_many(
         out.as_mut_slice(),
-        points,
-        steps,
-        lent(grid),
+        &many.points,
+        &many.steps,
+        grid.lent(),
     );
-    let agrees = status_of(answer) == refusal
-        && out.as_slice() == after_call(refusal, numbers, &before);
+    // a refused call leaves the buffer
+    let (refusal, numbers) = match &many.stored {
+        Ok(numbers) => (0, numbers.as_slice()),
+        Err(refusal) => (*refusal, before.as_slice()),
+    };
+    let agrees = status_of(answer) == refusal && out.as_slice() == numbers;
     Ok(Judged { refusal, agrees })
 }
 
-fn many_case(reader: &mut Reader<'_>, alloc: Global, grid: &OwnGrid) -> Result<Judged, AllocError> {
+fn next_many(reader: &mut Reader<'_>, alloc: Global) -> Result<ManyPoints, AllocError> {
     let refusal = reader.next_count();
-    let points: Vec<i64> = next_list(reader, alloc)?;
-    let steps: Vec<i64> = next_list(reader, alloc)?;
+    let points = next_list(reader, alloc)?;
+    let steps = next_list(reader, alloc)?;
     let length = reader.next_count() as usize;
-    let numbers: Vec<i64> = next_list(reader, alloc)?;
-    many_judged(alloc, grid, refusal, &points, &steps, length, &numbers)
+    let numbers = next_list(reader, alloc)?;
+    Ok(ManyPoints {
+        points,
+        steps,
+        length,
+        stored: stored(refusal, numbers),
+    })
 }
 
-fn repeated_case(
-    reader: &mut Reader<'_>,
-    alloc: Global,
-    grid: &OwnGrid,
-) -> Result<Judged, AllocError> {
+fn next_repeated(reader: &mut Reader<'_>, alloc: Global) -> Result<ManyPoints, AllocError> {
     let refusal = reader.next_count();
     let times = reader.next_count() as usize;
     let points = vec![in alloc; reader.next_whole(); times]?;
-    let steps: Vec<i64> = next_list(reader, alloc)?;
+    let steps = next_list(reader, alloc)?;
     let length = reader.next_count() as usize;
     let numbers = vec![in alloc; reader.next_whole(); length]?;
-    many_judged(alloc, grid, refusal, &points, &steps, length, &numbers)
+    Ok(ManyPoints {
+        points,
+        steps,
+        length,
+        stored: stored(refusal, numbers),
+    })
 }
 
-// Counts the cases of one block.
-fn replay(rt: &HostRuntime, text: &[u8], cases: &mut [Cases; 3]) -> Result<()> {
-    let alloc = rt.alloc();
-    let mut reader = Reader::new(text);
-    let mut lent: Option<OwnGrid> = None;
-    // a record has a byte at least
-    for _ in text {
-        if reader.is_at_end() {
-            break;
-        }
-        let record = Record::try_from(reader.next_count())?;
-        let grid = lent.as_ref().context("a call before any grid");
-        let (kind, judged) = match record {
-            Record::Grid => {
-                lent = Some(next_grid(&mut reader, alloc)?);
-                continue;
+// The grid of the calls after it.
+#[derive(Debug, Default, Drop)]
+struct Kept {
+    grid: Option<OwnGrid>,
+}
+
+impl Replay for Kept {
+    type Counts = Counts;
+
+    fn next_record(
+        &mut self,
+        rt: &impl Print,
+        alloc: Global,
+        reader: &mut Reader<'_>,
+        counts: &mut Counts,
+    ) -> Result<()> {
+        let record = record_of(&RECORDS, reader.next_count())?;
+        let grid = self.grid.as_ref().context("a call before any grid");
+        match record {
+            Record::Grid => self.grid = Some(next_grid(reader, alloc)?),
+            Record::Index => counts.index.add(rt, index_case(reader))?,
+            Record::OnePoint => counts.one.add(rt, one_case(reader, alloc, grid?)?)?,
+            Record::ManyPoints => {
+                let many = next_many(reader, alloc)?;
+                counts.many.add(rt, many_case(&many, alloc, grid?)?)?;
             }
-            Record::Index => (Kind::Index, index_case(&mut reader)),
-            Record::OnePoint => (Kind::One, one_case(&mut reader, alloc, grid?)?),
-            Record::ManyPoints => (Kind::Many, many_case(&mut reader, alloc, grid?)?),
-            Record::RepeatedPoint => (Kind::Many, repeated_case(&mut reader, alloc, grid?)?),
-        };
-        cases[kind as usize].add(rt, judged)?;
+            Record::RepeatedPoint => {
+                let many = next_repeated(reader, alloc)?;
+                counts.many.add(rt, many_case(&many, alloc, grid?)?)?;
+            }
+        }
+        Ok(())
     }
-    Ok(())
 }
 
 fn main(rt: HostRuntime) -> Result<()> {
-    let mut cases = no_cases();
-    let mut text = io::large_buffer();
-    for _ in 0..1000 {
-        let Some(block) = next_block(&mut text) else {
-            break;
-        };
-        replay(&rt, block, &mut cases)?;
-    }
-    print_all(&rt, &cases)?;
-    Ok(())
+    replay_blocks::<Kept>(&rt, rt.alloc(), Counts::new())
 }

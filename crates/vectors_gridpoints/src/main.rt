@@ -15,12 +15,15 @@
 use anyhow::{Context, Result};
 use ask::kernel::status_of;
 use grid_point_weights::GridPointStudy;
-use replay_compare::kernel::same_reals;
+use replay_compare::kernel::agree;
 use replay_input::kernel::stamps::{mark, stamp};
-use replay_input::reader::{Reader, next_block};
-use replay_report::cases::{Cases, Judged, UnknownRecord, after_call, print_all, stored};
+use replay_input::reader::Reader;
+use replay_report::blocks::{Replay, replay_blocks};
+use replay_report::cases::{Cases, Judged, after_call, stored};
+use replay_report::kinds::record_of;
 use replay_study::owned::{OwnGrid, next_grid, next_list};
 use std::alloc::{AllocError, Global};
+use std::fmt;
 use tetrahedron_method::WeightFunction;
 
 #[derive(Clone, Copy, Debug, PartialEq, Eq)]
@@ -33,36 +36,42 @@ enum Record {
     Copies,
 }
 
-impl TryFrom<u64> for Record {
-    type Error = UnknownRecord;
+const RECORDS: [(u64, Record); 6] = [
+    (1, Record::Grid),
+    (2, Record::Study),
+    (3, Record::Weights),
+    (4, Record::RepeatedPoint),
+    (5, Record::Normal),
+    (6, Record::Copies),
+];
 
-    fn try_from(kind: u64) -> Result<Self, UnknownRecord> {
-        match kind {
-            1 => Ok(Record::Grid),
-            2 => Ok(Record::Study),
-            3 => Ok(Record::Weights),
-            4 => Ok(Record::RepeatedPoint),
-            5 => Ok(Record::Normal),
-            6 => Ok(Record::Copies),
-            _ => Err(UnknownRecord(kind)),
+// What is counted.
+#[derive(Clone, Copy, Debug)]
+struct Counts {
+    weights: Cases,
+    normal: Cases,
+    copies: Cases,
+}
+
+impl Counts {
+    fn new() -> Counts {
+        Counts {
+            weights: Cases::new("weights", "weights at grid points"),
+            normal: Cases::new("normal", "normal triplets"),
+            copies: Cases::new("copies", "copies of a table"),
         }
     }
 }
 
-// What is counted.
-#[derive(Clone, Copy, Debug, PartialEq, Eq)]
-enum Kind {
-    Weights,
-    Normal,
-    Copies,
-}
-
-fn no_cases() -> [Cases; 3] {
-    [
-        Cases::new("weights", "weights at grid points"),
-        Cases::new("normal", "normal triplets"),
-        Cases::new("copies", "copies of a table"),
-    ]
+impl fmt::Display for Counts {
+    fn fmt<W: fmt::Write>(&self, f: &mut fmt::Formatter<W>) -> fmt::Result {
+        let Counts {
+            weights,
+            normal,
+            copies,
+        } = self;
+        write!(f, "{weights}\n{normal}\n{copies}")
+    }
 }
 
 // ---- weights at grid points
@@ -88,13 +97,15 @@ fn next_study(reader: &mut Reader<'_>, alloc: Global) -> Result<Study, AllocErro
     })
 }
 
-// What a call lends beside its grid and its study.
-#[derive(Clone, Copy)]
-struct Asked<'a> {
+// What a call lends beside its grid and its study, and what is stored of its answer.
+#[derive(Drop)]
+struct Asked {
     function: WeightFunction,
     num_band: i64,
     num_ir: i64,
-    grid_points: &'a [i64],
+    grid_points: Vec<i64>,
+    length: usize,
+    stored: Result<Vec<f64>, u64>,
 }
 
 fn function_of(number: u64) -> WeightFunction {
@@ -105,7 +116,7 @@ fn function_of(number: u64) -> WeightFunction {
 }
 
 // The number of the call's refusal, 0 where the weights are in the buffer.
-fn weights_called(iw: &mut [f64], grid: &OwnGrid, study: &Study, asked: Asked<'_>) -> u64 {
+fn weights_called(iw: &mut [f64], grid: &OwnGrid, study: &Study, asked: &Asked) -> u64 {
     let lent = GridPointStudy {
         grid: grid.lent(),
         relative_grid_address: &study.table,
@@ -116,58 +127,51 @@ fn weights_called(iw: &mut [f64], grid: &OwnGrid, study: &Study, asked: Asked<'_
         frequency_points: &study.points,
         function: asked.function,
     };
-    match grid_point_weights::integration_weights_at_grid_points(lent, asked.grid_points, iw) {
+    match grid_point_weights::integration_weights_at_grid_points(lent, &asked.grid_points, iw) {
         Ok(()) => 0,
         Err(why) => why.number(),
     }
 }
 
-// An accepted call is to fill a buffer of a length with the stored weights, a refused one to leave it.
+// An accepted call is to fill a buffer of the length with the stored weights, a refused one to leave it.
 fn weights_judged(
     alloc: Global,
     grid: &OwnGrid,
     study: &Study,
-    asked: Asked<'_>,
-    refusal: u64,
-    length: usize,
-    weights: &[f64],
+    asked: &Asked,
 ) -> Result<Judged, AllocError> {
-    let mut iw = vec![in alloc; 0.0; length]?;
+    let mut iw = vec![in alloc; 0.0; asked.length]?;
     mark(iw.as_mut_slice());
     let before = iw.clone()?;
     let number = weights_called(iw.as_mut_slice(), grid, study, asked);
-    let agrees = number == refusal && same_reals(&iw, after_call(refusal, weights, &before));
+    let (refusal, weights) = match &asked.stored {
+        Ok(weights) => (0, weights.as_slice()),
+        Err(refusal) => (*refusal, before.as_slice()),
+    };
+    let agrees = number == refusal && agree(&iw, weights);
     Ok(Judged { refusal, agrees })
 }
 
-fn weights_case(
-    reader: &mut Reader<'_>,
-    alloc: Global,
-    grid: &OwnGrid,
-    study: &Study,
-) -> Result<Judged, AllocError> {
+fn next_weights(reader: &mut Reader<'_>, alloc: Global) -> Result<Asked, AllocError> {
     let refusal = reader.next_count();
     let function = function_of(reader.next_count());
     let num_band = reader.next_whole();
     let num_ir = reader.next_whole();
-    let grid_points: Vec<i64> = next_list(reader, alloc)?;
+    let grid_points = next_list(reader, alloc)?;
     let length = reader.next_count() as usize;
-    let weights: Vec<f64> = next_list(reader, alloc)?;
-    let asked = Asked {
+    let weights = next_list(reader, alloc)?;
+    Ok(Asked {
         function,
         num_band,
         num_ir,
-        grid_points: &grid_points,
-    };
-    weights_judged(alloc, grid, study, asked, refusal, length, &weights)
+        grid_points,
+        length,
+        stored: stored(refusal, weights),
+    })
 }
 
-fn repeated_case(
-    reader: &mut Reader<'_>,
-    alloc: Global,
-    grid: &OwnGrid,
-    study: &Study,
-) -> Result<Judged, AllocError> {
+// A grid point repeated, and one band.
+fn next_repeated(reader: &mut Reader<'_>, alloc: Global) -> Result<Asked, AllocError> {
     let refusal = reader.next_count();
     let function = function_of(reader.next_count());
     let num_ir = reader.next_whole();
@@ -175,13 +179,14 @@ fn repeated_case(
     let grid_points = vec![in alloc; reader.next_whole(); times]?;
     let length = reader.next_count() as usize;
     let weights = vec![in alloc; reader.next_real(); length]?;
-    let asked = Asked {
+    Ok(Asked {
         function,
         num_band: 1,
         num_ir,
-        grid_points: &grid_points,
-    };
-    weights_judged(alloc, grid, study, asked, refusal, length, &weights)
+        grid_points,
+        length,
+        stored: stored(refusal, weights),
+    })
 }
 
 // ---- normal triplets and copies of a table
@@ -212,54 +217,50 @@ fn copies_case(reader: &mut Reader<'_>, alloc: Global) -> Result<Judged, AllocEr
     Ok(Judged { refusal, agrees })
 }
 
-// Counts the cases of one block.
-fn replay(rt: &HostRuntime, text: &[u8], cases: &mut [Cases; 3]) -> Result<()> {
-    let alloc = rt.alloc();
-    let mut reader = Reader::new(text);
-    let mut grids: Option<OwnGrid> = None;
-    let mut studies: Option<Study> = None;
-    // a record has a byte at least
-    for _ in text {
-        if reader.is_at_end() {
-            break;
-        }
-        let record = Record::try_from(reader.next_count())?;
-        let grid = grids.as_ref().context("a call before any grid");
-        let study = studies.as_ref().context("a call before any study");
-        let (kind, judged) = match record {
-            Record::Grid => {
-                grids = Some(next_grid(&mut reader, alloc)?);
-                continue;
-            }
-            Record::Study => {
-                studies = Some(next_study(&mut reader, alloc)?);
-                continue;
-            }
-            Record::Weights => (
-                Kind::Weights,
-                weights_case(&mut reader, alloc, grid?, study?)?,
-            ),
-            Record::RepeatedPoint => (
-                Kind::Weights,
-                repeated_case(&mut reader, alloc, grid?, study?)?,
-            ),
-            Record::Normal => (Kind::Normal, normal_case(&mut reader, alloc)?),
-            Record::Copies => (Kind::Copies, copies_case(&mut reader, alloc)?),
-        };
-        cases[kind as usize].add(rt, judged)?;
+// The grid and the study of the calls after them.
+#[derive(Debug, Default, Drop)]
+struct Kept {
+    grid: Option<OwnGrid>,
+    study: Option<Study>,
+}
+
+impl Kept {
+    fn weights_case(&self, alloc: Global, asked: &Asked) -> Result<Judged> {
+        let grid = self.grid.as_ref().context("a call before any grid")?;
+        let study = self.study.as_ref().context("a call before any study")?;
+        Ok(weights_judged(alloc, grid, study, asked)?)
     }
-    Ok(())
+}
+
+impl Replay for Kept {
+    type Counts = Counts;
+
+    fn next_record(
+        &mut self,
+        rt: &impl Print,
+        alloc: Global,
+        reader: &mut Reader<'_>,
+        counts: &mut Counts,
+    ) -> Result<()> {
+        let record = record_of(&RECORDS, reader.next_count())?;
+        match record {
+            Record::Grid => self.grid = Some(next_grid(reader, alloc)?),
+            Record::Study => self.study = Some(next_study(reader, alloc)?),
+            Record::Weights => {
+                let asked = next_weights(reader, alloc)?;
+                counts.weights.add(rt, self.weights_case(alloc, &asked)?)?;
+            }
+            Record::RepeatedPoint => {
+                let asked = next_repeated(reader, alloc)?;
+                counts.weights.add(rt, self.weights_case(alloc, &asked)?)?;
+            }
+            Record::Normal => counts.normal.add(rt, normal_case(reader, alloc)?)?,
+            Record::Copies => counts.copies.add(rt, copies_case(reader, alloc)?)?,
+        }
+        Ok(())
+    }
 }
 
 fn main(rt: HostRuntime) -> Result<()> {
-    let mut cases = no_cases();
-    let mut text = io::large_buffer();
-    for _ in 0..1000 {
-        let Some(block) = next_block(&mut text) else {
-            break;
-        };
-        replay(&rt, block, &mut cases)?;
-    }
-    print_all(&rt, &cases)?;
-    Ok(())
+    replay_blocks::<Kept>(&rt, rt.alloc(), Counts::new())
 }

@@ -8,10 +8,11 @@
 
 use anyhow::Result;
 use listing_read::read_listing;
-use replay_compare::kernel::same_bits;
+use replay_compare::kernel::Compared;
 use replay_input::kernel::at_most;
-use replay_input::reader::{Reader, next_block};
-use replay_report::cases::{Cases, Judged, print_all};
+use replay_input::reader::Reader;
+use replay_report::blocks::{Replay, replay_blocks};
+use replay_report::cases::{Cases, Judged};
 use sheet_counts::Counts;
 use std::alloc::{AllocError, Global};
 
@@ -26,57 +27,29 @@ const MOST: usize = 1200;
 
 // Whether both buffers are as they were before a call.
 fn are_kept(weights: &[f64], flags: &[i8]) -> bool {
-    weights.iter().all(|w| same_bits(*w, WEIGHT_BEFORE)) && flags.iter().all(|f| *f == FLAG_BEFORE)
-}
-
-// Whether a flag is a stored number.
-fn is_flag(flag: i8, stored: u64) -> bool {
-    match stored {
-        0 => flag == 0,
-        1 => flag == 1,
-        _ => false,
-    }
+    weights.iter().all(|w| w.agrees(WEIGHT_BEFORE)) && flags.iter().all(|f| *f == FLAG_BEFORE)
 }
 
 // Whether the weights and the flags are those stored next. All of them are read.
 fn are_stored(reader: &mut Reader<'_>, weights: &[f64], flags: &[i8]) -> bool {
-    let mut agrees = true;
-    for weight in weights {
-        agrees &= same_bits(*weight, reader.next_real());
-    }
-    for flag in flags {
-        agrees &= is_flag(*flag, reader.next_count());
-    }
-    agrees
-}
-
-// The next bytes of the text as they are, which a newline ends.
-fn next_bytes<'a>(reader: &mut Reader<'a>, size: u64) -> &'a [u8] {
-    let text = reader.text;
-    let from = reader.at.min(text.len());
-    let to = from + at_most(size, text.len() - from);
-    reader.at = to + 1;
-    &text[from..to]
-}
-
-fn next_counts(reader: &mut Reader<'_>) -> Counts {
-    Counts {
-        num_triplets: reader.next_whole(),
-        num_band0: reader.next_whole(),
-        num_band1: reader.next_whole(),
-        num_band2: reader.next_whole(),
-    }
+    reader.agrees_with(weights) & reader.agrees_with(flags)
 }
 
 // The call on two buffers, compared with what is stored for it.
 fn listing_case(reader: &mut Reader<'_>, alloc: Global) -> Result<Judged, AllocError> {
     let refusal = reader.next_count();
     let tp_type = reader.next_whole();
-    let counts = next_counts(reader);
+    let counts = Counts {
+        num_triplets: reader.next_whole(),
+        num_band0: reader.next_whole(),
+        num_band1: reader.next_whole(),
+        num_band2: reader.next_whole(),
+    };
     let num_weights = at_most(reader.next_count(), MOST);
     let num_flags = at_most(reader.next_count(), MOST);
     let size = reader.next_count();
-    let listing = next_bytes(reader, size);
+    let listing = reader.next_bytes(size);
+    let _newline = reader.next_bytes(1);
     let mut weights = vec![in alloc; WEIGHT_BEFORE; num_weights]?;
     let mut flags = vec![in alloc; FLAG_BEFORE; num_flags]?;
     let agrees = match read_listing(listing, tp_type, counts, &mut weights, &mut flags) {
@@ -86,28 +59,29 @@ fn listing_case(reader: &mut Reader<'_>, alloc: Global) -> Result<Judged, AllocE
     Ok(Judged { refusal, agrees })
 }
 
-// Counts the cases of one block.
-fn replay(rt: &HostRuntime, text: &[u8], cases: &mut Cases) -> Result<()> {
-    let mut reader = Reader::new(text);
-    // a record has a byte at least
-    for _ in text {
-        if reader.is_at_end() {
-            break;
-        }
-        cases.add(rt, listing_case(&mut reader, rt.alloc())?)?;
+// Listings; no record is kept for those after it.
+#[derive(Debug, Default, Drop)]
+struct Listings;
+
+impl Replay for Listings {
+    type Counts = Cases;
+
+    fn next_record(
+        &mut self,
+        rt: &impl Print,
+        alloc: Global,
+        reader: &mut Reader<'_>,
+        cases: &mut Cases,
+    ) -> Result<()> {
+        cases.add(rt, listing_case(reader, alloc)?)?;
+        Ok(())
     }
-    Ok(())
 }
 
 fn main(rt: HostRuntime) -> Result<()> {
-    let mut cases = Cases::new("listings read", "listings read");
-    let mut text = io::large_buffer();
-    for _ in 0..1000 {
-        let Some(block) = next_block(&mut text) else {
-            break;
-        };
-        replay(&rt, block, &mut cases)?;
-    }
-    print_all(&rt, &[cases])?;
-    Ok(())
+    replay_blocks::<Listings>(
+        &rt,
+        rt.alloc(),
+        Cases::new("listings read", "listings read"),
+    )
 }

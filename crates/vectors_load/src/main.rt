@@ -6,33 +6,17 @@
 #![tactic(auto)]
 
 use anyhow::Result;
-use replay_compare::kernel::same_reals;
-use replay_input::reader::{Reader, next_block};
+use replay_input::reader::Reader;
+use replay_report::blocks::{Replay, replay_blocks};
 use replay_report::cases::{Cases, Judged};
 use std::alloc::{AllocError, Global};
 
 // What a buffer holds before a call: no frequency.
 const NO_FREQUENCY: f64 = -1.5e300;
 
-// So many entries, each with a value.
-fn filled(length: usize, value: f64, alloc: Global) -> Result<Vec<f64>, AllocError> {
-    let mut buffer = Vec::new(alloc);
-    for _ in 0..length {
-        buffer.push(value)?;
-    }
-    Ok(buffer)
-}
-
 // A buffer of the length that comes next.
 fn next_buffer(reader: &mut Reader<'_>, alloc: Global) -> Result<Vec<f64>, AllocError> {
-    filled(reader.next_count() as usize, NO_FREQUENCY, alloc)
-}
-
-// Whether a buffer holds the values that come next.
-fn holds_next(reader: &mut Reader<'_>, buffer: &[f64], alloc: Global) -> Result<bool, AllocError> {
-    let mut values = filled(buffer.len(), 0.0, alloc)?;
-    reader.fill(values.as_mut_slice());
-    Ok(same_reals(buffer, &values))
+    vec![in alloc; NO_FREQUENCY; reader.next_count() as usize]
 }
 
 fn load_case(reader: &mut Reader<'_>, alloc: Global) -> Result<Judged, AllocError> {
@@ -41,38 +25,38 @@ fn load_case(reader: &mut Reader<'_>, alloc: Global) -> Result<Judged, AllocErro
     let mut frequencies2 = next_buffer(reader, alloc)?;
     let mut points = next_buffer(reader, alloc)?;
     test_load::fill_frequencies(start, &mut frequencies1, &mut frequencies2, &mut points);
-    let first = holds_next(reader, &frequencies1, alloc)?;
-    let second = holds_next(reader, &frequencies2, alloc)?;
-    let third = holds_next(reader, &points, alloc)?;
+    let first = reader.agrees_with(&frequencies1);
+    let second = reader.agrees_with(&frequencies2);
+    let third = reader.agrees_with(&points);
     Ok(Judged {
         refusal: 0,
         agrees: first && second && third,
     })
 }
 
-// Counts the cases of one block.
-fn replay(rt: &HostRuntime, text: &[u8], cases: &mut Cases) -> Result<()> {
-    let mut reader = Reader::new(text);
-    // a record has a byte at least
-    for _ in text {
-        if reader.is_at_end() {
-            break;
-        }
-        let judged = load_case(&mut reader, rt.alloc())?;
-        cases.add(rt, judged)?;
+// Test frequencies; no record is kept for those after it.
+#[derive(Debug, Default, Drop)]
+struct TestFrequencies;
+
+impl Replay for TestFrequencies {
+    type Counts = Cases;
+
+    fn next_record(
+        &mut self,
+        rt: &impl Print,
+        alloc: Global,
+        reader: &mut Reader<'_>,
+        cases: &mut Cases,
+    ) -> Result<()> {
+        cases.add(rt, load_case(reader, alloc)?)?;
+        Ok(())
     }
-    Ok(())
 }
 
 fn main(rt: HostRuntime) -> Result<()> {
-    let mut cases = Cases::new("test frequencies", "test frequencies");
-    let mut text = io::large_buffer();
-    for _ in 0..1000 {
-        let Some(block) = next_block(&mut text) else {
-            break;
-        };
-        replay(&rt, block, &mut cases)?;
-    }
-    println!(rt; "{cases}")?;
-    Ok(())
+    replay_blocks::<TestFrequencies>(
+        &rt,
+        rt.alloc(),
+        Cases::new("test frequencies", "test frequencies"),
+    )
 }

@@ -17,19 +17,19 @@
 
 #![tactic(auto)]
 
-use anyhow::Result;
-use replay_calls::kernel::calls;
-use replay_calls::kernel::calls::Call;
-use replay_calls::kernel::study::{numbers, study_call};
-use replay_input::kernel as input;
-use replay_input::kernel::Cursor;
-use replay_input::reader::next_block;
-use replay_report::cases::UnknownRecord;
-use replay_sheet::kernel as content;
-use replay_sheet::kernel::counts::{AnswerCounts, CallKind, UnknownCall};
-use replay_sheet::kernel::{open, tallies};
-use replay_study::kernel as records;
-use sheet::{Answered, Refusal, Tally};
+use anyhow::{Context, Result};
+use replay_calls::calls::next_call;
+use replay_calls::study::{OwnStudy, next_study};
+use replay_input::kernel::at_most;
+use replay_input::reader::Reader;
+use replay_report::blocks::{Replay, replay_blocks};
+use replay_report::kinds::record_of;
+use replay_sheet::content::{Lengths, Sheet, next_sheet};
+use replay_sheet::counts::{AnswerCounts, CallKind};
+use replay_sheet::open::open_case;
+use replay_study::owned::{OwnGrid, next_grid, next_list};
+use sheet::Study;
+use std::alloc::Global;
 
 #[derive(Clone, Copy, Debug, PartialEq, Eq)]
 enum Record {
@@ -40,289 +40,132 @@ enum Record {
     OpenCount,
 }
 
-impl TryFrom<u64> for Record {
-    type Error = UnknownRecord;
-
-    fn try_from(kind: u64) -> Result<Self, UnknownRecord> {
-        match kind {
-            1 => Ok(Record::Grid),
-            2 => Ok(Record::Table),
-            3 => Ok(Record::Study),
-            4 => Ok(Record::List),
-            5 => Ok(Record::OpenCount),
-            _ => Err(UnknownRecord(kind)),
-        }
-    }
-}
+const RECORDS: [(u64, Record); 5] = [
+    (1, Record::Grid),
+    (2, Record::Table),
+    (3, Record::Study),
+    (4, Record::List),
+    (5, Record::OpenCount),
+];
 
 // ---- the calls
 
-// Where the records of the grid, the table and the study start.
-#[derive(Clone, Copy)]
-struct Places {
-    grid: Cursor,
-    rows: Cursor,
-    study: Cursor,
-}
-
-// The call on the grid, the table and the study whose records start at places.
-fn grid_call(
-    text: &[u8],
-    places: Places,
-    call: Call,
-    weights: &mut [f64],
-    flags: &mut [i8],
-    marks: &mut [u8],
-    tally: Tally,
-    list1: &[i64],
-    list2: &[i64],
-    answers: &mut [u64],
-    tallies: &mut [u64],
-) -> Result<Tally, Refusal> {
-    let mut addresses = numbers();
-    let mut map = numbers();
-    let g = records::read_grid(text, places.grid, &mut addresses, &mut map);
-    let mut table = numbers();
-    let t = input::fill_wholes(text, places.rows, &mut table);
-    let k = g.kind;
-    let d = g.mesh;
-    let p = g.addresses;
-    let v = g.map;
-    let n = t.count;
-    study_call(
-        text,
-        places.study,
-        call,
-        k,
-        d,
-        &addresses[..p],
-        &map[..v],
-        &table[..n],
-        weights,
-        flags,
-        marks,
-        tally,
-        list1,
-        list2,
-        answers,
-        tallies,
-    )
-}
-
-// Answers that are not the stored ones count as refusal 30, which is none.
-fn checked(number: u64, agrees: bool) -> u64 {
-    if agrees { number } else { 30 }
-}
-
-// What a call gave, and where the record of what it is to give starts.
-#[derive(Clone, Copy)]
-struct Called {
-    number: u64,
-    tally: Tally,
-    next: Cursor,
-}
-
-// Answers and tallies held to the stored ones, which start at c.
-fn held(text: &[u8], c: Cursor, made: Answered, answers: &[u64], tallies: &[u64]) -> Called {
-    let a = content::same_answers(text, c, answers);
-    let t = content::same_answers(text, a.next, tallies);
-    let next = t.next;
-    let after = made.tally;
-    Called {
-        number: checked(made.number, a.agrees & t.agrees),
-        tally: after,
-        next,
+// How many weights, flags and marks come next, no more than the text has bytes.
+fn next_lengths(reader: &mut Reader<'_>) -> Lengths {
+    let most = reader.text.len();
+    Lengths {
+        weights: at_most(reader.next_count(), most),
+        flags: at_most(reader.next_count(), most),
+        marks: at_most(reader.next_count(), most),
     }
 }
 
-fn lists_call(
-    text: &[u8],
-    places: Places,
-    c: Cursor,
-    call: Call,
-    weights: &mut [f64],
-    flags: &mut [i8],
-    marks: &mut [u8],
-    tally: Tally,
-    list1: &[i64],
-    list2: &[i64],
-    answers: &mut [u64],
-    tallies: &mut [u64],
-) -> Called {
-    let done = grid_call(
-        text, places, call, weights, flags, marks, tally, list1, list2, answers, tallies,
-    );
-    held(text, c, Answered::new(done, tally), answers, tallies)
+// What a list of calls goes through: its record from the next call on, the sheet so far, and the stored content that the sheet
+// is to have: the start's, then that after the last accepted call.
+#[derive(Drop)]
+struct Run<'a> {
+    record: Reader<'a>,
+    sheet: Sheet,
+    content: Reader<'a>,
 }
 
-// A call of a kind whose record starts at c.
-fn kind_call(
-    text: &[u8],
-    places: Places,
-    c: Cursor,
-    kind: CallKind,
-    weights: &mut [f64],
-    flags: &mut [i8],
-    marks: &mut [u8],
-    tally: Tally,
-) -> Called {
-    let named = calls::read_call(text, kind, c);
-    let call = named.call;
-    let mut list1 = numbers();
-    let one = calls::read_list(text, kind, named.next, &mut list1);
-    let mut list2 = numbers();
-    let two = calls::read_list(text, kind, one.next, &mut list2);
-    let size = calls::read_size(text, kind, two.next);
-    let next = size.next;
-    let n1 = one.count;
-    let n2 = two.count;
-    let mut answers = content::answers_buffer();
-    let mut tallies = content::tallies_buffer();
-    let k = content::answers_of(size.value, &answers);
-    let j = content::tallies_of(size.value, &tallies);
-    lists_call(
-        text,
-        places,
-        next,
-        call,
-        weights,
-        flags,
-        marks,
-        tally,
-        &list1[..n1],
-        &list2[..n2],
-        &mut answers[..k],
-        &mut tallies[..j],
-    )
+impl<'a> Run<'a> {
+    fn new(mut record: Reader<'a>, alloc: Global) -> Result<Run<'a>> {
+        let lengths = next_lengths(&mut record);
+        let content = record;
+        let sheet = next_sheet(&mut record, alloc, lengths)?;
+        Ok(Run {
+            record,
+            sheet,
+            content,
+        })
+    }
+
+    // Whether the sheet has the content that it is to have, which comes next where it changes.
+    fn agrees(&mut self) -> bool {
+        if self.record.next_count() == 0 {
+            let mut content = self.content;
+            return self.sheet.is_stored(&mut content);
+        }
+        self.content = self.record;
+        self.sheet.is_stored(&mut self.record)
+    }
+
+    // Makes the next call.
+    fn call_case(
+        &mut self,
+        alloc: Global,
+        study: Study<'_>,
+        counts: &mut AnswerCounts,
+    ) -> Result<()> {
+        let kind = CallKind::try_from(self.record.next_count())?;
+        let call = next_call(&mut self.record, alloc, kind)?;
+        let number = call.make(study, &mut self.sheet, &mut self.record, alloc)?;
+        let refusal = self.record.next_count();
+        let tally = self.record.agrees_with(&self.sheet.tally.runs);
+        let content = self.agrees();
+        counts.add(kind, number, number == Some(refusal) && tally && content);
+        Ok(())
+    }
 }
 
-fn either(yes: bool, one: Cursor, other: Cursor) -> Cursor {
-    if yes { one } else { other }
-}
-
-// Makes the calls of a list, one after another. At first content is the start's, then that after the last accepted call.
-fn calls(
-    text: &[u8],
-    places: Places,
-    c: Cursor,
-    weights: &mut [f64],
-    flags: &mut [i8],
-    marks: &mut [u8],
-    answered: &mut AnswerCounts,
-) -> Result<(), UnknownCall> {
-    let after = content::read_sheet(text, c, weights, flags, marks);
-    let start = tallies::read_tally(text, after);
-    let head = input::next_count(text, start.next);
-    let mut content = c;
-    let mut next = head.next;
-    let mut tally = start.tally;
-    for _ in 0..head.value {
-        let number = input::next_count(text, next);
-        let kind = CallKind::try_from(number.value)?;
-        let made = kind_call(
-            text,
-            places,
-            number.next,
-            kind,
-            weights,
-            flags,
-            marks,
-            tally,
-        );
-        let refusal = input::next_count(text, made.next);
-        tally = made.tally;
-        let held = tallies::same_tally(text, refusal.next, tally);
-        let fresh = input::next_count(text, held.next);
-        let changes = fresh.value != 0;
-        content = either(changes, fresh.next, content);
-        let a = content::same_sheet(text, content, weights, flags, marks);
-        next = either(changes, a.next, fresh.next);
-        let answer = (made.number == refusal.value) & held.agrees;
-        answered.add(kind, made.number, answer & a.agrees);
+// Makes the calls of a list, one after another.
+fn list_case(
+    record: Reader<'_>,
+    alloc: Global,
+    study: Study<'_>,
+    counts: &mut AnswerCounts,
+) -> Result<()> {
+    let mut run = Run::new(record, alloc)?;
+    for _ in 0..run.record.next_count() {
+        run.call_case(alloc, study, counts)?;
     }
     Ok(())
 }
 
 // ---- the cases
 
-fn list_case(
-    text: &[u8],
-    places: Places,
-    c: Cursor,
-    answered: &mut AnswerCounts,
-) -> Result<(), UnknownCall> {
-    let w = input::next_count(text, c);
-    let f = input::next_count(text, w.next);
-    let m = input::next_count(text, f.next);
-    let next = m.next;
-    let mut weights = content::weights_buffer();
-    let mut flags = content::flags_buffer();
-    let mut marks = content::marks_buffer();
-    let nw = input::room_of(w.value, &weights);
-    let nf = input::places_of(f.value, &flags);
-    let nm = content::pieces_of(m.value, &marks);
-    calls(
-        text,
-        places,
-        next,
-        &mut weights[..nw],
-        &mut flags[..nf],
-        &mut marks[..nm],
-        answered,
-    )
+// The grid, the table and the study of the lists after them.
+#[derive(Debug, Default, Drop)]
+struct Kept {
+    grid: Option<OwnGrid>,
+    table: Option<Vec<i64>>,
+    study: Option<OwnStudy>,
 }
 
-// Where the record after size bytes starts.
-fn after_bytes(text: &[u8], c: Cursor, size: u64) -> Cursor {
-    let at = c.at;
-    if at < text.len() {
-        if size < (text.len() - at) as u64 {
-            return Cursor {
-                at: at + size as usize,
-            };
-        }
+impl Kept {
+    fn study(&self) -> Result<Study<'_>> {
+        let grid = self.grid.as_ref().context("a list before any grid")?;
+        let table = self.table.as_ref().context("a list before any table")?;
+        let study = self.study.as_ref().context("a list before any study")?;
+        Ok(study.lent(grid, table))
     }
-    Cursor { at: text.len() }
 }
 
-// Counts the cases of one block.
-fn replay(text: &[u8], answered: &mut AnswerCounts) -> Result<()> {
-    let first = Cursor { at: 0 };
-    let mut c = first;
-    let mut places = Places {
-        grid: first,
-        rows: first,
-        study: first,
-    };
-    // a record has a byte at least
-    for _ in text {
-        if text.len() <= c.at {
-            break;
+impl Replay for Kept {
+    type Counts = AnswerCounts;
+
+    fn next_record(
+        &mut self,
+        _rt: &impl Print,
+        alloc: Global,
+        reader: &mut Reader<'_>,
+        counts: &mut AnswerCounts,
+    ) -> Result<()> {
+        let number = reader.next_count();
+        let size = reader.next_count();
+        let mut record = Reader::new(reader.next_bytes(size));
+        match record_of(&RECORDS, number)? {
+            Record::Grid => self.grid = Some(next_grid(&mut record, alloc)?),
+            Record::Table => self.table = Some(next_list(&mut record, alloc)?),
+            Record::Study => self.study = Some(next_study(&mut record, alloc)?),
+            Record::List => list_case(record, alloc, self.study()?, counts)?,
+            Record::OpenCount => open_case(&mut record, alloc, counts)?,
         }
-        let kind = input::next_count(text, c);
-        let size = input::next_count(text, kind.next);
-        let start = size.next;
-        match Record::try_from(kind.value)? {
-            Record::Grid => places.grid = start,
-            Record::Table => places.rows = start,
-            Record::Study => places.study = start,
-            Record::List => list_case(text, places, start, answered)?,
-            Record::OpenCount => open::open_case(text, start, answered),
-        }
-        c = after_bytes(text, start, size.value);
+        Ok(())
     }
-    Ok(())
 }
 
 fn main(rt: HostRuntime) -> Result<()> {
-    let mut answered = AnswerCounts::new();
-    let mut text = io::large_buffer();
-    for _ in 0..1000 {
-        let Some(block) = next_block(&mut text) else {
-            break;
-        };
-        replay(block, &mut answered)?;
-    }
-    println!(rt; "{answered}")?;
-    Ok(())
+    replay_blocks::<Kept>(&rt, rt.alloc(), AnswerCounts::new())
 }

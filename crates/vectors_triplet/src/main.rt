@@ -13,12 +13,15 @@
 
 use anyhow::{Context, Result};
 use ask::kernel::status_of;
-use replay_compare::kernel::same_reals;
+use replay_compare::kernel::agree;
 use replay_input::kernel::stamps::mark;
-use replay_input::reader::{Reader, next_block};
-use replay_report::cases::{Cases, Judged, UnknownRecord, after_call, print_all};
+use replay_input::reader::Reader;
+use replay_report::blocks::{Replay, replay_blocks};
+use replay_report::cases::{Cases, Judged, after_call};
+use replay_report::kinds::record_of;
 use replay_study::owned::{OwnGrid, OwnValues, next_grid, next_list, next_values};
 use std::alloc::{AllocError, Global};
+use std::fmt;
 use triplet_study::{Shape, Study};
 
 #[derive(Clone, Copy, Debug, PartialEq, Eq)]
@@ -29,32 +32,34 @@ enum Record {
     OneTriplet,
 }
 
-impl TryFrom<u64> for Record {
-    type Error = UnknownRecord;
+const RECORDS: [(u64, Record); 4] = [
+    (1, Record::Grid),
+    (2, Record::Study),
+    (3, Record::AllTriplets),
+    (4, Record::OneTriplet),
+];
 
-    fn try_from(kind: u64) -> Result<Self, UnknownRecord> {
-        match kind {
-            1 => Ok(Record::Grid),
-            2 => Ok(Record::Study),
-            3 => Ok(Record::AllTriplets),
-            4 => Ok(Record::OneTriplet),
-            _ => Err(UnknownRecord(kind)),
+// What is counted.
+#[derive(Clone, Copy, Debug)]
+struct Counts {
+    all: Cases,
+    one: Cases,
+}
+
+impl Counts {
+    fn new() -> Counts {
+        Counts {
+            all: Cases::new("all triplets", "weights of all triplets"),
+            one: Cases::new("one triplet", "weights of one triplet"),
         }
     }
 }
 
-// What is counted.
-#[derive(Clone, Copy, Debug, PartialEq, Eq)]
-enum Kind {
-    All,
-    One,
-}
-
-fn no_cases() -> [Cases; 2] {
-    [
-        Cases::new("all triplets", "weights of all triplets"),
-        Cases::new("one triplet", "weights of one triplet"),
-    ]
+impl fmt::Display for Counts {
+    fn fmt<W: fmt::Write>(&self, f: &mut fmt::Formatter<W>) -> fmt::Result {
+        let Counts { all, one } = self;
+        write!(f, "{all}\n{one}")
+    }
 }
 
 // ---- the study
@@ -153,21 +158,28 @@ fn marked(alloc: Global, weights: usize, flags: usize) -> Result<Buffers, AllocE
 }
 
 // Whether an accepted call filled the buffers with the stored weights and flags, or a refused one left them.
-fn agree(refusal: u64, buffers: &Buffers, stored: &Buffers, before: &Buffers) -> bool {
+fn are_stored(refusal: u64, buffers: &Buffers, stored: &Buffers, before: &Buffers) -> bool {
     let weights = after_call(refusal, &stored.weights, &before.weights);
     let flags = after_call(refusal, &stored.flags, &before.flags);
-    same_reals(&buffers.weights, weights) && buffers.flags.as_slice() == flags
+    agree(&buffers.weights, weights) && buffers.flags.as_slice() == flags
 }
 
 // ---- the calls
 
+// What a call asks for.
+#[derive(Clone, Copy, Debug)]
+enum Asked {
+    AllTriplets,
+    OneTriplet,
+}
+
 // The number of the call's refusal, 0 where it is done.
-fn called(kind: Kind, study: Study<'_>, one: [i64; 3], buffers: &mut Buffers) -> u64 {
+fn called(asked: Asked, study: Study<'_>, one: [i64; 3], buffers: &mut Buffers) -> u64 {
     let weights = buffers.weights.as_mut_slice();
     let flags = buffers.flags.as_mut_slice();
-    status_of(match kind {
-        Kind::All => triplet::integration_weight(study, weights, flags),
-        Kind::One => triplet_iw::integration_weight_per_triplet(study, one, weights, flags),
+    status_of(match asked {
+        Asked::AllTriplets => triplet::integration_weight(study, weights, flags),
+        Asked::OneTriplet => triplet_iw::integration_weight_per_triplet(study, one, weights, flags),
     })
 }
 
@@ -179,75 +191,67 @@ fn first_of(triplets: &[i64]) -> [i64; 3] {
     }
 }
 
-fn call_case(
-    reader: &mut Reader<'_>,
-    alloc: Global,
-    kind: Kind,
-    grid: &OwnGrid,
-    record: &StudyRecord,
-) -> Result<Judged, AllocError> {
-    let refusal = reader.next_count();
-    let list: Vec<i64> = next_list(reader, alloc)?;
-    let triplets = repeated(alloc, &list, reader.next_count() as usize)?;
-    let room = reader.next_count() as usize;
-    let places = reader.next_count() as usize;
-    let weights: Vec<f64> = next_list(reader, alloc)?;
-    let numbers: Vec<i64> = next_list(reader, alloc)?;
-    let flags = flags_of(alloc, &numbers)?;
-    let stored = Buffers {
-        weights: repeated(alloc, &weights, room)?,
-        flags: repeated(alloc, &flags, places)?,
-    };
-    let before = marked(alloc, room, places)?;
-    let mut buffers = marked(alloc, room, places)?;
-    let study = lent(grid, record, &triplets);
-    let number = called(kind, study, first_of(&list), &mut buffers);
-    Ok(Judged {
-        refusal,
-        agrees: number == refusal && agree(refusal, &buffers, &stored, &before),
-    })
+// The grid and the study of the calls after them.
+#[derive(Debug, Default, Drop)]
+struct Kept {
+    grid: Option<OwnGrid>,
+    study: Option<StudyRecord>,
 }
 
-// Counts the cases of one block.
-fn replay(rt: &HostRuntime, text: &[u8], cases: &mut [Cases; 2]) -> Result<()> {
-    let alloc = rt.alloc();
-    let mut reader = Reader::new(text);
-    let mut grids: Option<OwnGrid> = None;
-    let mut studies: Option<StudyRecord> = None;
-    // a record has a byte at least
-    for _ in text {
-        if reader.is_at_end() {
-            break;
-        }
-        let kind = match Record::try_from(reader.next_count())? {
-            Record::Grid => {
-                grids = Some(next_grid(&mut reader, alloc)?);
-                continue;
-            }
-            Record::Study => {
-                studies = Some(next_study(&mut reader, alloc)?);
-                continue;
-            }
-            Record::AllTriplets => Kind::All,
-            Record::OneTriplet => Kind::One,
+impl Kept {
+    fn call_case(&self, reader: &mut Reader<'_>, alloc: Global, asked: Asked) -> Result<Judged> {
+        let grid = self.grid.as_ref().context("a call before any grid")?;
+        let record = self.study.as_ref().context("a call before any study")?;
+        let refusal = reader.next_count();
+        let list: Vec<i64> = next_list(reader, alloc)?;
+        let triplets = repeated(alloc, &list, reader.next_count() as usize)?;
+        let room = reader.next_count() as usize;
+        let places = reader.next_count() as usize;
+        let weights: Vec<f64> = next_list(reader, alloc)?;
+        let numbers: Vec<i64> = next_list(reader, alloc)?;
+        let flags = flags_of(alloc, &numbers)?;
+        let stored = Buffers {
+            weights: repeated(alloc, &weights, room)?,
+            flags: repeated(alloc, &flags, places)?,
         };
-        let grid = grids.as_ref().context("a call before any grid")?;
-        let study = studies.as_ref().context("a call before any study")?;
-        let judged = call_case(&mut reader, alloc, kind, grid, study)?;
-        cases[kind as usize].add(rt, judged)?;
+        let before = marked(alloc, room, places)?;
+        let mut buffers = marked(alloc, room, places)?;
+        let study = lent(grid, record, &triplets);
+        let number = called(asked, study, first_of(&list), &mut buffers);
+        Ok(Judged {
+            refusal,
+            agrees: number == refusal && are_stored(refusal, &buffers, &stored, &before),
+        })
     }
-    Ok(())
+}
+
+impl Replay for Kept {
+    type Counts = Counts;
+
+    fn next_record(
+        &mut self,
+        rt: &impl Print,
+        alloc: Global,
+        reader: &mut Reader<'_>,
+        counts: &mut Counts,
+    ) -> Result<()> {
+        let record = record_of(&RECORDS, reader.next_count())?;
+        match record {
+            Record::Grid => self.grid = Some(next_grid(reader, alloc)?),
+            Record::Study => self.study = Some(next_study(reader, alloc)?),
+            Record::AllTriplets => {
+                let judged = self.call_case(reader, alloc, Asked::AllTriplets)?;
+                counts.all.add(rt, judged)?;
+            }
+            Record::OneTriplet => {
+                let judged = self.call_case(reader, alloc, Asked::OneTriplet)?;
+                counts.one.add(rt, judged)?;
+            }
+        }
+        Ok(())
+    }
 }
 
 fn main(rt: HostRuntime) -> Result<()> {
-    let mut cases = no_cases();
-    let mut text = io::large_buffer();
-    for _ in 0..1000 {
-        let Some(block) = next_block(&mut text) else {
-            break;
-        };
-        replay(&rt, block, &mut cases)?;
-    }
-    print_all(&rt, &cases)?;
-    Ok(())
+    replay_blocks::<Kept>(&rt, rt.alloc(), Counts::new())
 }

@@ -19,11 +19,14 @@
 use anyhow::Result;
 use ask::Refusal;
 use relative_grid_address::NeighbourTable;
-use replay_compare::kernel::{same, same_reals};
-use replay_input::reader::{Reader, next_block};
-use replay_report::cases::{Cases, Judged, UnknownRecord, print_all, stored};
+use replay_compare::kernel::agree;
+use replay_input::reader::Reader;
+use replay_report::blocks::{Replay, replay_blocks};
+use replay_report::cases::{Cases, Judged, stored};
+use replay_report::kinds::record_of;
 use replay_study::owned::next_list;
 use std::alloc::{AllocError, Global};
+use std::fmt;
 use tetrahedron_method::WeightFunction;
 use text::kernel::bits_of;
 
@@ -40,47 +43,58 @@ enum Record {
     Product,
 }
 
-impl TryFrom<u64> for Record {
-    type Error = UnknownRecord;
+const RECORDS: [(u64, Record); 9] = [
+    (1, Record::Sort),
+    (2, Record::Vertices),
+    (3, Record::Weight),
+    (4, Record::EqualRows),
+    (5, Record::Lattice),
+    (6, Record::Tables),
+    (7, Record::Exact),
+    (8, Record::ExactSum),
+    (9, Record::Product),
+];
 
-    fn try_from(kind: u64) -> Result<Self, UnknownRecord> {
-        match kind {
-            1 => Ok(Record::Sort),
-            2 => Ok(Record::Vertices),
-            3 => Ok(Record::Weight),
-            4 => Ok(Record::EqualRows),
-            5 => Ok(Record::Lattice),
-            6 => Ok(Record::Tables),
-            7 => Ok(Record::Exact),
-            8 => Ok(Record::ExactSum),
-            9 => Ok(Record::Product),
-            _ => Err(UnknownRecord(kind)),
+// What is counted.
+#[derive(Clone, Copy, Debug)]
+struct Counts {
+    sort: Cases,
+    weight: Cases,
+    lattice: Cases,
+    tables: Cases,
+    exact: Cases,
+    exact_sum: Cases,
+    product: Cases,
+}
+
+impl Counts {
+    fn new() -> Counts {
+        Counts {
+            sort: Cases::new("sort", "sort"),
+            weight: Cases::new("weight", "weight"),
+            lattice: Cases::new("lattice", "choice of the table"),
+            tables: Cases::new("tables", "tables"),
+            exact: Cases::new("exact integral", "exact integral"),
+            exact_sum: Cases::new("exact sum", "exact sum of the four vertices"),
+            product: Cases::new("product", "lattice times vector"),
         }
     }
 }
 
-// What is counted.
-#[derive(Clone, Copy, Debug, PartialEq, Eq)]
-enum Kind {
-    Sort,
-    Weight,
-    Lattice,
-    Tables,
-    Exact,
-    ExactSum,
-    Product,
-}
-
-fn no_cases() -> [Cases; 7] {
-    [
-        Cases::new("sort", "sort"),
-        Cases::new("weight", "weight"),
-        Cases::new("lattice", "choice of the table"),
-        Cases::new("tables", "tables"),
-        Cases::new("exact integral", "exact integral"),
-        Cases::new("exact sum", "exact sum of the four vertices"),
-        Cases::new("product", "lattice times vector"),
-    ]
+impl fmt::Display for Counts {
+    fn fmt<W: fmt::Write>(&self, f: &mut fmt::Formatter<W>) -> fmt::Result {
+        let Counts {
+            sort,
+            weight,
+            lattice,
+            tables,
+            exact,
+            exact_sum,
+            product,
+        } = self;
+        writeln!(f, "{sort}\n{weight}\n{lattice}\n{tables}")?;
+        write!(f, "{exact}\n{exact_sum}\n{product}")
+    }
 }
 
 // A case that cannot be refused.
@@ -115,7 +129,7 @@ fn sort_case(reader: &mut Reader<'_>) -> Judged {
     let order: [f64; 4] = next_reals(reader);
     let sorted = tetrahedron_sort::kernel::sort_omegas(row);
     let omegas = sorted.omegas;
-    accepted(sorted.place as u64 == place && same_reals(&omegas, &order))
+    accepted(sorted.place as u64 == place && agree(&omegas, &order))
 }
 
 fn number_given(answer: Result<f64, Refusal>) -> Result<f64, u64> {
@@ -197,7 +211,7 @@ fn table_agrees(answer: Result<NeighbourTable, Refusal>, refusal: u64, number: u
             let numbers = chosen.numbers;
             refusal == 0
                 && chosen.index as u64 == number
-                && same(&numbers, table_of(&tables, number))
+                && agree(&numbers, table_of(&tables, number))
         }
         Err(why) => why.number() == refusal && number == 0,
     }
@@ -217,14 +231,14 @@ fn lattice_case(reader: &mut Reader<'_>) -> Judged {
 fn tables_case(reader: &mut Reader<'_>, alloc: Global) -> Result<Judged, AllocError> {
     let tables = next_list(reader, alloc)?;
     let all = relative_grid_address::all_relative_grid_address();
-    Ok(accepted(same(&all, &tables)))
+    Ok(accepted(agree(&all, &tables)))
 }
 
 // A refused product is stored as three zeros.
 fn product_agrees(answer: Result<[f64; 3], Refusal>, refusal: u64, product: &[f64; 3]) -> bool {
     match answer {
-        Ok(vector) => refusal == 0 && same_reals(&vector, product),
-        Err(why) => why.number() == refusal && same_reals(&[0.0; 3], product),
+        Ok(vector) => refusal == 0 && agree(&vector, product),
+        Err(why) => why.number() == refusal && agree(&[0.0; 3], product),
     }
 }
 
@@ -240,44 +254,48 @@ fn product_case(reader: &mut Reader<'_>) -> Judged {
     }
 }
 
-// Counts the cases of one block.
-fn replay(rt: &HostRuntime, text: &[u8], cases: &mut [Cases; 7]) -> Result<()> {
-    let mut reader = Reader::new(text);
-    let mut vertices: Vec<f64> = Vec::new(rt.alloc());
-    // a record has a byte at least
-    for _ in text {
-        if reader.is_at_end() {
-            break;
+// The vertices of the weights after them.
+#[derive(Debug, Default, Drop)]
+struct Kept {
+    vertices: Option<Vec<f64>>,
+}
+
+impl Kept {
+    // None before any record of them.
+    fn vertices(&self) -> &[f64] {
+        match &self.vertices {
+            Some(vertices) => vertices,
+            None => &[],
         }
-        let record = Record::try_from(reader.next_count())?;
-        let (kind, judged) = match record {
-            Record::Vertices => {
-                vertices = next_list(&mut reader, rt.alloc())?;
-                continue;
-            }
-            Record::Sort => (Kind::Sort, sort_case(&mut reader)),
-            Record::Weight => (Kind::Weight, weight_case(&mut reader, &vertices)),
-            Record::EqualRows => (Kind::Weight, row_case(&mut reader)),
-            Record::Lattice => (Kind::Lattice, lattice_case(&mut reader)),
-            Record::Tables => (Kind::Tables, tables_case(&mut reader, rt.alloc())?),
-            Record::Exact => (Kind::Exact, exact_case(&mut reader, false)),
-            Record::ExactSum => (Kind::ExactSum, exact_case(&mut reader, true)),
-            Record::Product => (Kind::Product, product_case(&mut reader)),
-        };
-        cases[kind as usize].add(rt, judged)?;
     }
-    Ok(())
+}
+
+impl Replay for Kept {
+    type Counts = Counts;
+
+    fn next_record(
+        &mut self,
+        rt: &impl Print,
+        alloc: Global,
+        reader: &mut Reader<'_>,
+        counts: &mut Counts,
+    ) -> Result<()> {
+        let record = record_of(&RECORDS, reader.next_count())?;
+        match record {
+            Record::Vertices => self.vertices = Some(next_list(reader, alloc)?),
+            Record::Sort => counts.sort.add(rt, sort_case(reader))?,
+            Record::Weight => counts.weight.add(rt, weight_case(reader, self.vertices()))?,
+            Record::EqualRows => counts.weight.add(rt, row_case(reader))?,
+            Record::Lattice => counts.lattice.add(rt, lattice_case(reader))?,
+            Record::Tables => counts.tables.add(rt, tables_case(reader, alloc)?)?,
+            Record::Exact => counts.exact.add(rt, exact_case(reader, false))?,
+            Record::ExactSum => counts.exact_sum.add(rt, exact_case(reader, true))?,
+            Record::Product => counts.product.add(rt, product_case(reader))?,
+        }
+        Ok(())
+    }
 }
 
 fn main(rt: HostRuntime) -> Result<()> {
-    let mut cases = no_cases();
-    let mut text = io::large_buffer();
-    for _ in 0..1000 {
-        let Some(block) = next_block(&mut text) else {
-            break;
-        };
-        replay(&rt, block, &mut cases)?;
-    }
-    print_all(&rt, &cases)?;
-    Ok(())
+    replay_blocks::<Kept>(&rt, rt.alloc(), Counts::new())
 }

@@ -21,35 +21,32 @@ fn answer_buffer() -> [u8; 118617]
     [0; 118617]
 }
 
-// One read into the text from `done` on: how many of its bytes count as read afterwards. Where the read fails all of them do: that is
-// longer than a study, so the answer is the refusal with 1, whatever was read before.
-fn read_more(input: &mut impl Read, text: &mut [u8], done: usize) -> usize
-    requires { done ≤ length text.old }
-    ensures lower_bound { done ≤ result }
-    ensures upper_bound { result ≤ length text.new }
-    ensures text_len_unchanged { length text.new ≡ length text.old }
+// One read into the rest of the text: how many of its bytes count as read. Where the read fails all of them do: the text is then longer than a
+// study, so the answer is the refusal with 1, whatever was read before.
+fn read_more(input: &mut impl Read, rest: &mut [u8]) -> usize
+    ensures upper_bound { result ≤ length rest.new }
+    ensures text_len_unchanged { length rest.new ≡ length rest.old }
 {
-    let all = text.len();
-    let rest = &mut text[done..];
+    let all = rest.len();
     match input.read(rest) {
-        Ok(got) => done + got,
+        Ok(got) => got,
         Err(_) => all,
     }
 }
 
-// Reads until the input ends, a read fails or the text is full: how many of its bytes count as read.
+// Reads until the input ends, a read fails or the text is full: how many of its bytes count as read. No more reads than bytes.
 // The loop is written out: of the bytes after a failed read std's methods that read on say nothing.
 fn read_text(input: &mut impl Read, text: &mut [u8]) -> usize
     ensures upper_bound { result ≤ length text.new }
     ensures text_len_unchanged { length text.new ≡ length text.old }
 {
     let mut done = 0;
-    while done < text.len() {
-        let next = read_more(input, text, done);
-        if next == done {
+    for _read in 0..text.len() {
+        let got = read_more(input, &mut text[done..]);
+        if got == 0 {
             break;
         }
-        done = next;
+        done += got;
     }
     done
 }

@@ -11,13 +11,13 @@ pub struct Writer<'a> {
 }
 
 impl<'a> Writer<'a> {
-    // Behind the first bytes of a buffer.
-    pub fn new(buffer: &'a mut [u8], len: usize) -> Writer<'a>
+    // At the front of a buffer.
+    pub fn new(buffer: &'a mut [u8]) -> Writer<'a>
         ensures same_buffer { result.buffer.ghost_name ≡ buffer.entry.ghost_name }
         ensures content { result.buffer.now ≡ buffer.old }
-        ensures len { result.len ≡ len }
+        ensures front { result.len ≡ 0 }
     {
-        Writer { buffer, len }
+        Writer { buffer, len: 0 }
     }
 
     // Writes src.

@@ -1,17 +1,16 @@
 // Flags: a block with any flag 0 becomes all 0.
-ghost use Rattle.std.specs.Prelude.{◌≡◌, ◌+◌, ◌-◌, ◌*◌, ◌≤◌, length, pos};
+ghost use Rattle.std.specs.Prelude.{◌≡◌, ◌*◌, ◌≤◌, length, pos};
 ghost use Rattle.averaging_flags.specs.Flags.{row_has_zero, flag_in};
 ghost use Rattle.averaging_flags.proofs.FlagLaws.{flag-local};
 ghost use Rattle.averaging_walk.specs.Parts.{LiesIn, part_of, part_has_zero};
 
 use crate::kernel::block::{Averaged, Block};
 
-// Whether one of n flags from `from` on is 0.
-fn row_has_zero(m: &[i8], from: usize, n: usize) -> bool
-    requires { from + n ≤ length m.now }
-    ensures { result ≡ row_has_zero m.now from n }
+// Whether one of a row's flags is 0.
+fn row_has_zero(row: &[i8]) -> bool
+    ensures { result ≡ row_has_zero row.now 0 (length row.now) }
 {
-    m[from..from + n].contains(&0)
+    row.contains(&0)
 }
 
 // Whether one of a block's flags is 0.
@@ -21,7 +20,7 @@ fn block_has_zero(m: &[i8], n: usize, block: Block) -> bool
     ensures { result ≡ part_has_zero n block m.now }
 {
     for r in block.top..block.bottom {
-        if row_has_zero(m, r * n + block.left, block.right - block.left) {
+        if row_has_zero(&m[r * n + block.left..r * n + block.right]) {
             return true;
         }
     }

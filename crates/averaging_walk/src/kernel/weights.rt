@@ -1,5 +1,5 @@
 // Weights: the mean of each block of more than one entry.
-ghost use Rattle.std.specs.Prelude.{◌≡◌, ◌+◌, ◌-◌, ◌*◌, ◌≤◌, length};
+ghost use Rattle.std.specs.Prelude.{◌≡◌, ◌*◌, ◌≤◌, length};
 ghost use Rattle.std.specs.Float.{nan};
 ghost use Rattle.ieee_laws.specs.Zeros.{plus_zero};
 ghost use Rattle.averaging_blocks.specs.Weights.{row_sum, averaged_in};
@@ -8,13 +8,12 @@ ghost use Rattle.averaging_walk.specs.Parts.{LiesIn, part_of, part_sum};
 
 use crate::kernel::block::{Averaged, Block};
 
-// The sum of n weights from `from` on, left to right.
-fn row_sum(m: &[f64], from: usize, n: usize) -> f64
-    requires { from + n ≤ length m.now }
-    ensures { result ≡ row_sum plus_zero m.now from n }
+// The sum of a row's weights, left to right.
+fn row_sum(row: &[f64]) -> f64
+    ensures { result ≡ row_sum plus_zero row.now 0 (length row.now) }
 {
     let mut sum = 0.0;
-    for weight in &m[from..from + n] {
+    for weight in row {
         sum = sum + *weight;
     }
     sum
@@ -28,7 +27,7 @@ fn block_sum(m: &[f64], n: usize, block: Block) -> f64
 {
     let mut sum = 0.0;
     for r in block.top..block.bottom {
-        sum = sum + row_sum(m, r * n + block.left, block.right - block.left);
+        sum = sum + row_sum(&m[r * n + block.left..r * n + block.right]);
     }
     sum
 }

@@ -49,7 +49,14 @@ fill_neighbours-requires c =
     let s : _ = (goal.at.fill_neighbours-requires c).Start in
     let no : first_no (others s) ≡ 0 = (given-is _ _ tt (rw (to_z-of_z w64 c.args.grid_point c.ranges.grid_point, c.in_ok-ask_point.was) at c.ask_point.ensures)).0 in
     let y : AllYes (others s) = all_yes (others s) (omega arith, (omega arith, (omega arith, tt))) no in
-    rw c.new-tested.ensures.1.0 (steps-triples c.args.relative_grid_address.now y.0, (rw (rw (to_z-of_z w64 c.args.grid_point c.ranges.grid_point) at c.magnitude-g.ensures) (below-lt c.args.grid_point (triples_in c.args.grid.addresses.now) y.1.0), eqb-true (length c.args.out.now) (triples_in c.args.relative_grid_address.now) y.1.1.0))
+    rw c.new-tested.ensures.1.0 (rw (rw (to_z-of_z w64 c.args.grid_point c.ranges.grid_point) at c.magnitude-g.ensures) (below-lt c.args.grid_point (triples_in c.args.grid.addresses.now) y.1.0), eqb-true (length c.args.out.now) (triples_in c.args.relative_grid_address.now) y.1.1.0)
+
+pub invariant_of-steps : goal.invariant_of-steps
+invariant_of-steps c =
+    let s : _ = (goal.at.invariant_of-steps c).Start in
+    let no : first_no (others s) ≡ 0 = (given-is _ _ tt (rw (to_z-of_z w64 c.args.grid_point c.ranges.grid_point, c.in_ok-ask_point.was) at c.ask_point.ensures)).0 in
+    let y : AllYes (others s) = all_yes (others s) (omega arith, (omega arith, (omega arith, tt))) no in
+    record { tested = steps-triples c.args.relative_grid_address.now y.0 }
 
 pub returns : goal.returns
 returns c =

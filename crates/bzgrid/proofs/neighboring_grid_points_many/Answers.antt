@@ -45,7 +45,14 @@ fill_many-requires c =
     let s : _ = (goal.at.fill_many-requires c).Start in
     let no : first_no (others s) ≡ 0 = (given-is _ _ tt (rw (c.in_ok-ask_points.was) at c.ask_points.ensures)).0 in
     let y : AllYes (others s) = all_yes (others s) (omega arith, (omega arith, (omega arith, (omega arith, tt)))) no in
-    rw c.new-tested.ensures.1.0 (steps-triples c.args.relative_grid_address.now y.0, (y.1.1.0, product-yes (length c.args.grid_points.now) (triples_in c.args.relative_grid_address.now) (length c.args.out.now) y.1.1.1.0))
+    rw c.new-tested.ensures.1.0 (y.1.1.0, product-yes (length c.args.grid_points.now) (triples_in c.args.relative_grid_address.now) (length c.args.out.now) y.1.1.1.0)
+
+pub invariant_of-steps : goal.invariant_of-steps
+invariant_of-steps c =
+    let s : _ = (goal.at.invariant_of-steps c).Start in
+    let no : first_no (others s) ≡ 0 = (given-is _ _ tt (rw (c.in_ok-ask_points.was) at c.ask_points.ensures)).0 in
+    let y : AllYes (others s) = all_yes (others s) (omega arith, (omega arith, (omega arith, (omega arith, tt)))) no in
+    record { tested = steps-triples c.args.relative_grid_address.now y.0 }
 
 pub returns : goal.returns
 returns c =

@@ -1,11 +1,11 @@
 // A grid that has passed its questions.
-ghost use Rattle.std.specs.Prelude.{◌≡◌, true, ◌<◌};
+ghost use Rattle.std.specs.Prelude.{◌≡◌, ◌<◌};
 ghost use Rattle.ask.specs.Ask.{first_no};
-ghost use Rattle.question_grids.specs.Grids.{are_triples, triples_in, questions_on};
+ghost use Rattle.question_grids.specs.Grids.{triples_in, questions_on};
 ghost use Rattle.bzgrid_lookup.specs.Neighbours.{SoundGrid, grid_of, neighbour_of, wanted_address};
 
 use crate::BzGrid;
-use question_grids::Grid;
+use question_grids::{Grid, Triples};
 
 // A grid that has passed questions 3 to 6.
 #[derive(Clone, Copy)]
@@ -31,11 +31,11 @@ impl<'a> TestedGrid<'a> {
     }
 
     // The number of the neighbour of point g at step j.
-    pub fn neighbour(&self, steps: &[i64], g: usize, j: usize) -> usize
-        requires { (are_triples steps.now ≡ true) × ((g < triples_in self.now.addresses.now) × (j < triples_in steps.now)) }
-        ensures { result ≡ neighbour_of self.now.grid self.now.addresses.now self.now.gp_map.now (wanted_address self.now.addresses.now steps.now g j) }
+    pub fn neighbour(&self, steps: Triples, g: usize, j: usize) -> usize
+        requires { (g < triples_in self.now.addresses.now) × (j < triples_in steps.numbers.now) }
+        ensures { result ≡ neighbour_of self.now.grid self.now.addresses.now self.now.gp_map.now (wanted_address self.now.addresses.now steps.entry.numbers.now g j) }
     {
         let grid = self.grid;
-        crate::kernel::neighbour(grid, self.addresses, self.gp_map, steps, g, j)
+        crate::kernel::neighbour(grid, self.addresses, self.gp_map, steps.numbers, g, j)
     }
 }

@@ -1,18 +1,15 @@
 -- `grid_point_weights::integration_weights_at_grid_points` meets its contract.
 use lib.ListN.{length}
-use lib.Signed.{mag}
-use mathlib.Core.Path.{◌≡◌, ◌∙◌}
+use mathlib.Core.Path.{◌∙◌}
 use mir.Syntax.{w64}
-use mir.Val.{SFits, to_z, of_z}
+use mir.Val.{SFits}
 use mir.ValLaws.{to_z-of_z}
 use Rattle.std.proofs.Common.{rules}
 use Rattle.std.proofs.lemmas.Result.{err_from_is_err_and}
 use Rattle.ask.proofs.AskLaws.{after-done, after-refused}
 use Rattle.ask.proofs.RefusalLaws.{done-is, given-is, refused-not}
-use Rattle.ask.specs.Ask.{first_no}
-use Rattle.bzgrid_lookup.specs.Neighbours.{grid_of}
-use Rattle.grid_point_weights.proofs.CallLaws.{passed}
-use Rattle.grid_point_weights.specs.Calls.{call_of, grid_point_questions}
+use Rattle.grid_point_weights.proofs.CallLaws.{ok_rows, ok_sound, ok_fits}
+use Rattle.grid_point_weights.specs.Calls.{call_of}
 use Rattle.grid_point_weights.proofs.integration_weights_at_grid_points.Goals as goal
 
 pub returns-in_err-ask_weights : goal.returns-in_err-ask_weights
@@ -21,14 +18,23 @@ returns-in_err-ask_weights c =
     let p = err_from_is_err_and c.from_residual.result c.from_residual.ensures.1 in
     (rw (p.1, p.2) g, after-refused _ _ _ (refused-not _ _ tt g))
 
-pub fill_all-requires : goal.fill_all-requires
-fill_all-requires c =
+pub invariant_of-rows : goal.invariant_of-rows
+invariant_of-rows c =
+    record { few = ok_rows (call_of c.args.study c.args.grid_points.now) (length c.args.iw.now) c.ask_weights.ensures c.in_ok-ask_weights.was }
+
+pub invariant_of-tested-clause-sound : goal.invariant_of-tested-clause-sound
+invariant_of-tested-clause-sound c =
     let k : SFits w64 c.args.study.grid.bz_grid_type = search rules in
     let b : SFits w64 c.args.study.num_band = search rules in
     let e : _ = rw (to_z-of_z w64 c.args.study.grid.bz_grid_type k) at c.grid_of.ensures in
     let f : _ = rw (to_z-of_z w64 c.args.study.num_band b) at c.magnitude.ensures in
-    let g : _ = rw c.in_ok-ask_weights.was at c.ask_weights.ensures in
-    rw (e, f) (passed (call_of c.args.study c.args.grid_points.now) (length c.args.iw.now) (given-is _ _ tt g).0)
+    rw (e, f) (ok_sound (call_of c.args.study c.args.grid_points.now) (length c.args.iw.now) c.ask_weights.ensures c.in_ok-ask_weights.was)
+
+pub fill_all-requires : goal.fill_all-requires
+fill_all-requires c =
+    let b : SFits w64 c.args.study.num_band = search rules in
+    let f : _ = rw (to_z-of_z w64 c.args.study.num_band b) at c.magnitude.ensures in
+    rw f (ok_fits (call_of c.args.study c.args.grid_points.now) (length c.args.iw.now) c.ask_weights.ensures c.in_ok-ask_weights.was)
 
 pub returns : goal.returns
 returns c =

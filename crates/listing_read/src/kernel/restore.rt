@@ -11,21 +11,24 @@ use crate::Form;
 use crate::kernel::next_place;
 use listing_line::Place;
 use listing_line::kernel::{flag_at, pass_numbers, weight_at};
+use reading::kernel::Reader;
 
-// Restores the weights of entry number e of `cells`, which stand from an index on.
+// Restores the weights of entry number e of `cells`, which stand where a reader is, and goes behind them.
 fn restore_weights(
-    text: &[u8],
-    at: usize,
+    reader: &mut Reader<'_>,
     weights: &mut [f64],
     cells: usize,
     e: usize,
     channels: usize,
 )
-    requires { (e < cells) × (length weights.old ≡ channels * cells) × (at + 17 * channels ≤ length text.now) }
-    ensures { Replaced nan cells (InColumn channels e) (λ c k. weight_here text.now (at + 17 * c)) weights.old weights.new }
+    requires { (e < cells) × (length weights.old ≡ channels * cells) × (reader.old.at + 17 * channels ≤ length reader.old.text.now) }
+    ensures value { Replaced nan cells (InColumn channels e) (λ c k. weight_here reader.old.text.now (reader.old.at + 17 * c)) weights.old weights.new }
+    ensures at { reader.new.at ≡ reader.old.at + 17 * channels }
+    ensures text { reader.new.text ≡ reader.old.text }
 {
     for c in 0..channels {
-        weights[c * cells + e] = weight_at(text, at + 17 * c);
+        weights[c * cells + e] = weight_at(reader);
+        reader.skip(17);
     }
 }
 
@@ -37,8 +40,8 @@ pub fn restore(text: &[u8], form: Form, weights: &mut [f64], flags: &mut [i8])
     ensures flags_after { flags.new ≡ flags_in form.points form.bands1 form.bands2 form.channels (length flags.old) text.now }
 {
     let cells = flags.len();
-    let channels = form.channels;
-    let mut at = 27;
+    let mut reader = Reader::new(text);
+    reader.skip(27);
     let mut place = Place {
         triplet: 0,
         point: 0,
@@ -46,10 +49,11 @@ pub fn restore(text: &[u8], form: Form, weights: &mut [f64], flags: &mut [i8])
         b2: 0,
     };
     for e in 0..cells {
-        let a = pass_numbers(text, at, place);
-        flags[e] = flag_at(text, a);
-        restore_weights(text, a + 2, weights, cells, e, channels);
-        at = a + 2 + 17 * channels;
+        // they stand there, as the text passed question 22
+        pass_numbers(&mut reader, place);
+        flags[e] = flag_at(&reader);
+        reader.skip(2);
+        restore_weights(&mut reader, weights, cells, e, form.channels);
         place = next_place(place, form);
     }
 }

@@ -1,7 +1,8 @@
 // Questions 3 to 6: the grid kind, the mesh, the addresses and the map.
-ghost use Rattle.std.specs.Prelude.{◌≡◌, ◌+◌, ◌≤◌, ◌<◌, length};
+ghost use Rattle.std.specs.Prelude.{◌≡◌, ◌+◌, ◌<◌, length};
 ghost use Rattle.std.specs.Int.Signed.{lt_z};
-ghost use Rattle.list_laws.specs.Lists.{at};
+ghost use Rattle.list_laws.specs.Lists.{all_below, at};
+ghost use Rattle.list_laws.specs.Signed.{within};
 ghost use Rattle.ask.specs.Ask.{first_no};
 ghost use Rattle.ask.specs.Refusals.{answer_of};
 ghost use Rattle.question_grids.specs.Grids.{is_grid_kind, is_mesh, are_triples, are_addresses, is_place, is_sparse_map, is_dense_map, is_map, grid_questions, questions_on};
@@ -26,20 +27,32 @@ pub fn mesh_ok(top: usize, d_diag: [i64; 3]) -> bool
         & kernel::is_between(1, top, d_diag[2])
 }
 
+// The tests of a whole list are joined by `&`, with no branch between them: `all`, which stops at the first no, costs half as much again where the answer is yes.
+
+// Components within ±4,096.
+fn all_small(xs: &[i64]) -> bool
+    ensures { result ≡ all_below (length xs.now) (λ k. within 4096 (at xs.now k)) }
+{
+    let mut ok = true;
+    for x in xs {
+        ok &= kernel::is_within(4096, *x);
+    }
+    ok
+}
+
 // Whole triples with components within ±4,096.
 pub fn triples_ok(xs: &[i64]) -> bool
     ensures { result ≡ are_triples xs.now }
 {
-    xs.len() % 3 == 0 && xs.iter().all(|&x| kernel::is_within(4096, x))
+    (xs.len() % 3 == 0) & all_small(xs)
 }
 
-// Question 5, of a mesh of `n` points.
+// Question 5, of a mesh of `n` points: p at most 8 n, said by a division, since 8 n could be too large.
 pub fn addresses_ok(n: usize, addresses: &[i64]) -> bool
-    requires { n ≤ 16777216 }
     ensures { result ≡ are_addresses n addresses.now }
 {
     let p = addresses.len() / 3;
-    triples_ok(addresses) & (n <= p) & (p <= 8 * n)
+    triples_ok(addresses) & (n <= p) & ((p + 7) / 8 <= n)
 }
 
 // A value of the map of kind 1, of `p` addresses: one of them, or `missing`.
@@ -49,20 +62,34 @@ fn place_ok(p: usize, missing: usize, v: i64) -> bool
     kernel::is_below(v, p) | kernel::is_nat(v, missing)
 }
 
-// Question 6, kind 1.
-fn sparse_map_ok(n: usize, p: usize, gp_map: &[i64]) -> bool
-    requires { n ≤ 16777216 }
-    ensures { result ≡ is_sparse_map n p gp_map.now }
+// Each is such a value.
+fn all_places(p: usize, missing: usize, values: &[i64]) -> bool
+    ensures { result ≡ all_below (length values.now) (λ k. is_place p missing (at values.now k)) }
 {
-    let missing = 8 * n;
-    missing <= gp_map.len() && gp_map[..missing].iter().all(|&v| place_ok(p, missing, v))
+    let mut ok = true;
+    for v in values {
+        ok &= place_ok(p, missing, *v);
+    }
+    ok
 }
 
-fn rises_at(xs: &[i64], k: usize) -> bool
-    requires { k + 1 < length xs.now }
-    ensures { result ≡ lt_z (at xs.now k) (at xs.now (k + 1)) }
+// Question 6, kind 1.
+fn sparse_map_ok(n: usize, p: usize, gp_map: &[i64]) -> bool
+    ensures { result ≡ is_sparse_map n p gp_map.now }
 {
-    xs[k] < xs[k + 1]
+    n <= gp_map.len() / 8 && all_places(p, 8 * n, &gp_map[..8 * n])
+}
+
+// The first n values are each below the next.
+fn all_rising(xs: &[i64], n: usize) -> bool
+    requires { n < length xs.now }
+    ensures { result ≡ all_below n (λ k. lt_z (at xs.now k) (at xs.now (k + 1))) }
+{
+    let mut ok = true;
+    for k in 0..n {
+        ok &= xs[k] < xs[k + 1];
+    }
+    ok
 }
 
 // Question 6, kind 2.
@@ -70,14 +97,11 @@ fn dense_map_ok(n: usize, p: usize, gp_map: &[i64]) -> bool
     ensures { result ≡ is_dense_map n p gp_map.now }
 {
     n < gp_map.len()
-        && kernel::is_nat(gp_map[0], 0)
-            & kernel::is_nat(gp_map[n], p)
-            & (0..n).all(|k| rises_at(gp_map, k))
+        && kernel::is_nat(gp_map[0], 0) & kernel::is_nat(gp_map[n], p) & all_rising(gp_map, n)
 }
 
 // Question 6.
 pub fn map_ok(bz_grid_type: i64, n: usize, p: usize, gp_map: &[i64]) -> bool
-    requires { n ≤ 16777216 }
     ensures { result ≡ is_map bz_grid_type n p gp_map.now }
 {
     if kernel::is_nat(bz_grid_type, 1) {

@@ -15,5 +15,9 @@ pub fn steps_ok(relative_grid_address: &[i64]) -> bool
 pub fn grid_points_ok(p: usize, grid_points: &[i64]) -> bool
     ensures { result ≡ are_grid_points p grid_points.now }
 {
-    grid_points.iter().all(|&g| kernel::is_below(g, p))
+    let mut ok = true;
+    for g in grid_points {
+        ok &= kernel::is_below(*g, p);
+    }
+    ok
 }

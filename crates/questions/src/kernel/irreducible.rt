@@ -23,7 +23,7 @@ pub fn irreducible_ok(
     ensures { result ≡ are_irreducible num_ir bands p frequencies.now gp2irgp_map.now }
 {
     let r = kernel::magnitude(num_ir);
-    ((kernel::nonneg(num_ir) & (1 <= r))
+    (((0 <= num_ir) & (1 <= r))
         & question_values::kernel::counts::length_ok(r, bands, frequencies.len()))
         & (question_values::kernel::frequencies::frequencies_ok(frequencies)
             & irreducible_map_ok(p, r, gp2irgp_map))

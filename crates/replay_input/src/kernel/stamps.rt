@@ -3,7 +3,7 @@ ghost use Rattle.std.specs.Prelude.{◌≡◌, length};
 ghost use Rattle.list_laws.specs.Lists.{tabulate};
 ghost use Rattle.replay_input.specs.Stamps.{stamp_at, is_stamped, mark_at, is_marked};
 
-use replay_compare::kernel as compare;
+use replay_compare::kernel::Compared;
 
 // No grid point's number and no component of a table here is so large.
 fn stamp_at(place: usize) -> i64
@@ -54,7 +54,7 @@ pub fn is_marked(out: &[f64]) -> bool
 {
     let mut ok = true;
     for i in 0..out.len() {
-        ok &= compare::same_bits(out[i], mark_at(i));
+        ok &= out[i].agrees(mark_at(i));
     }
     ok
 }

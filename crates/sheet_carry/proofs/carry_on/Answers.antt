@@ -16,17 +16,13 @@ use Rattle.sheet_carry.proofs.carry_on.Goals as goal
 
 -- the sheet that the call takes
 abbrev start : Start → Sheet
-start s = sheet s.args.weights.now s.args.flags.now s.args.marks.now s.args.tally.runs
+start s = sheet s.args.sheet.now.weights.now s.args.sheet.now.flags.now s.args.sheet.now.marks.now s.args.tally.runs
 
-pub returns-in_err-tested : goal.returns-in_err-tested
-returns-in_err-tested c =
+pub returns-in_err-tested-clause-did : goal.returns-in_err-tested-clause-did
+returns-in_err-tested-clause-did c =
     let told : _ = rw c.in_err-tested.was at c.ask_common.ensures.asked in
     let p = err_from_is_err_and c.from_residual.result c.from_residual.ensures.1 in
-    rw (p.1, p.2) (common-refused (study_of c.args.study) (start (goal.at.returns-in_err-tested c).Start) (carry c.args.worker) _ told)
-
-pub second_steps-second-requires : goal.second_steps-second-requires
-second_steps-second-requires c =
-    tested-steps c.in_ok-tested.tested
+    rw (p.1, p.2) (common-refused (study_of c.args.study) (start (goal.at.returns-in_err-tested-clause-did c).Start) (carry c.args.worker) _ told)
 
 pub slice_bounds-second-end : goal.slice_bounds-second-end
 slice_bounds-second-end c =
@@ -34,11 +30,11 @@ slice_bounds-second-end c =
 
 pub slice_bounds-prepared-end : goal.slice_bounds-prepared-end
 slice_bounds-prepared-end c =
-    sym (ap length (second-lent c.in_ok-tested.tested.sizes.tp c.in_ok-tested.tested.study.relative_grid_address.now c.second_steps-second.result c.second_steps-second.ensures) ∙ second-length c.in_ok-tested.tested.sizes.tp c.in_ok-tested.tested.study.relative_grid_address.now)
+    sym (ap length (second-lent c.in_ok-tested.tested.sizes.tp c.in_ok-tested.tested.study.relative_grid_address.now c.second_steps-second.result (rw c.steps.ensures at c.second_steps-second.ensures)) ∙ second-length c.in_ok-tested.tested.sizes.tp c.in_ok-tested.tested.study.relative_grid_address.now)
 
 pub invariant_of-prepared : goal.invariant_of-prepared
 invariant_of-prepared c =
-    record { copy = second-lent c.in_ok-tested.tested.sizes.tp c.in_ok-tested.tested.study.relative_grid_address.now c.second_steps-second.result c.second_steps-second.ensures }
+    record { copy = second-lent c.in_ok-tested.tested.sizes.tp c.in_ok-tested.tested.study.relative_grid_address.now c.second_steps-second.result (rw c.steps.ensures at c.second_steps-second.ensures) }
 
 pub carry_asked-requires-clause-common : goal.carry_asked-requires-clause-common
 carry_asked-requires-clause-common c =
@@ -51,8 +47,8 @@ pub carry_asked-requires-clause-kept : goal.carry_asked-requires-clause-kept
 carry_asked-requires-clause-kept c =
     c.new-work.ensures _ _ (omega arith)
 
-pub returns : goal.returns
-returns c =
+pub returns-clause-did : goal.returns-clause-did
+returns-clause-did c =
     let same : c.in_ok-tested.tested.study ≡ c.args.study = rw c.in_ok-tested.was at c.ask_common.ensures.same in
     let did : _ = rw (to_z-of_z w64 c.args.worker c.ranges.worker) at c.carry_asked.ensures.did in
-    tested-did c.in_ok-tested.tested same (start (goal.at.returns c).Start) did
+    tested-did c.in_ok-tested.tested same (start (goal.at.returns-clause-did c).Start) did

@@ -11,6 +11,7 @@ ghost use Rattle.sheet_fill.specs.Piece.{is_open_piece, closed_piece};
 use crate::kernel::run;
 use crate::{PreparedStudy, Work};
 use marks::kernel as mark;
+use triplet_piece::Piece;
 
 // Piece `q`, which is open: its entries are written, and its mark becomes 1.
 fn fill_piece(
@@ -28,18 +29,15 @@ fn fill_piece(
     ensures computes { Computes (study_in prepared.now) (is_open_piece marks.old q) weights flags }
     ensures marks_after { marks.new ≡ closed_piece marks.old q }
 {
-    let sizes = prepared.tested.sizes;
-    let t = q / sizes.pairs;
-    let pair = q % sizes.pairs;
-    run::fill_named(
-        work,
-        weights,
-        flags,
-        prepared,
-        t,
-        pair / sizes.bands2,
-        pair % sizes.bands2,
-    );
+    let pairs = prepared.tested.sizes.pairs;
+    let bands2 = prepared.tested.sizes.bands2;
+    let pair = q % pairs;
+    let piece = Piece {
+        triplet: q / pairs,
+        b1: pair / bands2,
+        b2: pair % bands2,
+    };
+    run::fill_named(work, weights, flags, prepared, piece);
     mark::set_mark(marks, q, mark::COMPUTED);
 }
 

@@ -17,13 +17,13 @@ use Rattle.sheet_run.proofs.run_piece.Goals as goal
 
 -- the sheet that the call takes
 abbrev start : Start → Sheet
-start s = sheet s.args.weights.now s.args.flags.now s.args.marks.now s.args.tally.runs
+start s = sheet s.args.sheet.now.weights.now s.args.sheet.now.flags.now s.args.sheet.now.marks.now s.args.tally.runs
 
-pub returns-in_err-tested : goal.returns-in_err-tested
-returns-in_err-tested c =
+pub returns-in_err-tested-clause-did : goal.returns-in_err-tested-clause-did
+returns-in_err-tested-clause-did c =
     let told : _ = rw c.in_err-tested.was at c.ask_common.ensures.asked in
     let p = err_from_is_err_and c.from_residual.result c.from_residual.ensures.1 in
-    rw (p.1, p.2) (common-refused (study_of c.args.study) (start (goal.at.returns-in_err-tested c).Start) (run c.args.worker c.args.piece.triplet c.args.piece.b1 c.args.piece.b2) _ told)
+    rw (p.1, p.2) (common-refused (study_of c.args.study) (start (goal.at.returns-in_err-tested-clause-did c).Start) (run c.args.worker c.args.piece.triplet c.args.piece.b1 c.args.piece.b2) _ told)
 
 pub ask_run-requires : goal.ask_run-requires
 ask_run-requires c =
@@ -32,18 +32,14 @@ ask_run-requires c =
     let yes : _ = tested-yes c.in_ok-tested.tested same (start (goal.at.ask_run-requires c).Start) (given-is _ _ tt told).0 in
     (long-yes (study_of c.in_ok-tested.tested.study) (start (goal.at.ask_run-requires c).Start) yes c.in_ok-tested.tested.counts).1.1
 
-pub returns-in_err-ask_run : goal.returns-in_err-ask_run
-returns-in_err-ask_run c =
+pub returns-in_err-ask_run-clause-did : goal.returns-in_err-ask_run-clause-did
+returns-in_err-ask_run-clause-did c =
     let same : c.in_ok-tested.tested.study ≡ c.args.study = rw c.in_ok-tested.was at c.ask_common.ensures.same in
     let told : _ = rw c.in_ok-tested.was at c.ask_common.ensures.asked in
-    let yes : _ = tested-yes c.in_ok-tested.tested same (start (goal.at.returns-in_err-ask_run c).Start) (given-is _ _ tt told).0 in
+    let yes : _ = tested-yes c.in_ok-tested.tested same (start (goal.at.returns-in_err-ask_run-clause-did c).Start) (given-is _ _ tt told).0 in
     let own : _ = rw (to_z-of_z w64 c.args.worker c.ranges.worker, c.in_err-ask_run.was) at c.ask_run.ensures in
     let p = err_from_is_err_and c.from_residual-in_err-ask_run.result c.from_residual-in_err-ask_run.ensures.1 in
-    rw (p.1, p.2) (tested-did c.in_ok-tested.tested same (start (goal.at.returns-in_err-ask_run c).Start) (run-no (study_of c.in_ok-tested.tested.study) (start (goal.at.returns-in_err-ask_run c).Start) yes c.in_ok-tested.tested.counts c.args.worker c.args.piece.triplet c.args.piece.b1 c.args.piece.b2 _ own))
-
-pub second_steps-second-requires : goal.second_steps-second-requires
-second_steps-second-requires c =
-    tested-steps c.in_ok-tested.tested
+    rw (p.1, p.2) (tested-did c.in_ok-tested.tested same (start (goal.at.returns-in_err-ask_run-clause-did c).Start) (run-no (study_of c.in_ok-tested.tested.study) (start (goal.at.returns-in_err-ask_run-clause-did c).Start) yes c.in_ok-tested.tested.counts c.args.worker c.args.piece.triplet c.args.piece.b1 c.args.piece.b2 _ own))
 
 pub slice_bounds-second-end : goal.slice_bounds-second-end
 slice_bounds-second-end c =
@@ -51,11 +47,11 @@ slice_bounds-second-end c =
 
 pub slice_bounds-prepared-end : goal.slice_bounds-prepared-end
 slice_bounds-prepared-end c =
-    sym (ap length (second-lent c.in_ok-tested.tested.sizes.tp c.in_ok-tested.tested.study.relative_grid_address.now c.second_steps-second.result c.second_steps-second.ensures) ∙ second-length c.in_ok-tested.tested.sizes.tp c.in_ok-tested.tested.study.relative_grid_address.now)
+    sym (ap length (second-lent c.in_ok-tested.tested.sizes.tp c.in_ok-tested.tested.study.relative_grid_address.now c.second_steps-second.result (rw c.steps.ensures at c.second_steps-second.ensures)) ∙ second-length c.in_ok-tested.tested.sizes.tp c.in_ok-tested.tested.study.relative_grid_address.now)
 
 pub invariant_of-prepared : goal.invariant_of-prepared
 invariant_of-prepared c =
-    record { copy = second-lent c.in_ok-tested.tested.sizes.tp c.in_ok-tested.tested.study.relative_grid_address.now c.second_steps-second.result c.second_steps-second.ensures }
+    record { copy = second-lent c.in_ok-tested.tested.sizes.tp c.in_ok-tested.tested.study.relative_grid_address.now c.second_steps-second.result (rw c.steps.ensures at c.second_steps-second.ensures) }
 
 pub run_accepted-requires-clause-common : goal.run_accepted-requires-clause-common
 run_accepted-requires-clause-common c =
@@ -73,8 +69,8 @@ pub run_accepted-requires-clause-kept : goal.run_accepted-requires-clause-kept
 run_accepted-requires-clause-kept c =
     c.new-work.ensures _ _ (omega arith)
 
-pub returns : goal.returns
-returns c =
+pub returns-clause-did : goal.returns-clause-did
+returns-clause-did c =
     let same : c.in_ok-tested.tested.study ≡ c.args.study = rw c.in_ok-tested.was at c.ask_common.ensures.same in
     let called : _ = rw (to_z-of_z w64 c.args.worker c.ranges.worker) at c.run_accepted.ensures.called in
-    tested-did c.in_ok-tested.tested same (start (goal.at.returns c).Start) (done-did (study_of c.in_ok-tested.tested.study) (start (goal.at.returns c).Start) (run c.args.worker c.args.piece.triplet c.args.piece.b1 c.args.piece.b2) c.run_accepted.result _ _ _ called)
+    tested-did c.in_ok-tested.tested same (start (goal.at.returns-clause-did c).Start) (done-did (study_of c.in_ok-tested.tested.study) (start (goal.at.returns-clause-did c).Start) (run c.args.worker c.args.piece.triplet c.args.piece.b1 c.args.piece.b2) c.run_accepted.result _ _ _ called)

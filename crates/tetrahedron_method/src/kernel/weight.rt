@@ -1,37 +1,20 @@
-// The weight over rows as they are given: a copy of them is put in order first, so that all weights take one way.
-ghost use Rattle.std.specs.Prelude.{◌≡◌, ◌*◌, ◌≤◌, get_or, length};
-ghost use Rattle.std.specs.Float.{nan, binary64};
-ghost use Rattle.std.specs.Float.Ieee.{of_bits};
-ghost use Rattle.list_laws.specs.Lists.{area};
+// The weight over rows as they are given.
+ghost use Rattle.std.specs.Prelude.{◌≡◌, ◌/◌, ◌≤◌, length};
 ghost use Rattle.tetrahedron_method.specs.Weight.{weight_of};
 
 use crate::WeightFunction;
-use crate::kernel::sorted::{sort_rows, sorted_weight};
+use crate::kernel::row::row_weight;
 
-// The first n values of a flat list, at the start of a work area.
-fn copied(omegas: &[f64], n: usize) -> [f64; 384]
-    requires { (n ≤ 384) × (n ≤ length omegas.now) }
-    ensures { result ≡ area 384 n (λ i. get_or omegas.now i nan) (of_bits binary64 0) }
+// The weight at omega over the rows of a flat list, each four values.
+#[tactic(auto, using(crate::proofs::RowLaws::chunk_row), unfolding(crate::specs::Weight::sum_of, crate::specs::Weight::weight_of))]
+pub fn get_integration_weight(function: WeightFunction, omega: f64, omegas: &[f64]) -> f64
+    requires { length omegas.now ≤ 384 }
+    ensures { result ≡ weight_of function omega omegas.now (length omegas.now / 4) }
 {
-    let mut vertices = [0.0; 384];
-    for j in 0..n {
-        vertices[j] = omegas[j];
+    let (rows, _) = omegas.as_chunks::<4>();
+    let mut sum = 0.0;
+    for row in rows {
+        sum = sum + row_weight(function, omega, *row);
     }
-    vertices
-}
-
-// The weight at omega over the first rows of a flat list, each four values.
-pub fn get_integration_weight(
-    function: WeightFunction,
-    omega: f64,
-    omegas: &[f64],
-    rows: usize,
-) -> f64
-    requires { (rows ≤ 96) × (rows * 4 ≤ length omegas.now) }
-    ensures { result ≡ weight_of function omega omegas.now rows }
-{
-    let mut vertices = copied(omegas, rows * 4);
-    let mut places = [0usize; 96];
-    sort_rows(&mut vertices, &mut places, rows);
-    sorted_weight(function, omega, &vertices, &places, rows)
+    sum / (rows.len() as f64 / 4.0)
 }

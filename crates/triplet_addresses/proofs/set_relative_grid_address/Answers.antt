@@ -1,14 +1,12 @@
 -- `triplet_addresses::set_relative_grid_address` meets its contract.
 use Rattle.triplet_addresses.specs.Copies.{copy_questions}
-use Rattle.ask.specs.Ask.{AllYes, first_no, Question}
-use Rattle.ask.proofs.AskLaws.{all_yes, after-done, after-refused}
-use Rattle.ask.proofs.RefusalLaws.{done-is, given-is, refused-is, refused-not}
+use Rattle.ask.specs.Ask.{AllYes, Question}
+use Rattle.ask.proofs.AskLaws.{all_yes}
+use Rattle.ask.proofs.RefusalLaws.{given-is}
 use Rattle.question_grids.proofs.StepLaws.{product-yes}
 use Rattle.question_grids.proofs.TableLaws.{table-triples}
-use Rattle.std.proofs.lemmas.Result.{err_from_is_err_and}
 use mathlib.Core.List.{List}
 use lib.ListN.{length}
-use mathlib.Core.Path.{◌≡◌, refl}
 use mir.Syntax.{w64}
 use mir.ValLaws.{to_z-of_z}
 use native.Mathlib.Omega.{arith}

@@ -2,7 +2,7 @@
 use lib.ListN.{length}
 use mathlib.Core.Path.{ap}
 use native.Mathlib.Omega.{arith}
-use Rattle.answer_weights.proofs.ListedLaws.{listable, listed, wrote_as}
+use Rattle.answer_weights.proofs.ListedLaws.{listable, listed, wrote_front}
 use Rattle.answer_weights.proofs.ReadyLaws.{lengths-yes}
 use Rattle.answer_weights.proofs.kernel.put_weights.Goals as goal
 
@@ -16,8 +16,8 @@ put_listing-requires-clause-counts c =
 
 pub put_listing-requires-clause-room : goal.put_listing-requires-clause-room
 put_listing-requires-clause-room c =
-    omega (arith, c.requires.1, ap length (listed c.requires.0 _ _ c.fill_tested.ensures.0 c.fill_tested.ensures.1))
+    omega (arith, c.requires.1, c.new-writer.ensures.front, ap length c.new-writer.ensures.content, ap length (listed c.requires.0 _ _ c.fill_tested.ensures.0 c.fill_tested.ensures.1))
 
 pub returns : goal.returns
 returns c =
-    wrote_as _ _ _ _ _ c.put_listing.ensures.0 c.put_listing.ensures.1 (listed c.requires.0 _ _ c.fill_tested.ensures.0 c.fill_tested.ensures.1)
+    wrote_front c.new-writer.ensures.front c.new-writer.ensures.content c.put_listing.ensures (listed c.requires.0 _ _ c.fill_tested.ensures.0 c.fill_tested.ensures.1)

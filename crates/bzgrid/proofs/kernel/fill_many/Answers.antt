@@ -18,13 +18,13 @@ use Rattle.bzgrid.proofs.kernel.fill_many.Goals as goal
 
 -- the neighbours of the point at place i
 abbrev filled : Start → ℕ → List ℤ
-filled s i = neighbours_of s.args.grid.grid s.args.grid.addresses.now s.args.grid.gp_map.now s.args.steps.now (mag (at s.args.grid_points.now i))
+filled s i = neighbours_of s.args.grid.grid s.args.grid.addresses.now s.args.grid.gp_map.now s.args.steps.numbers.now (mag (at s.args.grid_points.now i))
 
 -- the part of this point lies within the buffer
-room : (c : In-loop-i) → c.loop-i.start + triples_in c.args.steps.now ≤ length c.loop-i.out
+room : (c : In-loop-i) → c.loop-i.start + triples_in c.args.steps.numbers.now ≤ length c.loop-i.out
 room c =
-    row_room c.loop-i.i (length c.args.grid_points.now) (triples_in c.args.steps.now) c.loop-i.start (length c.loop-i.out) c.loop-i-test.true c.loop-i.invariant.1
-    (c.loop-i.invariant.0 ∙ c.requires.1.1)
+    row_room c.loop-i.i (length c.args.grid_points.now) (triples_in c.args.steps.numbers.now) c.loop-i.start (length c.loop-i.out) c.loop-i-test.true c.loop-i.invariant.1
+    (c.loop-i.invariant.0 ∙ c.requires.1)
 
 pub loop-i-init : goal.loop-i-init
 loop-i-init c =
@@ -33,13 +33,13 @@ loop-i-init c =
 
 pub fill_neighbours-requires : goal.fill_neighbours-requires
 fill_neighbours-requires c =
-    let on-grid = grid-points-at (triples_in c.args.grid.addresses.now) c.args.grid_points.now c.requires.1.0 c.loop-i.i c.loop-i-test.true in
-    (c.requires.0, (rw c.magnitude_at-g.ensures on-grid, part_length c.loop-i.out c.loop-i.start (triples_in c.args.steps.now) (room (goal.at.fill_neighbours-requires c).In-loop-i)))
+    let on-grid = grid-points-at (triples_in c.args.grid.addresses.now) c.args.grid_points.now c.requires.0 c.loop-i.i c.loop-i-test.true in
+    (rw c.magnitude_at-g.ensures on-grid, part_length c.loop-i.out c.loop-i.start (triples_in c.args.steps.numbers.now) (room (goal.at.fill_neighbours-requires c).In-loop-i))
 
 pub loop-i-preserved : goal.loop-i-preserved
 loop-i-preserved c =
     let s : _ = (goal.at.loop-i-preserved c).Start in
-    let size = triples_in c.args.steps.now in (
+    let size = triples_in c.args.steps.numbers.now in (
       same_len_mid c.loop-i.start (c.loop-i.start + size - c.loop-i.start) c.loop-i.out c.fill_neighbours.new.out c.fill_neighbours.auto.out ∙ c.loop-i.invariant.0,
       row_next c.loop-i.i size c.loop-i.start c.loop-i.invariant.1,
       rows_next (filled s) c.loop-i.out c.fill_neighbours.new.out c.loop-i.start size c.loop-i.i (room (goal.at.loop-i-preserved c).In-loop-i)
@@ -52,5 +52,5 @@ returns c =
     let s : _ = (goal.at.returns c).Start in
     let all = length c.args.grid_points.now in
     let e : c.loop-i.i ≡ all = omega arith in
-    let ends = c.loop-i.invariant.1 ∙ ap (λ (n : ℕ). n * triples_in c.args.steps.now) e in
-    rows_end (filled s) c.loop-i.out c.loop-i.start c.loop-i.i all c.loop-i.invariant.2 (c.loop-i.invariant.0 ∙ c.requires.1.1 ∙ sym ends) e
+    let ends = c.loop-i.invariant.1 ∙ ap (λ (n : ℕ). n * triples_in c.args.steps.numbers.now) e in
+    rows_end (filled s) c.loop-i.out c.loop-i.start c.loop-i.i all c.loop-i.invariant.2 (c.loop-i.invariant.0 ∙ c.requires.1 ∙ sym ends) e

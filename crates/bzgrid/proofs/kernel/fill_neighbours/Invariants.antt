@@ -8,4 +8,4 @@ use Rattle.bzgrid.proofs.kernel.fill_neighbours.Given as goal
 
 abbrev pub invariant-loop-j : goal.invariant-loop-j
 invariant-loop-j l =
-    (length l.out ≡ length l.initial.out) × (take l.j l.out ≡ tabulate l.j (λ k. pos (neighbour_of l.grid.grid l.grid.addresses.now l.grid.gp_map.now (wanted_address l.grid.addresses.now l.steps l.g k))))
+    (length l.out ≡ length l.initial.out) × (take l.j l.out ≡ tabulate l.j (λ k. pos (neighbour_of l.grid.grid l.grid.addresses.now l.grid.gp_map.now (wanted_address l.grid.addresses.now l.steps.numbers.now l.g k))))

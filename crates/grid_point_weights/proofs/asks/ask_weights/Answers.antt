@@ -8,6 +8,7 @@ use Rattle.grid_point_weights.specs.Calls.{call_of, points_asked}
 use Rattle.question_grids.specs.Grids.{questions_on}
 use Rattle.std.proofs.lemmas.Result.{err_from_is_err_and}
 use Prim.Native.Nat.{ℕ}
+use lib.ListN.{length}
 use mathlib.Core.List.{List}
 use mathlib.Core.Path.{ap, sym, ◌∙◌}
 use Rattle.grid_point_weights.proofs.asks.ask_weights.Goals.{Start}
@@ -15,7 +16,7 @@ use Rattle.grid_point_weights.proofs.asks.ask_weights.Goals as goal
 
 -- the questions after those on the grid
 abbrev others : Start → List Question
-others s = points_asked (call_of s.args.study s.args.grid_points.now) s.args.iw_len
+others s = points_asked (call_of s.args.study s.args.grid_points.now) (length s.args.iw.now)
 
 pub returns-in_err-ask_grid : goal.returns-in_err-ask_grid
 returns-in_err-ask_grid c =

@@ -1,5 +1,5 @@
 -- `grid_point_weights::band::vertex_frequencies` meets its contract.
-use Prim.Native.Nat.{◌-◌, ◌≤◌}
+use Prim.Native.Nat.{◌*◌, ◌≤◌}
 use lib.Ieee.{binary64, of_bits}
 use mathlib.Core.Path.{◌≡◌}
 use Rattle.grid_point_weights.specs.Weights.{corner_frequency}
@@ -8,4 +8,4 @@ use Rattle.grid_point_weights.proofs.band.vertex_frequencies.Given as goal
 
 abbrev pub invariant-loop-j : goal.invariant-loop-j
 invariant-loop-j l =
-    (l.j ≤ l.n) × (l.vertices ≡ area 384 l.j (corner_frequency l.corners l.frequencies l.bands l.band) (of_bits binary64 0))
+    (l.j ≤ l.fn.study.rows.count * 4) × (l.vertices ≡ area 384 l.j (corner_frequency l.corners l.frequencies l.bands l.band) (of_bits binary64 0))

@@ -24,20 +24,20 @@ loop-j-init c =
 
 pub neighbour-v-requires : goal.neighbour-v-requires
 neighbour-v-requires c =
-    (c.requires.0.sound-grid, (table-triples c.args.study.now.lent.relative_grid_address.now c.requires.0.tabled, (c.requires.1, c.loop-j-test.true)))
+    (c.args.study.now.sound.sound-grid, (table-triples c.args.study.now.lent.relative_grid_address.now c.args.study.now.sound.tabled, (c.requires, c.loop-j-test.true)))
 
 pub bounds-corners-j : goal.bounds-corners-j
 bounds-corners-j c =
     let table = c.args.study.now.lent.relative_grid_address.now in
-    omega (arith, corners-whole table c.requires.0.tabled, rows-most table c.requires.0.tabled)
+    omega (arith, corners-whole table c.args.study.now.sound.tabled, rows-most table c.args.study.now.sound.tabled)
 
 pub magnitude_at-requires : goal.magnitude_at-requires
 magnitude_at-requires c =
     let t : GridStudy = tested_study c.args.study.now in
-    omega (arith, c.neighbour-v.ensures, neighbour-lt t.grid t.addresses t.gp-map c.requires.0.sound-grid (wanted_address t.addresses t.table c.args.gp c.loop-j.j), c.requires.0.mapped)
+    omega (arith, c.neighbour-v.ensures, neighbour-lt t.grid t.addresses t.gp-map c.args.study.now.sound.sound-grid (wanted_address t.addresses t.table c.args.gp c.loop-j.j), c.args.study.now.sound.mapped)
 
 pub loop-j-preserved : goal.loop-j-preserved
 loop-j-preserved c =
     let table = c.args.study.now.lent.relative_grid_address.now in
-    let few : c.loop-j.j < 384 = omega (arith, corners-whole table c.requires.0.tabled, rows-most table c.requires.0.tabled) in
+    let few : c.loop-j.j < 384 = omega (arith, corners-whole table c.args.study.now.sound.tabled, rows-most table c.args.study.now.sound.tabled) in
     (omega arith, rw c.loop-j.invariant.1 (area-next 384 (corner (goal.at.loop-j-preserved c).Start) 0 c.loop-j.j _ few (c.magnitude_at.ensures ∙ ap (λ (k : ℕ). mag (at c.args.study.now.lent.gp2irgp_map.now k)) c.neighbour-v.ensures)))

@@ -1,5 +1,5 @@
 -- `grid_point_weights::fill::fill_all` meets its contract.
-use Prim.Native.Nat.{◌*◌, ◌+◌, ◌-◌, ◌≤◌, ℕ}
+use Prim.Native.Nat.{◌*◌, ◌+◌, ◌≤◌, ℕ}
 use lib.Ieee.{Float}
 use lib.ListN.{length}
 use lib.Signed.{mag}
@@ -28,18 +28,15 @@ size_of s = length s.args.study.now.lent.frequency_points.now * s.args.study.now
 -- the part of this grid point lies within the buffer
 room : (c : In-loop-i) → c.loop-i.i * (length c.args.study.now.lent.frequency_points.now * c.args.study.now.bands) + (length c.args.study.now.lent.frequency_points.now * c.args.study.now.bands) ≤ length c.loop-i.iw
 room c =
-    row_room c.loop-i.i (length c.args.grid_points.now) (length c.args.study.now.lent.frequency_points.now * c.args.study.now.bands) _ (length c.loop-i.iw) c.loop-i-test.true refl (c.loop-i.invariant.1 ∙ c.requires.1.1)
+    row_room c.loop-i.i (length c.args.grid_points.now) (length c.args.study.now.lent.frequency_points.now * c.args.study.now.bands) _ (length c.loop-i.iw) c.loop-i-test.true refl (c.loop-i.invariant.1 ∙ c.requires.1)
 
 pub loop-i-init : goal.loop-i-init
 loop-i-init c = (omega arith, refl, rw (zero-mul (size_of (goal.at.loop-i-init c).Start)) (rows_none (filled (goal.at.loop-i-init c).Start) c.args.iw.now))
 
-pub overflow_mul-start : goal.overflow_mul-start
-overflow_mul-start c = omega (arith, room (goal.at.overflow_mul-start c).In-loop-i)
-
 pub fill_point-requires : goal.fill_point-requires
 fill_point-requires c =
-    let on-grid = grid-points-at (triples_in c.args.study.now.lent.grid.addresses.now) c.args.grid_points.now c.requires.1.0 c.loop-i.i c.loop-i-test.true in
-    (c.requires.0, (rw c.magnitude_at-gp.ensures on-grid, part_length c.loop-i.iw (c.loop-i.i * size_of (goal.at.fill_point-requires c).Start) (size_of (goal.at.fill_point-requires c).Start) (room (goal.at.fill_point-requires c).In-loop-i)))
+    let on-grid = grid-points-at (triples_in c.args.study.now.lent.grid.addresses.now) c.args.grid_points.now c.requires.0 c.loop-i.i c.loop-i-test.true in
+    (rw c.magnitude_at-gp.ensures on-grid, part_length c.loop-i.iw (c.loop-i.i * size_of (goal.at.fill_point-requires c).Start) (size_of (goal.at.fill_point-requires c).Start) (room (goal.at.fill_point-requires c).In-loop-i))
 
 pub loop-i-preserved : goal.loop-i-preserved
 loop-i-preserved c =
@@ -52,4 +49,4 @@ unfolding weights_of_all
 returns c =
     let all = length c.args.grid_points.now in
     let e : c.loop-i.i ≡ all = omega arith in
-    rows_end (filled (goal.at.returns c).Start) c.loop-i.iw (c.loop-i.i * size_of (goal.at.returns c).Start) c.loop-i.i all c.loop-i.invariant.2 (c.loop-i.invariant.1 ∙ c.requires.1.1 ∙ ap (λ (n : ℕ). n * size_of (goal.at.returns c).Start) (sym e)) e
+    rows_end (filled (goal.at.returns c).Start) c.loop-i.iw (c.loop-i.i * size_of (goal.at.returns c).Start) c.loop-i.i all c.loop-i.invariant.2 (c.loop-i.invariant.1 ∙ c.requires.1 ∙ ap (λ (n : ℕ). n * size_of (goal.at.returns c).Start) (sym e)) e

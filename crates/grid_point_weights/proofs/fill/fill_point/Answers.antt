@@ -3,14 +3,13 @@ use mathlib.Core.Path.{◌∙◌, ◌≡◌}
 use native.Mathlib.Omega.{arith}
 use Rattle.grid_point_weights.proofs.WeightLaws.{corners-held, weights-all}
 use Rattle.grid_point_weights.specs.Calls.{tested_study}
-use Rattle.question_grids.proofs.TableLaws.{rows-most}
 use Rattle.grid_point_weights.proofs.fill.fill_point.Goals as goal
 
 pub fill_band-requires : goal.fill_band-requires
 fill_band-requires c =
-    (rows-most c.args.study.now.lent.relative_grid_address.now c.requires.0.tabled, (c.loop-band-test.true, (rw c.corner_points-corners.ensures (corners-held (tested_study c.args.study.now) c.requires.0 c.args.gp c.loop-band.band c.loop-band-test.true), c.loop-band.invariant.1.same_length ∙ c.requires.1.1)))
+    (c.loop-band-test.true, (rw (c.corner_points-corners.ensures, c.args.study.now.counted) (corners-held (tested_study c.args.study.now) c.args.study.now.sound c.args.gp c.loop-band.band c.loop-band-test.true), c.loop-band.invariant.1.same_length ∙ c.requires.1))
 
 pub returns : goal.returns
 returns c =
     let e : c.loop-band.band ≡ c.args.study.now.bands = omega arith in
-    weights-all (tested_study c.args.study.now) c.requires.0 c.args.gp c.args.iw.now c.loop-band.iw c.requires.1.1 (rw (c.corner_points-corners.ensures, e) at c.loop-band.invariant.1)
+    weights-all (tested_study c.args.study.now) c.args.study.now.sound c.args.gp c.args.iw.now c.loop-band.iw c.requires.1 (rw (c.corner_points-corners.ensures, e, c.args.study.now.counted) at c.loop-band.invariant.1)

@@ -1,13 +1,9 @@
 -- `listing_line::kernel::pass_weights` meets its contract.
-use Prim.Native.Nat.{◌+◌, ◌*◌, ◌≤◌}
-use lib.ListN.{length}
-use mathlib.Core.Path.{◌≡◌}
 use Rattle.list_laws.specs.Lists.{rows}
-use Rattle.listing.specs.Listings.{weight_end, weight_text}
-use Rattle.reading.specs.Passed.{passed}
-use Rattle.listing_line.specs.Lines.{weight_here}
+use Rattle.std.specs.Prelude.{Some}
+use Rattle.reading.specs.Passes.{Passes}
+use Rattle.listing_line.proofs.LineLaws.{weight_there}
 use Rattle.listing_line.proofs.kernel.pass_weights.Given as goal
 
 abbrev pub invariant-loop-c : goal.invariant-loop-c
-invariant-loop-c l =
-    (l.p ≤ length l.text + 1) × (l.p ≡ passed (rows l.c (λ k. weight_text (weight_here l.text (l.at + 17 * k)) (weight_end l.channels k))) l.at l.text)
+invariant-loop-c l = Passes (rows l.c (weight_there l.channels l.initial.reader.text.now l.initial.reader.at)) l.initial.reader l.reader (Some (tt {0}))

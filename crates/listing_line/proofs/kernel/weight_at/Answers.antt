@@ -11,10 +11,10 @@ use Rattle.listing_line.proofs.kernel.weight_at.Goals.{After-parse_bits}
 use Rattle.listing_line.proofs.kernel.weight_at.Goals as goal
 
 -- what was read is the weight
-read : (c : After-parse_bits) → float_of c.parse_bits.result ≡ weight_here c.args.text.now c.args.at
+read : (c : After-parse_bits) → float_of c.parse_bits.result ≡ weight_here c.args.reader.now.text.now c.args.reader.now.at
 read c =
-    let q : c.args.at + 16 - c.args.at ≡ 16 = omega arith in
-    weight_is c.args.text.now c.args.at 0 c.parse_bits.result (c.parse_bits.ensures ∙ ap (λ (k : ℕ). bits (take k (drop c.args.at c.args.text.now))) q)
+    let q : c.args.reader.now.at + 16 - c.args.reader.now.at ≡ 16 = omega arith in
+    weight_is c.args.reader.now.text.now c.args.reader.now.at 0 c.parse_bits.result (c.parse_bits.ensures ∙ ap (λ (k : ℕ). bits (take k (drop c.args.reader.now.at c.args.reader.now.text.now))) q)
 
 pub returns-in-Some : goal.returns-in-Some
 returns-in-Some c =

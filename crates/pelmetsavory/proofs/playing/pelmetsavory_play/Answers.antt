@@ -1,7 +1,8 @@
 -- `pelmetsavory::playing::pelmetsavory_play` meets its contract.
+use borrow.Author.Rules.{rules}
 use Rattle.pelmetsavory.proofs.SheetLaws.{called-play}
 use Rattle.pelmetsavory.proofs.playing.pelmetsavory_play.Goals as goal
 
 pub returns : goal.returns
 returns c =
-    called-play _ _ _ _ _ _ _ _ c.play-done.result _ _ _ _ _ _ _ c.play-done.ensures c.new-said.ensures.tally _ c.new-said.ensures.number
+    called-play _ _ _ _ _ _ _ _ c.play-done.result _ _ _ _ _ _ _ c.play-done.ensures.did c.settle-status.ensures.tally _ c.settle-status.ensures.number (search rules) (search rules) (search rules)

@@ -1,5 +1,4 @@
 -- `sheet_average::kernel::average_weights` meets its contract.
-use Prim.Native.Nat.{◌-◌, ◌≤◌}
 use lib.Ieee.{nan}
 use mathlib.Core.Path.{◌≡◌}
 use Rattle.list_laws.proofs.GroupLaws.{some_groups}
@@ -8,8 +7,4 @@ use Rattle.sheet_average.proofs.kernel.average_weights.Given as goal
 
 abbrev pub invariant-loop-c : goal.invariant-loop-c
 invariant-loop-c l =
-    (l.c ≤ l.z.channels) × (l.weights ≡ some_groups l.z.points l.z.pairs (averaged l.z.bands1 l.degenerate_ids1 l.degenerate_ids2) nan l.z.triplets l.t l.c l.initial.weights)
-
-abbrev pub decreases-loop-c : goal.decreases-loop-c
-decreases-loop-c l =
-    l.z.channels - l.c
+    l.weights ≡ some_groups l.fn.z.points l.fn.z.pairs (averaged l.fn.z.bands1 l.degenerate_ids1 l.degenerate_ids2) nan l.fn.z.triplets l.t l.c l.initial.weights

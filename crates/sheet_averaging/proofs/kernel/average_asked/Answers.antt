@@ -1,6 +1,6 @@
 -- `sheet_averaging::kernel::average_asked` meets its contract.
 use lib.Signed.{mag}
-use mathlib.Core.Path.{◌∙◌, ◌≡◌, ap, sym}
+use mathlib.Core.Path.{◌∙◌, ap}
 use mir.Syntax.{w64}
 use mir.ValLaws.{to_z-of_z}
 use Rattle.std.proofs.lemmas.Result.{err_from_is_err_and}
@@ -15,51 +15,57 @@ use Rattle.sheet_averaging.proofs.kernel.average_asked.Goals.{Start}
 use Rattle.sheet_averaging.proofs.kernel.average_asked.Goals as goal
 
 abbrev start : Start → Sheet
-start s = sheet s.args.weights.now s.args.flags.now s.args.marks.now s.args.tally.runs
+start s = sheet s.args.sheet.now.weights.now s.args.sheet.now.flags.now s.args.sheet.now.marks.now s.args.tally.runs
 
 pub ask_average-requires : goal.ask_average-requires
 ask_average-requires c =
     let l = long-yes (study_of c.args.tested.now.study) (start (goal.at.ask_average-requires c).Start) c.requires c.args.tested.now.counts in
     (l.0, l.1.1)
 
-pub returns-in_err-ask_average : goal.returns-in_err-ask_average
-returns-in_err-ask_average c =
+pub returns-in_err-ask_average-clause-did : goal.returns-in_err-ask_average-clause-did
+returns-in_err-ask_average-clause-did c =
     let told : _ = rw (to_z-of_z w64 c.args.triplet c.ranges.triplet, c.in_err-ask_average.was) at c.ask_average.ensures in
     let p = err_from_is_err_and c.from_residual.result c.from_residual.ensures.1 in
-    rw (p.1, p.2) (average-refused (study_of c.args.tested.now.study) (start (goal.at.returns-in_err-ask_average c).Start) c.requires c.args.tested.now.counts c.args.triplet c.args.ids1.now c.args.ids2.now _ told)
+    rw (p.1, p.2) (average-refused (study_of c.args.tested.now.study) (start (goal.at.returns-in_err-ask_average-clause-did c).Start) c.requires c.args.tested.now.counts c.args.triplet c.args.ids1.now c.args.ids2.now _ told)
 
 pub average_weights-requires-clause-counted : goal.average_weights-requires-clause-counted
-average_weights-requires-clause-counted c =
-    let told : _ = rw (to_z-of_z w64 c.args.triplet c.ranges.triplet, c.in_ok-ask_average.was) at c.ask_average.ensures in
-    let e = (given-is _ _ tt told).0 in
-    let nt = c.magnitude-t.ensures ∙ ap mag (to_z-of_z w64 c.args.triplet c.ranges.triplet) in
-    let n = average-on (study_of c.args.tested.now.study) (start (goal.at.average_weights-requires-clause-counted c).Start) c.requires c.args.tested.now.counts c.args.triplet c.args.ids1.now c.args.ids2.now e c.magnitude-t.result nt in
-    (tested-counted c.args.tested.now, n.0)
-
-pub average_weights-requires-clause-weights_len : goal.average_weights-requires-clause-weights_len
-average_weights-requires-clause-weights_len c =
-    let told : _ = rw (to_z-of_z w64 c.args.triplet c.ranges.triplet, c.in_ok-ask_average.was) at c.ask_average.ensures in
-    let e = (given-is _ _ tt told).0 in
-    let nt = c.magnitude-t.ensures ∙ ap mag (to_z-of_z w64 c.args.triplet c.ranges.triplet) in
-    let n = average-on (study_of c.args.tested.now.study) (start (goal.at.average_weights-requires-clause-weights_len c).Start) c.requires c.args.tested.now.counts c.args.triplet c.args.ids1.now c.args.ids2.now e c.magnitude-t.result nt in
-    let l = long-yes (study_of c.args.tested.now.study) (start (goal.at.average_weights-requires-clause-weights_len c).Start) c.requires c.args.tested.now.counts in
-    (l.0, n.1)
+average_weights-requires-clause-counted c = tested-counted c.args.tested.now
 
 pub average_flags-requires-clause-counted : goal.average_flags-requires-clause-counted
-average_flags-requires-clause-counted c =
-    let told : _ = rw (to_z-of_z w64 c.args.triplet c.ranges.triplet, c.in_ok-ask_average.was) at c.ask_average.ensures in
-    let e = (given-is _ _ tt told).0 in
-    let nt = c.magnitude-t.ensures ∙ ap mag (to_z-of_z w64 c.args.triplet c.ranges.triplet) in
-    let n = average-on (study_of c.args.tested.now.study) (start (goal.at.average_flags-requires-clause-counted c).Start) c.requires c.args.tested.now.counts c.args.triplet c.args.ids1.now c.args.ids2.now e c.magnitude-t.result nt in
-    (tested-counted c.args.tested.now, n.0)
+average_flags-requires-clause-counted c = tested-counted c.args.tested.now
 
-pub average_flags-requires-clause-flags_len : goal.average_flags-requires-clause-flags_len
-average_flags-requires-clause-flags_len c =
+pub average_weights-requires-clause-on_sheet : goal.average_weights-requires-clause-on_sheet
+average_weights-requires-clause-on_sheet c =
     let told : _ = rw (to_z-of_z w64 c.args.triplet c.ranges.triplet, c.in_ok-ask_average.was) at c.ask_average.ensures in
     let e = (given-is _ _ tt told).0 in
     let nt = c.magnitude-t.ensures ∙ ap mag (to_z-of_z w64 c.args.triplet c.ranges.triplet) in
-    let n = average-on (study_of c.args.tested.now.study) (start (goal.at.average_flags-requires-clause-flags_len c).Start) c.requires c.args.tested.now.counts c.args.triplet c.args.ids1.now c.args.ids2.now e c.magnitude-t.result nt in
-    let l = long-yes (study_of c.args.tested.now.study) (start (goal.at.average_flags-requires-clause-flags_len c).Start) c.requires c.args.tested.now.counts in
+    let n = average-on (study_of c.args.tested.now.study) (start (goal.at.average_weights-requires-clause-on_sheet c).Start) c.requires c.args.tested.now.counts c.args.triplet c.args.ids1.now c.args.ids2.now e c.magnitude-t.result nt in
+    n.0
+
+pub average_weights-requires-clause-lengths : goal.average_weights-requires-clause-lengths
+average_weights-requires-clause-lengths c =
+    let told : _ = rw (to_z-of_z w64 c.args.triplet c.ranges.triplet, c.in_ok-ask_average.was) at c.ask_average.ensures in
+    let e = (given-is _ _ tt told).0 in
+    let nt = c.magnitude-t.ensures ∙ ap mag (to_z-of_z w64 c.args.triplet c.ranges.triplet) in
+    let n = average-on (study_of c.args.tested.now.study) (start (goal.at.average_weights-requires-clause-lengths c).Start) c.requires c.args.tested.now.counts c.args.triplet c.args.ids1.now c.args.ids2.now e c.magnitude-t.result nt in
+    let l = long-yes (study_of c.args.tested.now.study) (start (goal.at.average_weights-requires-clause-lengths c).Start) c.requires c.args.tested.now.counts in
+    (l.0, n.1)
+
+pub average_flags-requires-clause-on_sheet : goal.average_flags-requires-clause-on_sheet
+average_flags-requires-clause-on_sheet c =
+    let told : _ = rw (to_z-of_z w64 c.args.triplet c.ranges.triplet, c.in_ok-ask_average.was) at c.ask_average.ensures in
+    let e = (given-is _ _ tt told).0 in
+    let nt = c.magnitude-t.ensures ∙ ap mag (to_z-of_z w64 c.args.triplet c.ranges.triplet) in
+    let n = average-on (study_of c.args.tested.now.study) (start (goal.at.average_flags-requires-clause-on_sheet c).Start) c.requires c.args.tested.now.counts c.args.triplet c.args.ids1.now c.args.ids2.now e c.magnitude-t.result nt in
+    n.0
+
+pub average_flags-requires-clause-lengths : goal.average_flags-requires-clause-lengths
+average_flags-requires-clause-lengths c =
+    let told : _ = rw (to_z-of_z w64 c.args.triplet c.ranges.triplet, c.in_ok-ask_average.was) at c.ask_average.ensures in
+    let e = (given-is _ _ tt told).0 in
+    let nt = c.magnitude-t.ensures ∙ ap mag (to_z-of_z w64 c.args.triplet c.ranges.triplet) in
+    let n = average-on (study_of c.args.tested.now.study) (start (goal.at.average_flags-requires-clause-lengths c).Start) c.requires c.args.tested.now.counts c.args.triplet c.args.ids1.now c.args.ids2.now e c.magnitude-t.result nt in
+    let l = long-yes (study_of c.args.tested.now.study) (start (goal.at.average_flags-requires-clause-lengths c).Start) c.requires c.args.tested.now.counts in
     (l.1.0, n.1)
 
 pub average_marks-requires : goal.average_marks-requires
@@ -69,10 +75,10 @@ average_marks-requires c =
     let nt = c.magnitude-t.ensures ∙ ap mag (to_z-of_z w64 c.args.triplet c.ranges.triplet) in
     ((tested-counted c.args.tested.now).pairs-some, average-place (study_of c.args.tested.now.study) (start (goal.at.average_marks-requires c).Start) c.requires c.args.tested.now.counts c.args.triplet c.args.ids1.now c.args.ids2.now e c.magnitude-t.result nt)
 
-pub returns : goal.returns
-returns c =
+pub returns-clause-did : goal.returns-clause-did
+returns-clause-did c =
     let told : _ = rw (to_z-of_z w64 c.args.triplet c.ranges.triplet, c.in_ok-ask_average.was) at c.ask_average.ensures in
     let e = (given-is _ _ tt told).0 in
     let nt = c.magnitude-t.ensures ∙ ap mag (to_z-of_z w64 c.args.triplet c.ranges.triplet) in
-    done-did (study_of c.args.tested.now.study) (start (goal.at.returns c).Start) (average c.args.triplet c.args.ids1.now c.args.ids2.now) c.args.tally _ _ _
-    (average-done (study_of c.args.tested.now.study) (start (goal.at.returns c).Start) c.requires c.args.tested.now.counts c.args.triplet c.args.ids1.now c.args.ids2.now e c.magnitude-t.result nt c.average_weights.ensures c.average_flags.ensures c.average_marks.ensures)
+    done-did (study_of c.args.tested.now.study) (start (goal.at.returns-clause-did c).Start) (average c.args.triplet c.args.ids1.now c.args.ids2.now) c.args.tally _ _ _
+    (average-done (study_of c.args.tested.now.study) (start (goal.at.returns-clause-did c).Start) c.requires c.args.tested.now.counts c.args.triplet c.args.ids1.now c.args.ids2.now e c.magnitude-t.result nt c.average_weights.ensures c.average_flags.ensures c.average_marks.ensures)

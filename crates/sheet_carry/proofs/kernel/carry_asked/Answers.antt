@@ -15,19 +15,19 @@ use Rattle.sheet_carry.proofs.kernel.carry_asked.Goals as goal
 
 -- the sheet that the call takes
 abbrev start : Start → Sheet
-start s = sheet s.args.weights.now s.args.flags.now s.args.marks.now s.args.tally.runs
+start s = sheet s.args.sheet.now.weights.now s.args.sheet.now.flags.now s.args.sheet.now.marks.now s.args.tally.runs
 
 pub overflow_mul-pieces : goal.overflow_mul-pieces
 overflow_mul-pieces c =
-    omega (arith, held-few (pieces_of c.args.prepared.now.tested.sizes) c.args.marks.now (long-yes (study_in c.args.prepared.now) (start (goal.at.overflow_mul-pieces c).Start) c.requires.common c.args.prepared.now.tested.counts).1.1)
+    omega (arith, held-few (pieces_of c.args.prepared.now.tested.sizes) c.args.sheet.now.marks.now (long-yes (study_in c.args.prepared.now) (start (goal.at.overflow_mul-pieces c).Start) c.requires.common c.args.prepared.now.tested.counts).1.1)
 
 pub open_pieces-count-requires : goal.open_pieces-count-requires
 open_pieces-count-requires c =
-    (long-yes (study_in c.args.prepared.now) (start (goal.at.open_pieces-count-requires c).Start) c.requires.common c.args.prepared.now.tested.counts).1.1
+    rw c.marks.ensures (long-yes (study_in c.args.prepared.now) (start (goal.at.open_pieces-count-requires c).Start) c.requires.common c.args.prepared.now.tested.counts).1.1
 
 pub returns-in_err-added-clause-did : goal.returns-in_err-added-clause-did
 returns-in_err-added-clause-did c =
-    let told : _ = rw (to_z-of_z w64 c.args.worker c.ranges.worker, c.open_pieces-count.ensures, c.in_err-added.was) at c.add.ensures in
+    let told : _ = rw (to_z-of_z w64 c.args.worker c.ranges.worker, c.open_pieces-count.ensures, c.marks.ensures, c.in_err-added.was) at c.add.ensures in
     let p = err_from_is_err_and c.from_residual.result c.from_residual.ensures.1 in
     rw (p.1, p.2) (carry-full (study_in c.args.prepared.now) (start (goal.at.returns-in_err-added-clause-did c).Start) c.requires.common c.args.prepared.now.tested.counts c.args.worker _ told)
 
@@ -39,5 +39,5 @@ fill_open-requires-clause-held c = (long-yes (study_in c.args.prepared.now) (sta
 
 pub returns-clause-did : goal.returns-clause-did
 returns-clause-did c =
-    let told : _ = rw (to_z-of_z w64 c.args.worker c.ranges.worker, c.open_pieces-count.ensures, c.in_ok-added.was) at c.add.ensures in
+    let told : _ = rw (to_z-of_z w64 c.args.worker c.ranges.worker, c.open_pieces-count.ensures, c.marks.ensures, c.in_ok-added.was) at c.add.ensures in
     carry-done (study_in c.args.prepared.now) (start (goal.at.returns-clause-did c).Start) c.requires.common c.args.prepared.now.tested.counts c.args.worker _ told c.fill_open.ensures.computes c.fill_open.ensures.marks_after

@@ -1,5 +1,4 @@
 -- `sheet_tally::Tally::add` meets its contract.
-use lib.IntN.{ℤ}
 use mathlib.Core.List.{List}
 use mathlib.Core.Path.{◌≡◌, ◌∙◌, ap}
 use mir.Syntax.{w64}

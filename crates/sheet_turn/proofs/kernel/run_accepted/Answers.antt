@@ -17,7 +17,7 @@ use Rattle.sheet_turn.proofs.kernel.run_accepted.Goals as goal
 
 -- what the call takes
 abbrev start : Start → Sheet
-start s = sheet s.args.weights.now s.args.flags.now s.args.marks.now s.args.tally.runs
+start s = sheet s.args.sheet.now.weights.now s.args.sheet.now.flags.now s.args.sheet.now.marks.now s.args.tally.runs
 
 -- the piece by its three numbers
 nt : (c : After-magnitude-n2) → c.magnitude-t.result ≡ mag c.args.piece.triplet
@@ -30,7 +30,7 @@ n2 : (c : After-magnitude-n2) → c.magnitude-n2.result ≡ mag c.args.piece.b2
 n2 c = c.magnitude-n2.ensures ∙ ap mag (to_z-of_z w64 c.args.piece.b2 (let f : SFits w64 c.args.piece.b2 = search rules in f))
 
 small : (c : After-magnitude-n2) → c.magnitude-t.result * c.args.prepared.now.tested.sizes.pairs + (c.magnitude-n1.result * c.args.prepared.now.tested.sizes.bands2 + c.magnitude-n2.result) < 268435456
-small c = run_small (study_in c.args.prepared.now) ((sheet c.args.weights.now c.args.flags.now c.args.marks.now c.args.tally.runs)) c.requires.common c.args.prepared.now.tested.counts c.args.worker c.args.piece.triplet c.args.piece.b1 c.args.piece.b2 c.requires.own _ _ _ ((c.magnitude-t.ensures ∙ ap mag (to_z-of_z w64 c.args.piece.triplet (let f : SFits w64 c.args.piece.triplet = search rules in f)))) ((c.magnitude-n1.ensures ∙ ap mag (to_z-of_z w64 c.args.piece.b1 (let f : SFits w64 c.args.piece.b1 = search rules in f)))) ((c.magnitude-n2.ensures ∙ ap mag (to_z-of_z w64 c.args.piece.b2 (let f : SFits w64 c.args.piece.b2 = search rules in f))))
+small c = run_small (study_in c.args.prepared.now) ((sheet c.args.sheet.now.weights.now c.args.sheet.now.flags.now c.args.sheet.now.marks.now c.args.tally.runs)) c.requires.common c.args.prepared.now.tested.counts c.args.worker c.args.piece.triplet c.args.piece.b1 c.args.piece.b2 c.requires.own _ _ _ ((c.magnitude-t.ensures ∙ ap mag (to_z-of_z w64 c.args.piece.triplet (let f : SFits w64 c.args.piece.triplet = search rules in f)))) ((c.magnitude-n1.ensures ∙ ap mag (to_z-of_z w64 c.args.piece.b1 (let f : SFits w64 c.args.piece.b1 = search rules in f)))) ((c.magnitude-n2.ensures ∙ ap mag (to_z-of_z w64 c.args.piece.b2 (let f : SFits w64 c.args.piece.b2 = search rules in f))))
 
 pub fill_named-requires-clause-ready : goal.fill_named-requires-clause-ready
 fill_named-requires-clause-ready c = ready_made (study_in c.args.prepared.now) (start (goal.at.fill_named-requires-clause-ready c).Start) c.requires.common c.args.prepared.now.tested.counts
@@ -56,7 +56,7 @@ set_mark-requires c =
 
 pub with_runs-requires : goal.with_runs-requires
 with_runs-requires c =
-    rw (to_z-of_z w64 c.args.worker c.ranges.worker) (run-yes c.args.prepared.now.tested.sizes c.args.marks.now c.args.piece.triplet c.args.piece.b1 c.args.piece.b2 c.args.tally.runs c.args.worker c.requires.own).1
+    rw (to_z-of_z w64 c.args.worker c.ranges.worker) (run-yes c.args.prepared.now.tested.sizes c.args.sheet.now.marks.now c.args.piece.triplet c.args.piece.b1 c.args.piece.b2 c.args.tally.runs c.args.worker c.requires.own).1
 
 pub returns-clause-called : goal.returns-clause-called
 returns-clause-called c = let moved = rw (to_z-of_z w64 c.args.worker c.ranges.worker) at c.with_runs.ensures in

@@ -12,7 +12,7 @@ use Rattle.sheet_turn.proofs.kernel.run_asked.Goals as goal
 
 -- what the call takes
 abbrev start : Start → Sheet
-start s = sheet s.args.weights.now s.args.flags.now s.args.marks.now s.args.tally.runs
+start s = sheet s.args.sheet.now.weights.now s.args.sheet.now.flags.now s.args.sheet.now.marks.now s.args.tally.runs
 
 pub ask_run-requires : goal.ask_run-requires
 ask_run-requires c =

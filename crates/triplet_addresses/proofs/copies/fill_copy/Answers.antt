@@ -1,10 +1,13 @@
 -- `triplet_addresses::copies::fill_copy` meets its contract.
-use lib.ListN.{length}
+use borrow.Author.Rules.{rules}
+use lib.IntN.{pos}
+use lib.ListN.{get_or, length}
 use mathlib.Core.Path.{◌∙◌}
 use native.Mathlib.Omega.{arith}
 use Rattle.list_laws.proofs.FillLaws.{fill_end, fill-next, fill_none}
 use Rattle.list_laws.proofs.SignedLaws.{back}
 use Rattle.list_laws.specs.Lists.{at}
+use Rattle.question_grids.proofs.GridLaws.{triples-at}
 use Rattle.triplet_corners.specs.Corners.{step_of}
 use Rattle.triplet_corners.proofs.CornerLaws.{copy-tabulated}
 use Rattle.triplet_addresses.proofs.copies.fill_copy.Goals as goal
@@ -13,9 +16,14 @@ pub loop-k-init : goal.loop-k-init
 loop-k-init c =
     fill_none (λ k. step_of c.args.negated (at c.args.table.now k)) c.args.out.now
 
+pub step_of-requires : goal.step_of-requires
+step_of-requires c =
+    rw (back (get_or c.args.table.now c.loop-k.k (pos 0)) (search rules)) (triples-at c.args.table.now c.requires.0 c.loop-k.k (omega arith))
+
 pub loop-k-preserved : goal.loop-k-preserved
 loop-k-preserved c =
-    fill-next _ c.loop-k.out c.loop-k.k _ (omega (arith, c.requires.1)) c.loop-k.invariant (back c.step_at.result c.step_at.type_inv ∙ c.step_at.ensures)
+    let z : _ = rw (back (get_or c.args.table.now c.loop-k.k (pos 0)) (search rules)) at c.step_of.ensures in
+    fill-next _ c.loop-k.out c.loop-k.k _ (omega (arith, c.requires.1)) c.loop-k.invariant (back c.step_of.result c.step_of.type_inv ∙ z)
 
 pub returns : goal.returns
 returns c =

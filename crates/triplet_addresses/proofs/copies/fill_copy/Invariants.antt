@@ -1,5 +1,5 @@
 -- `triplet_addresses::copies::fill_copy` meets its contract.
-use lib.ListN.{length, take}
+use lib.ListN.{take}
 use mathlib.Core.Path.{◌≡◌}
 use Rattle.list_laws.specs.Lists.{at, tabulate}
 use Rattle.triplet_corners.specs.Corners.{step_of}

@@ -1,5 +1,5 @@
 -- `triplet_corners::kernel::corner_numbers` meets its contract.
-use Prim.Native.Nat.{◌-◌, ◌≤◌, ℕ}
+use Prim.Native.Nat.{ℕ}
 use lib.IntN.{ℤ}
 use mathlib.Core.List.{List}
 use mathlib.Core.Path.{◌≡◌}
@@ -13,8 +13,4 @@ entry grid addresses gp-map steps g j = neighbour_of grid addresses gp-map (want
 
 abbrev pub invariant-loop-j : goal.invariant-loop-j
 invariant-loop-j l =
-    (l.j ≤ l.n) × (l.a ≡ area 384 l.j (entry l.grid l.addresses l.gp_map l.steps l.g) 0)
-
-abbrev pub decreases-loop-j : goal.decreases-loop-j
-decreases-loop-j l =
-    l.n - l.j
+    l.a ≡ area 384 l.j (entry l.grid.grid l.grid.addresses.now l.grid.gp_map.now l.steps.triples.numbers.now l.g) 0

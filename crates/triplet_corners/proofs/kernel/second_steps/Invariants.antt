@@ -1,5 +1,5 @@
 -- `triplet_corners::kernel::second_steps` meets its contract.
-use Prim.Native.Nat.{◌-◌, ◌≤◌, ℕ}
+use Prim.Native.Nat.{ℕ}
 use lib.IntN.{pos, ℤ}
 use mathlib.Core.Bool.{Bool}
 use mathlib.Core.List.{List}
@@ -13,8 +13,4 @@ entry negated steps k = step_of negated (at steps k)
 
 abbrev pub invariant-loop-k : goal.invariant-loop-k
 invariant-loop-k l =
-    (l.k ≤ l.n) × (l.a ≡ area 1152 l.k (entry l.negated l.steps) (pos 0))
-
-abbrev pub decreases-loop-k : goal.decreases-loop-k
-decreases-loop-k l =
-    l.n - l.k
+    l.a ≡ area 1152 l.k (entry l.negated l.steps.triples.numbers.now) (pos 0)

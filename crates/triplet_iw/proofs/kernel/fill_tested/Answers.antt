@@ -1,11 +1,10 @@
 -- `triplet_iw::kernel::fill_tested` meets its contract.
 use Rattle.triplet_iw.proofs.WholeLaws.{all-computed}
-use Rattle.triplet_iw.proofs.TripletLaws.{steps-few, triplets-more, triplets-none}
+use Rattle.triplet_iw.proofs.TripletLaws.{triplets-more, triplets-none}
 use Rattle.triplet_piece.proofs.WeightLaws.{computed-lengths}
 use Rattle.triplet_corners.proofs.CornerLaws.{second-lent}
-use Rattle.triplet_study.proofs.TestedLaws.{tested-ready}
+use Rattle.triplet_study.proofs.TestedLaws.{tested-few, tested-ready}
 use Rattle.triplet_study.specs.Lent.{study_of}
-use Rattle.triplet_study.specs.Questions.{are_lengths}
 use Rattle.triplet_study.specs.Tested.{Ready}
 use lib.ListN.{length}
 use native.Mathlib.Omega.{arith}
@@ -18,22 +17,17 @@ use Rattle.triplet_iw.proofs.kernel.fill_tested.Goals as goal
 is-ready : (s : Start) → Ready (study_of s.args.tested.now.study) s.args.tested.now.sizes (length s.args.weights.now) (length s.args.flags.now)
 is-ready s = tested-ready s.args.tested.now (length s.args.weights.now) (length s.args.flags.now) s.requires
 
-pub second_steps-second-requires : goal.second_steps-second-requires
-second_steps-second-requires c =
-    let r : _ = is-ready (goal.at.second_steps-second-requires c).Start in
-    (steps-few r, r.tested.table)
-
 pub loop-t-init : goal.loop-t-init
 loop-t-init c =
     triplets-none (study_of c.args.tested.now.study) c.args.tested.now.sizes.pairs c.args.weights.now c.args.flags.now
 
 pub slice_bounds-second-end : goal.slice_bounds-second-end
 slice_bounds-second-end c =
-    omega (arith, steps-few (is-ready (goal.at.slice_bounds-second-end c).Start), c.second_steps-second.type_inv)
+    omega (arith, tested-few c.args.tested.now, c.second_steps-second.type_inv)
 
 pub slice_bounds-fill_triplet-end : goal.slice_bounds-fill_triplet-end
 slice_bounds-fill_triplet-end c =
-    sym (length-take-le (length c.args.tested.now.study.relative_grid_address.now) c.second_steps-second.result (omega (arith, steps-few (is-ready (goal.at.slice_bounds-fill_triplet-end c).Start), c.second_steps-second.type_inv)))
+    sym (length-take-le (length c.args.tested.now.study.relative_grid_address.now) c.second_steps-second.result (omega (arith, tested-few c.args.tested.now, c.second_steps-second.type_inv)))
 
 pub fill_triplet-requires-clause-room : goal.fill_triplet-requires-clause-room
 fill_triplet-requires-clause-room c =
@@ -41,7 +35,7 @@ fill_triplet-requires-clause-room c =
 
 pub fill_triplet-requires-clause-copied : goal.fill_triplet-requires-clause-copied
 fill_triplet-requires-clause-copied c =
-    second-lent c.args.tested.now.sizes.tp c.args.tested.now.study.relative_grid_address.now _ c.second_steps-second.ensures
+    second-lent c.args.tested.now.sizes.tp c.args.tested.now.study.relative_grid_address.now _ (rw c.steps.ensures at c.second_steps-second.ensures)
 
 pub loop-t-preserved : goal.loop-t-preserved
 loop-t-preserved c =

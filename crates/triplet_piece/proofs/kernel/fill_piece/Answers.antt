@@ -1,15 +1,20 @@
 -- `triplet_piece::kernel::fill_piece` meets its contract.
-use lib.Ieee.{nan}
-use lib.ListN.{get_or}
 use mathlib.Core.Path.{◌∙◌}
-use Rattle.triplet_piece.proofs.AreaLaws.{outputs-after}
-use Rattle.triplet_piece.proofs.LayoutLaws.{flags-same, weights-same}
-use Rattle.triplet_piece.specs.Weights.{outputs_of_corners}
+use native.Mathlib.Omega.{arith}
+use Rattle.triplet_piece.proofs.LayoutLaws.{flags-same, pair_in, weights-same}
 use Rattle.triplet_piece.proofs.kernel.fill_piece.Goals as goal
 
-pub returns-clause-writes_piece : goal.returns-clause-writes_piece
-unfolding outputs_of_corners
-returns-clause-writes_piece c = record {
-  weights-are = c.fill_points.ensures.weights-are ∙ weights-same c.args.z _ _ _ (λ x. outputs-after c.args.z.tp c.args.z.rows c.further_rows-further.result c.further_rows-further.ensures c.requires.areas c.fill_frequencies.ensures c.fill_frequencies-2.ensures c.prepare_channel-x0.ensures c.prepare_channel-x1.ensures c.prepare_channel-x2.ensures (get_or c.args.points.now x nan) c.requires.counted.0.rows-some) c.args.weights.now;
-  flags-are = c.fill_points.ensures.flags-are ∙ flags-same c.args.z _ _ _ (λ x. outputs-after c.args.z.tp c.args.z.rows c.further_rows-further.result c.further_rows-further.ensures c.requires.areas c.fill_frequencies.ensures c.fill_frequencies-2.ensures c.prepare_channel-x0.ensures c.prepare_channel-x1.ensures c.prepare_channel-x2.ensures (get_or c.args.points.now x nan) c.requires.counted.0.rows-some) c.args.flags.now;
+pub overflow_mul-pair : goal.overflow_mul-pair
+overflow_mul-pair c = let k : _ = c.args.study.now.counted in omega (arith, k.pairs-few, pair_in k c.requires.on_study)
+
+pub overflow_add-pair : goal.overflow_add-pair
+overflow_add-pair c = let k : _ = c.args.study.now.counted in omega (arith, k.pairs-few, pair_in k c.requires.on_study)
+
+pub fill_points-requires-clause-on_study : goal.fill_points-requires-clause-on_study
+fill_points-requires-clause-on_study c = (c.requires.on_study.0, pair_in c.args.study.now.counted c.requires.on_study)
+
+pub returns : goal.returns
+returns c = record {
+  weights-are = c.fill_points.ensures.weights-are ∙ weights-same c.args.study.now.sizes _ _ _ c.prepare.ensures c.args.weights.now;
+  flags-are = c.fill_points.ensures.flags-are ∙ flags-same c.args.study.now.sizes _ _ _ c.prepare.ensures c.args.flags.now;
 }

@@ -1,6 +1,5 @@
 -- `triplet_values::kernel::box_of` meets its contract.
-use Prim.Native.Nat.{zero-le}
-use borrow.Author.Rules.{rules}
+use Prim.Native.Nat.{◌*◌}
 use mathlib.Core.Path.{◌≡◌, refl}
 use native.Mathlib.Numerals.{add-one}
 use native.Mathlib.Omega.{arith}
@@ -10,14 +9,14 @@ use Rattle.triplet_values.proofs.kernel.box_of.Goals as goal
 pub loop-i-init : goal.loop-i-init
 unfolding least_of greatest_of
 loop-i-init c =
-    (zero-le, (refl, refl))
+    (refl, refl)
 
 pub loop-i-preserved : goal.loop-i-preserved
 unfolding least_of greatest_of
 loop-i-preserved c =
-    (search rules, (simp (add-one, c.loop-i.invariant.1.0, c.lesser_of-fmin.ensures), simp (add-one, c.loop-i.invariant.1.1, c.greater_of-fmax.ensures)))
+    (simp (add-one, c.loop-i.invariant.0, c.lesser_of-fmin.ensures), simp (add-one, c.loop-i.invariant.1, c.greater_of-fmax.ensures))
 
 pub returns : goal.returns
 unfolding box_of
 returns c =
-    let e : c.loop-i.i ≡ c.args.n = omega arith in simp (c.loop-i.invariant.1.0, c.loop-i.invariant.1.1, e)
+    let e : c.loop-i.i ≡ c.args.rows.count * 4 = omega arith in simp (c.loop-i.invariant.0, c.loop-i.invariant.1, e)

@@ -1,5 +1,5 @@
 -- `triplet_values::kernel::fill_frequencies` meets its contract.
-use Prim.Native.Nat.{◌*◌, ◌+◌, ◌-◌, ◌<◌, ◌≤◌, ℕ}
+use Prim.Native.Nat.{◌*◌, ◌+◌, ◌<◌, ℕ}
 use lib.Ieee.{Float, nan}
 use lib.ListN.{get_or, length}
 use mathlib.Core.List.{List}
@@ -13,8 +13,4 @@ entry tp numbers frequencies bands band i = corner_frequency tp (get_or frequenc
 
 abbrev pub invariant-loop-i : goal.invariant-loop-i
 invariant-loop-i l =
-    (l.i ≤ l.n) × ((length l.a ≡ 384) × ((k : ℕ) → k < l.i → get_or l.a k nan ≡ entry l.tp l.numbers l.frequencies l.bands l.band k))
-
-abbrev pub decreases-loop-i : goal.decreases-loop-i
-decreases-loop-i l =
-    l.n - l.i
+    (length l.a ≡ 384) × ((k : ℕ) → k < l.i → get_or l.a k nan ≡ entry l.tp l.numbers l.band.frequencies.now l.band.bands l.band.band k)

@@ -5,4 +5,4 @@ use Rattle.averaging_blocks.specs.Weights.{row_sum}
 use Rattle.averaging_walk.proofs.kernel.weights.row_sum.Given as goal
 
 abbrev pub invariant-loop-weight : goal.invariant-loop-weight
-invariant-loop-weight l = l.sum ≡ row_sum plus_zero l.m l.from l.weight-index
+invariant-loop-weight l = l.sum ≡ row_sum plus_zero l.row 0 l.weight-index

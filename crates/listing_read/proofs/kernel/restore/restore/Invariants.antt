@@ -12,6 +12,6 @@ use Rattle.listing_read.proofs.kernel.restore.restore.Given as goal
 
 abbrev pub invariant-loop-e : goal.invariant-loop-e
 invariant-loop-e l =
-    (l.at ≡ line_start l.form.points l.form.bands1 l.form.bands2 l.form.channels l.e) × (l.place ≡ place_of l.form.points l.form.bands1 l.form.bands2 l.e) × (length l.flags ≡ length l.initial.flags)
+    (l.reader.at ≡ line_start l.form.points l.form.bands1 l.form.bands2 l.form.channels l.e) × (l.reader.text.now ≡ l.text) × (l.place ≡ place_of l.form.points l.form.bands1 l.form.bands2 l.e) × (length l.flags ≡ length l.initial.flags)
     × (take l.e l.flags ≡ tabulate l.e (λ k. pos (flag_here l.text (flag_place l.form.points l.form.bands1 l.form.bands2 l.form.channels k))))
     × Replaced nan (length l.initial.flags) (BeforeColumn l.form.channels l.e) (λ c k. weight_here l.text (weight_place l.form.points l.form.bands1 l.form.bands2 l.form.channels c k)) l.initial.weights l.weights

@@ -5,7 +5,7 @@ use mir.Val.{SFits}
 use mir.ValLaws.{to_z-of_z}
 use native.Mathlib.Omega.{arith}
 use Rattle.std.proofs.Common.{rules}
-use Rattle.numbers.proofs.MeshLaws.{count-le, wider}
+use Rattle.numbers.proofs.MeshLaws.{wider}
 use Rattle.numbers.specs.Mesh.{count_of}
 use Rattle.list_laws.proofs.BoolLaws.{no_of, yes_of}
 use Rattle.question_grids.proofs.GridLaws.{mesh-within}
@@ -28,10 +28,6 @@ pub mesh_count-n-requires : goal.mesh_count-n-requires
 mesh_count-n-requires c =
     rw c.mesh_of.ensures (wider (omega arith) (mesh-within 128 c.args.grid.d_diag (yes_of c.mesh_ok.ensures c.if-not-mesh_ok.false)))
 
-pub addresses_ok-requires : goal.addresses_ok-requires
-addresses_ok-requires c =
-    let n : _ = c.mesh_count-n.ensures ∙ ap count_of c.mesh_of.ensures in omega (arith, count-le (mesh-within 128 c.args.grid.d_diag (yes_of c.mesh_ok.ensures c.if-not-mesh_ok.false)))
-
 pub returns-then-not-addresses_ok : goal.returns-then-not-addresses_ok
 unfolding first_no
 returns-then-not-addresses_ok c =
@@ -39,10 +35,6 @@ returns-then-not-addresses_ok c =
     let b : _ = to_z-of_z w64 c.args.grid.bz_grid_type f in
     let n : _ = c.mesh_count-n.ensures ∙ ap count_of c.mesh_of.ensures in
     rw (yes_of (rw b at c.grid_kind_ok.ensures) c.if-not-grid_kind_ok.false, yes_of c.mesh_ok.ensures c.if-not-mesh_ok.false, no_of (rw n at c.addresses_ok.ensures) c.if-not-addresses_ok.true)
-
-pub map_ok-requires : goal.map_ok-requires
-map_ok-requires c =
-    let n : _ = c.mesh_count-n.ensures ∙ ap count_of c.mesh_of.ensures in omega (arith, count-le (mesh-within 128 c.args.grid.d_diag (yes_of c.mesh_ok.ensures c.if-not-mesh_ok.false)))
 
 pub returns-then-not-map_ok : goal.returns-then-not-map_ok
 unfolding first_no

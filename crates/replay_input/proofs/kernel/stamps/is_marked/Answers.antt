@@ -14,7 +14,7 @@ loop-i-init c =
 
 pub loop-i-preserved : goal.loop-i-preserved
 loop-i-preserved c =
-    below_next c.loop-i.i _ c.loop-i.invariant (c.same_bits-ok.ensures ∙ ap (λ (x : Float). eqb (to_bits binary64 (get_or c.args.out.now c.loop-i.i nan)) (to_bits binary64 x)) c.mark_at.ensures)
+    below_next c.loop-i.i _ c.loop-i.invariant (c.agrees-ok.ensures ∙ ap (λ (x : Float). eqb (to_bits binary64 (get_or c.args.out.now c.loop-i.i nan)) (to_bits binary64 x)) c.mark_at.ensures)
 
 pub returns : goal.returns
 unfolding is_marked

@@ -5,7 +5,7 @@ use mathlib.Core.Bool.{false, true}
 use mathlib.Core.List.{List}
 use mathlib.Core.Path.{◌∙◌, ◌≡◌, ap, sym}
 use native.Mathlib.Omega.{arith}
-use Prim.Native.Nat.{ℕ, ◌+◌, zero-le}
+use Prim.Native.Nat.{ℕ, ◌+◌}
 use Rattle.marks.proofs.BytesLaws.{holds_same}
 use Rattle.marks.proofs.MarkLaws.{length-carried}
 use Rattle.marks.specs.Bytes.{Holds}
@@ -13,7 +13,7 @@ use Rattle.marks.specs.Marks.{is_open_mark, is_open_at, carried_marks}
 use Rattle.sheet_fill.proofs.OpenLaws.{open_none, open_more, shut_one, closed_none, closed-more, kept-one}
 use Rattle.sheet_fill.specs.Piece.{is_open_piece}
 use Rattle.sheet_step.specs.Steps.{pieces_of}
-use Rattle.triplet_piece.proofs.WeightLaws.{computed-join, computed-lengths, computed-none}
+use Rattle.triplet_piece.proofs.WeightLaws.{computed-join, computed-none}
 use Rattle.sheet_fill.specs.Kept.{study_in}
 use Rattle.sheet_fill.proofs.kernel.carry.fill_open.Goals.{Start}
 use Rattle.sheet_fill.proofs.kernel.carry.fill_open.Goals as goal

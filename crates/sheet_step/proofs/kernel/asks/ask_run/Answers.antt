@@ -1,22 +1,49 @@
 -- `sheet_step::kernel::asks::ask_run` meets its contract.
-use mathlib.Core.Path.{refl, sym, ap, ◌∙◌}
+use lib.Signed.{mag}
+use mathlib.Core.Bool.{◌&&◌, true}
+use mathlib.Core.Path.{◌∙◌, ◌≡◌, ap}
+use borrow.Author.Rules.{rules}
 use mir.Syntax.{w64}
-use mir.ValLaws.{to_z-of_z}
-use Prim.Native.Nat.{ℕ}
-use Rattle.std.proofs.lemmas.Result.{err_from_is_err_and}
-use Rattle.ask.proofs.RefusalLaws.{given-is, refused-not, refused-is}
-use Rattle.ask.specs.Refusals.{answer_of}
-use Rattle.sheet_step.proofs.StepLaws.{run-no, run_room}
+use mir.Facts.{to_z-of_z}
+use Rattle.list_laws.proofs.BoolLaws.{and_left, no_of, yes_of}
+use Rattle.list_laws.proofs.SignedLaws.{below-lt}
+use Rattle.list_laws.specs.Signed.{is_below}
+use Rattle.ask.specs.Ask.{first_no}
+use Rattle.sheet_step.proofs.CountLaws.{first-place}
+use Rattle.marks.specs.Marks.{is_not_averaged}
+use Rattle.sheet_step.specs.Steps.{is_piece}
+use Rattle.triplet_study.proofs.TestedLaws.{tested-counted}
+use Rattle.sheet_step.proofs.kernel.asks.ask_run.Goals.{After-magnitude-t, After-not_averaged}
 use Rattle.sheet_step.proofs.kernel.asks.ask_run.Goals as goal
 
-pub returns-in_err-ask_piece : goal.returns-in_err-ask_piece
-returns-in_err-ask_piece c =
-    let told : _ = rw c.in_err-ask_piece.was at c.ask_piece.ensures in
-    let p = err_from_is_err_and c.from_residual.result c.from_residual.ensures.1 in
-    rw (p.1, p.2) (refused-is _ _ _ _ tt told (sym (run-no c.args.tested.now.sizes c.args.marks.now c.args.piece.triplet c.args.piece.b1 c.args.piece.b2 c.args.tally.runs c.args.worker refl (refused-not _ _ tt told))))
+-- the piece's triplet
+triplet : (c : After-magnitude-t) → c.magnitude-t.result ≡ mag c.args.piece.triplet
+triplet c = c.magnitude-t.ensures ∙ ap mag (to_z-of_z {w = w64} {z = c.args.piece.triplet} (search rules))
+
+-- question 15's answer
+stays : (c : After-not_averaged) → c.not_averaged.result ≡ is_not_averaged c.args.tested.now.sizes.pairs c.args.sheet.now.marks.now (mag c.args.piece.triplet)
+stays c = c.not_averaged.ensures ∙ ap (is_not_averaged c.args.tested.now.sizes.pairs c.args.sheet.now.marks.now) (c.magnitude-t.ensures ∙ ap mag (to_z-of_z {w = w64} {z = c.args.piece.triplet} (search rules)))
+
+pub returns-then-not-piece_ok : goal.returns-then-not-piece_ok
+unfolding first_no
+returns-then-not-piece_ok c = rw (no_of c.piece_ok.ensures c.if-not-piece_ok.true)
+
+pub not_averaged-requires : goal.not_averaged-requires
+unfolding is_piece
+not_averaged-requires c =
+    let z = c.args.tested.now.sizes in
+    let piece = c.args.piece in
+    let y : is_below piece.triplet z.triplets ≡ true =
+    and_left (is_below piece.triplet z.triplets) (is_below piece.b1 z.bands1) (and_left (is_below piece.triplet z.triplets && is_below piece.b1 z.bands1) (is_below piece.b2 z.bands2) (yes_of c.piece_ok.ensures c.if-not-piece_ok.false)) in
+    rw (triplet (goal.at.not_averaged-requires c).After-magnitude-t) (first-place z (tested-counted c.args.tested.now) c.args.sheet.now.marks.now c.requires (mag piece.triplet) (below-lt piece.triplet z.triplets y)).1
+
+pub returns-then-not-not_averaged : goal.returns-then-not-not_averaged
+unfolding first_no
+returns-then-not-not_averaged c =
+    rw (yes_of c.piece_ok.ensures c.if-not-piece_ok.false, no_of (stays (goal.at.returns-then-not-not_averaged c).After-not_averaged) c.if-not-not_averaged.true)
 
 pub returns : goal.returns
+unfolding first_no
 returns c =
-    let told : _ = rw c.in_ok-ask_piece.was at c.ask_piece.ensures in
-    let full : _ = rw (to_z-of_z w64 c.args.worker c.ranges.worker) at c.ask_tally.ensures in
-    full ∙ ap (λ (n : ℕ). answer_of n tt) (run_room c.args.tested.now.sizes c.args.marks.now c.args.piece.triplet c.args.piece.b1 c.args.piece.b2 c.args.tally.runs c.args.worker refl (given-is _ _ tt told).0 refl)
+    let full : _ = rw (to_z-of_z {w = w64} {z = c.args.worker} (search rules)) at c.ask_tally.ensures in
+    rw (yes_of c.piece_ok.ensures c.if-not-piece_ok.false, yes_of (stays (goal.at.returns c).After-not_averaged) c.if-not-not_averaged.false) full

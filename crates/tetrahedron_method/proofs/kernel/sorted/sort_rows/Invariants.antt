@@ -4,4 +4,4 @@ use Prim.Native.Nat.{◌≤◌}
 use Rattle.tetrahedron_method.proofs.kernel.sorted.sort_rows.Given as goal
 
 abbrev pub invariant-loop-k : goal.invariant-loop-k
-invariant-loop-k l = (l.k ≤ l.rows) × Turned l.initial.area l.k l.area l.places
+invariant-loop-k l = (l.k ≤ l.fn.rows.count) × Turned l.initial.area l.k l.area l.places

@@ -5,4 +5,4 @@ use mathlib.Core.Path.{◌≡◌}
 use Rattle.tetrahedron_method.proofs.kernel.sorted.sorted_weight.Given as goal
 
 abbrev pub invariant-loop-k : goal.invariant-loop-k
-invariant-loop-k l = (l.k ≤ l.rows) × (l.sum ≡ sorted_sum l.function l.omega l.area l.places l.k)
+invariant-loop-k l = (l.k ≤ l.rows.count) × (l.sum ≡ sorted_sum l.function l.omega l.area l.places l.k)

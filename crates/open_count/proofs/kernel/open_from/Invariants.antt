@@ -1,9 +1,0 @@
--- `open_count::kernel::open_from` meets its contract.
-use Prim.Native.Nat.{◌+◌}
-use mathlib.Core.Path.{◌≡◌}
-use Rattle.list_laws.specs.Lists.{count_below}
-use Rattle.open_count.specs.OpenCount.{is_open}
-use Rattle.open_count.proofs.kernel.open_from.Given as goal
-
-abbrev pub invariant-loop-i : goal.invariant-loop-i
-invariant-loop-i l = l.count ≡ count_below l.i (λ k. is_open l.channels l.cells l.weights (l.start + k))

@@ -1,3 +1,0 @@
-// For the programs that replay lists of calls.
-pub mod calls;
-pub mod study;

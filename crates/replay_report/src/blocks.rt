@@ -1,0 +1,55 @@
+// The blocks of the input, replayed record by record.
+use anyhow::Result;
+use replay_input::reader::{Reader, next_block};
+use std::alloc::Global;
+use std::fmt::Display;
+
+// What a program keeps of a block's records for those after them; nothing at first.
+pub trait Replay: Default + Drop {
+    // What it counts and prints.
+    type Counts: Display + Drop;
+
+    // Reads the next record, and counts the case that it is, if it is one.
+    fn next_record(
+        &mut self,
+        rt: &impl Print,
+        alloc: Global,
+        reader: &mut Reader<'_>,
+        counts: &mut Self::Counts,
+    ) -> Result<()>;
+}
+
+fn replay_block<R: Replay>(
+    rt: &impl Print,
+    alloc: Global,
+    text: &[u8],
+    counts: &mut R::Counts,
+) -> Result<()> {
+    let mut replay = R::default();
+    let mut reader = Reader::new(text);
+    // a record has a byte at least
+    for _ in text {
+        if reader.is_at_end() {
+            break;
+        }
+        replay.next_record(rt, alloc, &mut reader, counts)?;
+    }
+    Ok(())
+}
+
+// Replays the blocks of the input, a thousand at most, and prints what is counted.
+pub fn replay_blocks<R: Replay>(
+    rt: &impl Print,
+    alloc: Global,
+    mut counts: R::Counts,
+) -> Result<()> {
+    let mut text = io::large_buffer();
+    for _ in 0..1000 {
+        let Some(block) = next_block(&mut text) else {
+            break;
+        };
+        replay_block::<R>(rt, alloc, block, &mut counts)?;
+    }
+    println!(rt; "{counts}")?;
+    Ok(())
+}

@@ -1,0 +1,30 @@
+// The numbers of kinds in the input.
+ghost use Rattle.std.specs.Prelude.{◌≡◌, Some, None, IfOk, IfErr};
+ghost use Rattle.replay_report.specs.Report.{kind_of};
+
+use thiserror::Error;
+
+// A record whose kind is none of the program's.
+#[derive(Clone, Copy, Debug, PartialEq, Eq, Drop, Error)]
+#[error("no record is of kind {0}")]
+pub struct UnknownRecord(pub u64);
+
+// The kind that a number names in a table of numbers and kinds.
+pub fn kind_of<K: Copy>(kinds: &[(u64, K)], number: u64) -> Option<K>
+    ensures { result ≡ kind_of kinds.now number }
+{
+    for pair in kinds {
+        if pair.0 == number {
+            return Some(pair.1);
+        }
+    }
+    None
+}
+
+// The same of a record.
+pub fn record_of<K: Copy>(kinds: &[(u64, K)], number: u64) -> Result<K, UnknownRecord>
+    ensures named { IfOk result (λ kind. kind_of kinds.now number ≡ Some kind) }
+    ensures unknown { IfErr result (λ no. (kind_of kinds.now number ≡ None) × (no.0 ≡ number)) }
+{
+    kind_of(kinds, number).ok_or(UnknownRecord(number))
+}

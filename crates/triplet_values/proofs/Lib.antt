@@ -1,2 +1,0 @@
--- Laws that several proofs cite.
-pub mod ValueLaws
