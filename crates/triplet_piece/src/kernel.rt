@@ -15,7 +15,7 @@ use triplet_channels::kernel::{further_rows, prepare_channel};
 use triplet_outputs::Outputs;
 use triplet_study::{CountedStudy, TestedSteps, TestedStudy};
 use triplet_values::kernel::fill_frequencies;
-use triplet_values::{Band, Combination};
+use triplet_values::{Band, Combination, CornerCount};
 
 // The corners of triplet `t`, looked up; `second` is the second copy of the steps.
 pub fn corners_of(tested: &TestedStudy, second: &[i64], t: usize) -> Corners
@@ -106,11 +106,16 @@ fn prepare(areas: &mut WorkAreas, study: &CountedStudy, corners: &Corners, piece
         bands: study.sizes.bands2,
         band: piece.b2,
     };
-    fill_frequencies(&mut areas.frequencies1, tp, &corners.first, rows, band1);
-    fill_frequencies(&mut areas.frequencies2, tp, &corners.second, rows, band2);
+    let n = CornerCount {
+        count: rows.corners(),
+    };
+    fill_frequencies(&mut areas.frequencies1, tp, &corners.first, n, band1);
+    fill_frequencies(&mut areas.frequencies2, tp, &corners.second, n, band2);
     let f1 = &areas.frequencies1;
     let f2 = &areas.frequencies2;
-    let further = further_rows(tp, rows);
+    let further = Rows {
+        count: further_rows(tp, rows.count),
+    };
     prepare_channel(
         &mut areas.channels.first,
         Combination::SecondLessFirst,
