@@ -1,4 +1,5 @@
-// For the crates above, on a tested study and sheet: the averages of one triplet.
+// For the crates above, on a tested study and sheet: the averages of one triplet. Of the study the counts alone are read: a counted study would
+// ask for its frequencies and points too.
 ghost use Rattle.std.specs.Prelude.{◌≡◌, ◌*◌, ◌<◌, length};
 ghost use Rattle.triplet_study.specs.Tested.{Counted};
 ghost use Rattle.sheet_step.specs.Steps.{triplet_averaged, triplet_flags_averaged};

@@ -4,16 +4,11 @@ use Rattle.triplet_study.specs.Study.{Study}
 use Rattle.triplet_study.specs.Lent.{study_of}
 use Rattle.triplet_piece.specs.declared.Corners.{Corners}
 use Rattle.triplet_piece.specs.Pieces.{AreCornersOf}
-use Rattle.sheet_fill.specs.declared.areas.Work.{Work}
 use Rattle.sheet_fill.specs.declared.prepared.PreparedStudy.{PreparedStudy}
 
 -- the corners are those of triplet `held`, where it is one of so many; no triplet's at first
 pub record Kept (s : Study) (triplets held : ℕ) (corners : Corners) : Type 0 where
   pub kept : held < triplets → AreCornersOf s held corners
-
--- the same, of work areas
-abbrev pub Keeps : Study → ℕ → Work → Type 0
-Keeps s triplets w = Kept s triplets w.held w.corners
 
 -- the study that a prepared one holds
 abbrev pub study_in : PreparedStudy → Study

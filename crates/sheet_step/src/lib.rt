@@ -15,6 +15,13 @@ pub struct SheetMut<'a> {
 }
 
 impl<'a> SheetMut<'a> {
+    // The weights, to read.
+    pub fn weights(&self) -> &[f64]
+        ensures { result.now ≡ self.now.weights.now }
+    {
+        self.weights
+    }
+
     // The marks, to read.
     pub fn marks(&self) -> &[u8]
         ensures { result.now ≡ self.now.marks.now }

@@ -13,6 +13,7 @@ use triplet_piece::{Piece, WorkAreas};
 use triplet_study::{Study, TestedStudy};
 
 // All pieces of triplet `t`: its corners are looked up once. `second` is the second copy of the steps; the work areas are lent.
+// That `t` is one of the study's is a clause, here and wherever a triplet goes by its number: a type for it would hold the study beside it.
 pub fn fill_triplet(
     areas: &mut WorkAreas,
     weights: &mut [f64],

@@ -1,10 +1,9 @@
 // A study that has passed its questions.
 ghost use Rattle.std.specs.Prelude.{◌≡◌, ◌≤◌, length};
-ghost use Rattle.ask.specs.Ask.{first_no};
 ghost use Rattle.triplet_study.specs.Study.{sizes_of};
-ghost use Rattle.triplet_study.specs.Questions.{study_questions, are_lengths};
+ghost use Rattle.triplet_study.specs.Questions.{are_lengths};
 ghost use Rattle.triplet_study.specs.Lent.{study_of};
-ghost use Rattle.triplet_study.specs.Tested.{Counted};
+ghost use Rattle.triplet_study.specs.Tested.{Tested, Counted};
 
 use crate::{Sizes, Study};
 use bzgrid_lookup::TestedGrid;
@@ -22,8 +21,8 @@ pub struct TestedSteps<'a> {
 pub struct TestedStudy<'a> {
     pub study: Study<'a>,
     pub sizes: Sizes,
-    // each of the questions is answered yes
-    pub ghost passed: { first_no (study_questions (study_of study)) ≡ 0 },
+    // what the questions told
+    pub ghost told: { Tested (study_of study) },
     pub ghost counts: { sizes ≡ sizes_of (study_of study) },
 }
 

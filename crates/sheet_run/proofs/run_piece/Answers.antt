@@ -21,23 +21,23 @@ start s = sheet s.args.sheet.now.weights.now s.args.sheet.now.flags.now s.args.s
 
 pub returns-in_err-tested-clause-did : goal.returns-in_err-tested-clause-did
 returns-in_err-tested-clause-did c =
-    let told : _ = rw c.in_err-tested.was at c.ask_common.ensures.asked in
+    let told : _ = rw (c.marks.ensures, c.in_err-tested.was) at c.ask_common.ensures.asked in
     let p = err_from_is_err_and c.from_residual.result c.from_residual.ensures.1 in
     rw (p.1, p.2) (common-refused (study_of c.args.study) (start (goal.at.returns-in_err-tested-clause-did c).Start) (run c.args.worker c.args.piece.triplet c.args.piece.b1 c.args.piece.b2) _ told)
 
 pub ask_run-requires : goal.ask_run-requires
 ask_run-requires c =
     let same : c.in_ok-tested.tested.study ≡ c.args.study = rw c.in_ok-tested.was at c.ask_common.ensures.same in
-    let told : _ = rw c.in_ok-tested.was at c.ask_common.ensures.asked in
+    let told : _ = rw (c.marks.ensures, c.in_ok-tested.was) at c.ask_common.ensures.asked in
     let yes : _ = tested-yes c.in_ok-tested.tested same (start (goal.at.ask_run-requires c).Start) (given-is _ _ tt told).0 in
-    (long-yes (study_of c.in_ok-tested.tested.study) (start (goal.at.ask_run-requires c).Start) yes c.in_ok-tested.tested.counts).1.1
+    rw c.marks-2.ensures (long-yes (study_of c.in_ok-tested.tested.study) (start (goal.at.ask_run-requires c).Start) yes c.in_ok-tested.tested.counts).1.1
 
 pub returns-in_err-ask_run-clause-did : goal.returns-in_err-ask_run-clause-did
 returns-in_err-ask_run-clause-did c =
     let same : c.in_ok-tested.tested.study ≡ c.args.study = rw c.in_ok-tested.was at c.ask_common.ensures.same in
-    let told : _ = rw c.in_ok-tested.was at c.ask_common.ensures.asked in
+    let told : _ = rw (c.marks.ensures, c.in_ok-tested.was) at c.ask_common.ensures.asked in
     let yes : _ = tested-yes c.in_ok-tested.tested same (start (goal.at.returns-in_err-ask_run-clause-did c).Start) (given-is _ _ tt told).0 in
-    let own : _ = rw (to_z-of_z w64 c.args.worker c.ranges.worker, c.in_err-ask_run.was) at c.ask_run.ensures in
+    let own : _ = rw (to_z-of_z w64 c.args.worker c.ranges.worker, c.marks-2.ensures, c.in_err-ask_run.was) at c.ask_run.ensures in
     let p = err_from_is_err_and c.from_residual-in_err-ask_run.result c.from_residual-in_err-ask_run.ensures.1 in
     rw (p.1, p.2) (tested-did c.in_ok-tested.tested same (start (goal.at.returns-in_err-ask_run-clause-did c).Start) (run-no (study_of c.in_ok-tested.tested.study) (start (goal.at.returns-in_err-ask_run-clause-did c).Start) yes c.in_ok-tested.tested.counts c.args.worker c.args.piece.triplet c.args.piece.b1 c.args.piece.b2 _ own))
 
@@ -56,21 +56,17 @@ invariant_of-prepared c =
 pub run_accepted-requires-clause-common : goal.run_accepted-requires-clause-common
 run_accepted-requires-clause-common c =
     let same : c.in_ok-tested.tested.study ≡ c.args.study = rw c.in_ok-tested.was at c.ask_common.ensures.same in
-    let told : _ = rw c.in_ok-tested.was at c.ask_common.ensures.asked in
+    let told : _ = rw (c.marks.ensures, c.in_ok-tested.was) at c.ask_common.ensures.asked in
     let yes : _ = tested-yes c.in_ok-tested.tested same (start (goal.at.run_accepted-requires-clause-common c).Start) (given-is _ _ tt told).0 in
-    yes
+    rw c.new-work.ensures yes
 
 pub run_accepted-requires-clause-own : goal.run_accepted-requires-clause-own
 run_accepted-requires-clause-own c =
-    let own : _ = rw c.in_ok-ask_run.was at c.ask_run.ensures in
-    (given-is _ _ tt own).0
-
-pub run_accepted-requires-clause-kept : goal.run_accepted-requires-clause-kept
-run_accepted-requires-clause-kept c =
-    c.new-work.ensures _ _ (omega arith)
+    let own : _ = rw (c.marks-2.ensures, c.in_ok-ask_run.was) at c.ask_run.ensures in
+    rw c.new-work.ensures (given-is _ _ tt own).0
 
 pub returns-clause-did : goal.returns-clause-did
 returns-clause-did c =
     let same : c.in_ok-tested.tested.study ≡ c.args.study = rw c.in_ok-tested.was at c.ask_common.ensures.same in
-    let called : _ = rw (to_z-of_z w64 c.args.worker c.ranges.worker) at c.run_accepted.ensures.called in
+    let called : _ = rw (to_z-of_z w64 c.args.worker c.ranges.worker, c.new-work.ensures) at c.run_accepted.ensures.called in
     tested-did c.in_ok-tested.tested same (start (goal.at.returns-clause-did c).Start) (done-did (study_of c.in_ok-tested.tested.study) (start (goal.at.returns-clause-did c).Start) (run c.args.worker c.args.piece.triplet c.args.piece.b1 c.args.piece.b2) c.run_accepted.result _ _ _ called)

@@ -8,7 +8,7 @@ ghost use Rattle.triplet_study.specs.Lent.{study_of};
 ghost use Rattle.triplet_study.specs.Passed.{without_value};
 ghost use Rattle.sheet_step.specs.Steps.{common_questions, sheet_questions, is_piece, piece_questions, average_questions, are_triplet_weights, pieces_of};
 
-use crate::{NamedPiece, SheetMut};
+use crate::NamedPiece;
 use ask::Refusal;
 use marks::kernel as mark;
 use numbers::kernel::{is_below, magnitude};
@@ -16,30 +16,38 @@ use question_values::kernel::averages::{degenerate_ids_ok, weights_ok};
 use sheet_tally::Tally;
 use triplet_study::{Study, TestedStudy};
 
-// Questions 12 and 13, of the sheet.
-fn ask_sheet(tested: &TestedStudy, sheet: &SheetMut) -> Result<(), Refusal>
-    ensures { result ≡ answer_of (first_no (sheet_questions tested.now.sizes (length sheet.now.weights.now) (length sheet.now.flags.now) sheet.now.marks.now)) tt }
+// Questions 12 and 13, of a sheet's lengths and marks.
+fn ask_sheet(
+    tested: &TestedStudy,
+    weights: usize,
+    flags: usize,
+    marks: &[u8],
+) -> Result<(), Refusal>
+    ensures { result ≡ answer_of (first_no (sheet_questions tested.now.sizes weights flags marks.now)) tt }
 {
     let pairs = tested.sizes.pairs;
     let pieces = tested.sizes.triplets * pairs;
-    let weights = sheet.weights.len();
-    let flags = sheet.flags.len();
-    if !(tested.lengths_ok(weights, flags) & (sheet.marks.len() == mark::bytes_for(pieces))) {
+    if !(tested.lengths_ok(weights, flags) & (marks.len() == mark::bytes_for(pieces))) {
         return Err(Refusal::Lengths);
     }
-    if !mark::marks_ok(pairs, pieces, sheet.marks) {
+    if !mark::marks_ok(pairs, pieces, marks) {
         return Err(Refusal::Marks);
     }
     Ok(())
 }
 
 // Questions 3 to 13, which every call asks. Gives the tested study.
-pub fn ask_common<'a>(study: Study<'a>, sheet: &SheetMut) -> Result<TestedStudy<'a>, Refusal>
-    ensures asked { without_value result ≡ answer_of (first_no (common_questions (study_of study.entry) (length sheet.now.weights.now) (length sheet.now.flags.now) sheet.now.marks.now)) tt }
+pub fn ask_common<'a>(
+    study: Study<'a>,
+    weights: usize,
+    flags: usize,
+    marks: &[u8],
+) -> Result<TestedStudy<'a>, Refusal>
+    ensures asked { without_value result ≡ answer_of (first_no (common_questions (study_of study.entry) weights flags marks.now)) tt }
     ensures same { IfOk result (λ t. t.study ≡ study.entry) }
 {
     let tested = study.tested()?;
-    ask_sheet(&tested, sheet)?;
+    ask_sheet(&tested, weights, flags, marks)?;
     Ok(tested)
 }
 
@@ -55,19 +63,19 @@ fn piece_ok(tested: &TestedStudy, piece: NamedPiece) -> bool
 // Questions 14, 15, 21 and 20, of a run.
 pub fn ask_run(
     tested: &TestedStudy,
-    sheet: &SheetMut,
+    marks: &[u8],
     tally: Tally,
     worker: i64,
     piece: NamedPiece,
 ) -> Result<(), Refusal>
-    requires { Holds (pieces_of tested.now.sizes) sheet.now.marks.now }
-    ensures { result ≡ answer_of (first_no (piece_questions tested.now.sizes sheet.now.marks.now piece.triplet piece.b1 piece.b2 ++ tally_questions tally.runs worker 1)) tt }
+    requires { Holds (pieces_of tested.now.sizes) marks.now }
+    ensures { result ≡ answer_of (first_no (piece_questions tested.now.sizes marks.now piece.triplet piece.b1 piece.b2 ++ tally_questions tally.runs worker 1)) tt }
 {
     if !piece_ok(tested, piece) {
         return Err(Refusal::NotOnSheet);
     }
     let t = magnitude(piece.triplet);
-    if !mark::not_averaged(tested.sizes.pairs, sheet.marks, t) {
+    if !mark::not_averaged(tested.sizes.pairs, marks, t) {
         return Err(Refusal::AlreadyAveraged);
     }
     sheet_tally::kernel::ask_tally(tally, worker, 1)
@@ -94,13 +102,14 @@ fn triplet_weights_ok(tested: &TestedStudy, t: usize, weights: &[f64]) -> bool
 // Questions 14 to 19, of an averaging.
 pub fn ask_average(
     tested: &TestedStudy,
-    sheet: &SheetMut,
+    weights: &[f64],
+    marks: &[u8],
     triplet: i64,
     degenerate_ids1: &[i64],
     degenerate_ids2: &[i64],
 ) -> Result<(), Refusal>
-    requires { (length sheet.now.weights.now ≡ tested.now.sizes.channels * tested.now.sizes.cells) × Holds (pieces_of tested.now.sizes) sheet.now.marks.now }
-    ensures { result ≡ answer_of (first_no (average_questions tested.now.sizes sheet.now.weights.now sheet.now.marks.now triplet degenerate_ids1.now degenerate_ids2.now)) tt }
+    requires { (length weights.now ≡ tested.now.sizes.channels * tested.now.sizes.cells) × Holds (pieces_of tested.now.sizes) marks.now }
+    ensures { result ≡ answer_of (first_no (average_questions tested.now.sizes weights.now marks.now triplet degenerate_ids1.now degenerate_ids2.now)) tt }
 {
     let pairs = tested.sizes.pairs;
     let bands = tested.sizes.bands1;
@@ -108,7 +117,7 @@ pub fn ask_average(
         return Err(Refusal::NotOnSheet);
     }
     let t = magnitude(triplet);
-    if !mark::not_averaged(pairs, sheet.marks, t) {
+    if !mark::not_averaged(pairs, marks, t) {
         return Err(Refusal::AlreadyAveraged);
     }
     if bands != tested.sizes.bands2 {
@@ -117,10 +126,10 @@ pub fn ask_average(
     if !(degenerate_ids_ok(bands, degenerate_ids1) & degenerate_ids_ok(bands, degenerate_ids2)) {
         return Err(Refusal::DegenerateIds);
     }
-    if !mark::all_computed(pairs, sheet.marks, t) {
+    if !mark::all_computed(pairs, marks, t) {
         return Err(Refusal::NotComputed);
     }
-    if !triplet_weights_ok(tested, t, sheet.weights) {
+    if !triplet_weights_ok(tested, t, weights) {
         return Err(Refusal::Weights);
     }
     Ok(())

@@ -28,21 +28,21 @@ not_averaged-requires c =
     let b : c.is_below.result ≡ is_below c.args.triplet c.args.tested.now.sizes.triplets = c.is_below.ensures ∙ ap (λ (t : ℤ). is_below t c.args.tested.now.sizes.triplets) (to_z-of_z w64 c.args.triplet c.ranges.triplet) in
     let tn : c.magnitude-t.result ≡ mag c.args.triplet = c.magnitude-t.ensures ∙ ap mag (to_z-of_z w64 c.args.triplet c.ranges.triplet) in
     let i : mag c.args.triplet < c.args.tested.now.sizes.triplets = below-lt c.args.triplet c.args.tested.now.sizes.triplets (yes_of b c.if-not-is_below.false) in
-    rw tn (first-place c.args.tested.now.sizes (tested-counted c.args.tested.now) c.args.sheet.now.marks.now c.requires.1 (mag c.args.triplet) i).1
+    rw tn (first-place c.args.tested.now.sizes (tested-counted c.args.tested.now) c.args.marks.now c.requires.1 (mag c.args.triplet) i).1
 
 pub returns-then-not-not_averaged : goal.returns-then-not-not_averaged
 unfolding first_no are_id_lists
 returns-then-not-not_averaged c =
     let b : c.is_below.result ≡ is_below c.args.triplet c.args.tested.now.sizes.triplets = c.is_below.ensures ∙ ap (λ (t : ℤ). is_below t c.args.tested.now.sizes.triplets) (to_z-of_z w64 c.args.triplet c.ranges.triplet) in
     let tn : c.magnitude-t.result ≡ mag c.args.triplet = c.magnitude-t.ensures ∙ ap mag (to_z-of_z w64 c.args.triplet c.ranges.triplet) in
-    rw (yes_of b c.if-not-is_below.false, no_of {q = is_not_averaged c.args.tested.now.sizes.pairs c.args.sheet.now.marks.now (mag c.args.triplet)} (c.not_averaged.ensures ∙ rw tn) c.if-not-not_averaged.true)
+    rw (yes_of b c.if-not-is_below.false, no_of {q = is_not_averaged c.args.tested.now.sizes.pairs c.args.marks.now (mag c.args.triplet)} (c.not_averaged.ensures ∙ rw tn) c.if-not-not_averaged.true)
 
 pub returns-then-bands-tested : goal.returns-then-bands-tested
 unfolding first_no are_id_lists
 returns-then-bands-tested c =
     let b : c.is_below.result ≡ is_below c.args.triplet c.args.tested.now.sizes.triplets = c.is_below.ensures ∙ ap (λ (t : ℤ). is_below t c.args.tested.now.sizes.triplets) (to_z-of_z w64 c.args.triplet c.ranges.triplet) in
     let tn : c.magnitude-t.result ≡ mag c.args.triplet = c.magnitude-t.ensures ∙ ap mag (to_z-of_z w64 c.args.triplet c.ranges.triplet) in
-    rw (yes_of b c.if-not-is_below.false, yes_of {q = is_not_averaged c.args.tested.now.sizes.pairs c.args.sheet.now.marks.now (mag c.args.triplet)} (c.not_averaged.ensures ∙ rw tn) c.if-not-not_averaged.false, ne_eqb _ _ c.if-bands-tested.true)
+    rw (yes_of b c.if-not-is_below.false, yes_of {q = is_not_averaged c.args.tested.now.sizes.pairs c.args.marks.now (mag c.args.triplet)} (c.not_averaged.ensures ∙ rw tn) c.if-not-not_averaged.false, ne_eqb _ _ c.if-bands-tested.true)
 
 pub returns-then-not-degenerate_ids_ok : goal.returns-then-not-degenerate_ids_ok
 unfolding first_no are_id_lists
@@ -50,14 +50,14 @@ returns-then-not-degenerate_ids_ok c =
     let b : c.is_below.result ≡ is_below c.args.triplet c.args.tested.now.sizes.triplets = c.is_below.ensures ∙ ap (λ (t : ℤ). is_below t c.args.tested.now.sizes.triplets) (to_z-of_z w64 c.args.triplet c.ranges.triplet) in
     let tn : c.magnitude-t.result ≡ mag c.args.triplet = c.magnitude-t.ensures ∙ ap mag (to_z-of_z w64 c.args.triplet c.ranges.triplet) in
     let d : (c.degenerate_ids_ok.result && c.degenerate_ids_ok-2.result) ≡ are_id_lists c.args.tested.now.sizes.bands1 c.args.degenerate_ids1.now c.args.degenerate_ids2.now = rw (c.degenerate_ids_ok.ensures, c.degenerate_ids_ok-2.ensures) in
-    rw (yes_of b c.if-not-is_below.false, yes_of {q = is_not_averaged c.args.tested.now.sizes.pairs c.args.sheet.now.marks.now (mag c.args.triplet)} (c.not_averaged.ensures ∙ rw tn) c.if-not-not_averaged.false, eq-eqb _ _ c.if-bands-tested.false, no_of d c.if-not-degenerate_ids_ok.true)
+    rw (yes_of b c.if-not-is_below.false, yes_of {q = is_not_averaged c.args.tested.now.sizes.pairs c.args.marks.now (mag c.args.triplet)} (c.not_averaged.ensures ∙ rw tn) c.if-not-not_averaged.false, eq-eqb _ _ c.if-bands-tested.false, no_of d c.if-not-degenerate_ids_ok.true)
 
 pub all_computed-requires : goal.all_computed-requires
 all_computed-requires c =
     let b : c.is_below.result ≡ is_below c.args.triplet c.args.tested.now.sizes.triplets = c.is_below.ensures ∙ ap (λ (t : ℤ). is_below t c.args.tested.now.sizes.triplets) (to_z-of_z w64 c.args.triplet c.ranges.triplet) in
     let tn : c.magnitude-t.result ≡ mag c.args.triplet = c.magnitude-t.ensures ∙ ap mag (to_z-of_z w64 c.args.triplet c.ranges.triplet) in
     let i : mag c.args.triplet < c.args.tested.now.sizes.triplets = below-lt c.args.triplet c.args.tested.now.sizes.triplets (yes_of b c.if-not-is_below.false) in
-    rw tn (marks-place c.args.tested.now.sizes (tested-counted c.args.tested.now) c.args.sheet.now.marks.now c.requires.1 (mag c.args.triplet) i).1
+    rw tn (marks-place c.args.tested.now.sizes (tested-counted c.args.tested.now) c.args.marks.now c.requires.1 (mag c.args.triplet) i).1
 
 pub returns-then-not-all_computed : goal.returns-then-not-all_computed
 unfolding first_no are_id_lists
@@ -65,7 +65,7 @@ returns-then-not-all_computed c =
     let b : c.is_below.result ≡ is_below c.args.triplet c.args.tested.now.sizes.triplets = c.is_below.ensures ∙ ap (λ (t : ℤ). is_below t c.args.tested.now.sizes.triplets) (to_z-of_z w64 c.args.triplet c.ranges.triplet) in
     let tn : c.magnitude-t.result ≡ mag c.args.triplet = c.magnitude-t.ensures ∙ ap mag (to_z-of_z w64 c.args.triplet c.ranges.triplet) in
     let d : (c.degenerate_ids_ok.result && c.degenerate_ids_ok-2.result) ≡ are_id_lists c.args.tested.now.sizes.bands1 c.args.degenerate_ids1.now c.args.degenerate_ids2.now = rw (c.degenerate_ids_ok.ensures, c.degenerate_ids_ok-2.ensures) in
-    rw (yes_of b c.if-not-is_below.false, yes_of {q = is_not_averaged c.args.tested.now.sizes.pairs c.args.sheet.now.marks.now (mag c.args.triplet)} (c.not_averaged.ensures ∙ rw tn) c.if-not-not_averaged.false, eq-eqb _ _ c.if-bands-tested.false, yes_of d c.if-not-degenerate_ids_ok.false, no_of {q = are_computed c.args.tested.now.sizes.pairs c.args.sheet.now.marks.now (mag c.args.triplet)} (c.all_computed.ensures ∙ rw tn) c.if-not-all_computed.true)
+    rw (yes_of b c.if-not-is_below.false, yes_of {q = is_not_averaged c.args.tested.now.sizes.pairs c.args.marks.now (mag c.args.triplet)} (c.not_averaged.ensures ∙ rw tn) c.if-not-not_averaged.false, eq-eqb _ _ c.if-bands-tested.false, yes_of d c.if-not-degenerate_ids_ok.false, no_of {q = are_computed c.args.tested.now.sizes.pairs c.args.marks.now (mag c.args.triplet)} (c.all_computed.ensures ∙ rw tn) c.if-not-all_computed.true)
 
 pub triplet_weights_ok-requires : goal.triplet_weights_ok-requires
 triplet_weights_ok-requires c =
@@ -80,7 +80,7 @@ returns-then-not-triplet_weights_ok c =
     let b : c.is_below.result ≡ is_below c.args.triplet c.args.tested.now.sizes.triplets = c.is_below.ensures ∙ ap (λ (t : ℤ). is_below t c.args.tested.now.sizes.triplets) (to_z-of_z w64 c.args.triplet c.ranges.triplet) in
     let tn : c.magnitude-t.result ≡ mag c.args.triplet = c.magnitude-t.ensures ∙ ap mag (to_z-of_z w64 c.args.triplet c.ranges.triplet) in
     let d : (c.degenerate_ids_ok.result && c.degenerate_ids_ok-2.result) ≡ are_id_lists c.args.tested.now.sizes.bands1 c.args.degenerate_ids1.now c.args.degenerate_ids2.now = rw (c.degenerate_ids_ok.ensures, c.degenerate_ids_ok-2.ensures) in
-    rw (yes_of b c.if-not-is_below.false, yes_of {q = is_not_averaged c.args.tested.now.sizes.pairs c.args.sheet.now.marks.now (mag c.args.triplet)} (c.not_averaged.ensures ∙ rw tn) c.if-not-not_averaged.false, eq-eqb _ _ c.if-bands-tested.false, yes_of d c.if-not-degenerate_ids_ok.false, yes_of {q = are_computed c.args.tested.now.sizes.pairs c.args.sheet.now.marks.now (mag c.args.triplet)} (c.all_computed.ensures ∙ rw tn) c.if-not-all_computed.false, no_of {q = are_triplet_weights c.args.tested.now.sizes (mag c.args.triplet) c.args.sheet.now.weights.now} (c.triplet_weights_ok.ensures ∙ rw tn) c.if-not-triplet_weights_ok.true)
+    rw (yes_of b c.if-not-is_below.false, yes_of {q = is_not_averaged c.args.tested.now.sizes.pairs c.args.marks.now (mag c.args.triplet)} (c.not_averaged.ensures ∙ rw tn) c.if-not-not_averaged.false, eq-eqb _ _ c.if-bands-tested.false, yes_of d c.if-not-degenerate_ids_ok.false, yes_of {q = are_computed c.args.tested.now.sizes.pairs c.args.marks.now (mag c.args.triplet)} (c.all_computed.ensures ∙ rw tn) c.if-not-all_computed.false, no_of {q = are_triplet_weights c.args.tested.now.sizes (mag c.args.triplet) c.args.weights.now} (c.triplet_weights_ok.ensures ∙ rw tn) c.if-not-triplet_weights_ok.true)
 
 pub returns : goal.returns
 unfolding first_no are_id_lists
@@ -88,4 +88,4 @@ returns c =
     let b : c.is_below.result ≡ is_below c.args.triplet c.args.tested.now.sizes.triplets = c.is_below.ensures ∙ ap (λ (t : ℤ). is_below t c.args.tested.now.sizes.triplets) (to_z-of_z w64 c.args.triplet c.ranges.triplet) in
     let tn : c.magnitude-t.result ≡ mag c.args.triplet = c.magnitude-t.ensures ∙ ap mag (to_z-of_z w64 c.args.triplet c.ranges.triplet) in
     let d : (c.degenerate_ids_ok.result && c.degenerate_ids_ok-2.result) ≡ are_id_lists c.args.tested.now.sizes.bands1 c.args.degenerate_ids1.now c.args.degenerate_ids2.now = rw (c.degenerate_ids_ok.ensures, c.degenerate_ids_ok-2.ensures) in
-    rw (yes_of b c.if-not-is_below.false, yes_of {q = is_not_averaged c.args.tested.now.sizes.pairs c.args.sheet.now.marks.now (mag c.args.triplet)} (c.not_averaged.ensures ∙ rw tn) c.if-not-not_averaged.false, eq-eqb _ _ c.if-bands-tested.false, yes_of d c.if-not-degenerate_ids_ok.false, yes_of {q = are_computed c.args.tested.now.sizes.pairs c.args.sheet.now.marks.now (mag c.args.triplet)} (c.all_computed.ensures ∙ rw tn) c.if-not-all_computed.false, yes_of {q = are_triplet_weights c.args.tested.now.sizes (mag c.args.triplet) c.args.sheet.now.weights.now} (c.triplet_weights_ok.ensures ∙ rw tn) c.if-not-triplet_weights_ok.false)
+    rw (yes_of b c.if-not-is_below.false, yes_of {q = is_not_averaged c.args.tested.now.sizes.pairs c.args.marks.now (mag c.args.triplet)} (c.not_averaged.ensures ∙ rw tn) c.if-not-not_averaged.false, eq-eqb _ _ c.if-bands-tested.false, yes_of d c.if-not-degenerate_ids_ok.false, yes_of {q = are_computed c.args.tested.now.sizes.pairs c.args.marks.now (mag c.args.triplet)} (c.all_computed.ensures ∙ rw tn) c.if-not-all_computed.false, yes_of {q = are_triplet_weights c.args.tested.now.sizes (mag c.args.triplet) c.args.weights.now} (c.triplet_weights_ok.ensures ∙ rw tn) c.if-not-triplet_weights_ok.false)
