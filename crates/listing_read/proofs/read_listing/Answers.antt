@@ -3,25 +3,20 @@ use borrow.Author.Tests.{eqb-true}
 use lib.Dec.{eqb}
 use lib.IntN.{ℤ}
 use lib.ListN.{length}
-use mathlib.Core.Path.{◌∙◌, ◌≡◌, ap, refl}
+use mathlib.Core.Path.{◌∙◌, ◌≡◌, ap}
 use mir.Syntax.{w64}
 use mir.ValLaws.{to_z-of_z}
 use native.Mathlib.Omega.{arith}
 use Rattle.list_laws.proofs.BoolLaws.{and_left, and_right}
-use Rattle.ask.proofs.AskLaws.{after-done, after-refused, all_yes}
-use Rattle.ask.proofs.RefusalLaws.{done-is, given-is, refused-is, refused-not}
+use Rattle.ask.proofs.AskLaws.{after-done, all_yes}
+use Rattle.ask.proofs.RefusalLaws.{given-is}
 use Rattle.ask.specs.Ask.{AllYes}
-use Rattle.ask.specs.Refusals.{answer_of}
-use Rattle.std.proofs.lemmas.Result.{err_from_is_err_and}
 use Rattle.sheet_counts.proofs.SheetCountLaws.{all-cells-le, counts-low}
 use Rattle.sheet_counts.specs.SheetCounts.{cells_of, weight_count_of}
 use Rattle.listing_read.specs.Forms.{form_of}
 use Rattle.listing_read.specs.Reading.{is_listed, listed_flags, listed_weights, read_no, read_questions}
 use Rattle.listing_read.proofs.read_listing.Goals.{After-ask_listing, After-form_of, In_ok-ask_listing}
 use Rattle.listing_read.proofs.read_listing.Goals as goal
-
-told : (c : After-ask_listing) → c.ask_listing.result ≡ answer_of (read_no c.args.listing.now c.args.tp_type c.args.counts (length c.args.weights.now) (length c.args.flags.now)) tt
-told c = rw (to_z-of_z w64 c.args.tp_type c.ranges.tp_type) at c.ask_listing.ensures
 
 -- an accepted call has no no
 none : (c : In_ok-ask_listing) → read_no c.args.listing.now c.args.tp_type c.args.counts (length c.args.weights.now) (length c.args.flags.now) ≡ 0
@@ -58,25 +53,6 @@ pub restore-requires-clause-text_value : goal.restore-requires-clause-text_value
 unfolding is_listed
 restore-requires-clause-text_value c =
     rw (form-is (goal.at.restore-requires-clause-text_value c).After-form_of, flags-are (goal.at.restore-requires-clause-text_value c).In_ok-ask_listing) (yes (goal.at.restore-requires-clause-text_value c).In_ok-ask_listing).1.1.1.0
-
-pub returns-in_err-ask_listing-clause-value : goal.returns-in_err-ask_listing-clause-value
-returns-in_err-ask_listing-clause-value c =
-    let g : _ = rw c.in_err-ask_listing.was at (told (goal.at.returns-in_err-ask_listing-clause-value c).After-ask_listing) in
-    let p = err_from_is_err_and c.from_residual.result c.from_residual.ensures.1 in
-    rw (p.1, p.2) (refused-is _ _ _ tt tt g refl)
-
-pub returns-in_err-ask_listing-clause-leaves : goal.returns-in_err-ask_listing-clause-leaves
-returns-in_err-ask_listing-clause-leaves c =
-    let g : _ = rw c.in_err-ask_listing.was at (told (goal.at.returns-in_err-ask_listing-clause-leaves c).After-ask_listing) in
-    after-refused _ _ _ (refused-not _ _ tt g)
-
-pub returns-in_err-ask_listing-clause-leaves_2 : goal.returns-in_err-ask_listing-clause-leaves_2
-returns-in_err-ask_listing-clause-leaves_2 c =
-    let g : _ = rw c.in_err-ask_listing.was at (told (goal.at.returns-in_err-ask_listing-clause-leaves_2 c).After-ask_listing) in
-    after-refused _ _ _ (refused-not _ _ tt g)
-
-pub returns-clause-value : goal.returns-clause-value
-returns-clause-value c = done-is _ tt (none (goal.at.returns-clause-value c).In_ok-ask_listing)
 
 pub returns-clause-leaves : goal.returns-clause-leaves
 unfolding listed_weights

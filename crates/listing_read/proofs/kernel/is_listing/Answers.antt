@@ -3,9 +3,6 @@ use mathlib.Core.Path.{◌∙◌, ap, sym}
 use Rattle.listing_read.proofs.RestoredLaws.{judged-none, judged-some}
 use Rattle.listing_read.proofs.kernel.is_listing.Goals as goal
 
-pub pass_listing-passed-requires : goal.pass_listing-passed-requires
-pass_listing-passed-requires c = (c.new-reader.ensures.front, c.requires)
-
 pub returns-then-is_some : goal.returns-then-is_some
 returns-then-is_some c =
     judged-some c.args.tested.form.points c.args.tested.form.bands1 c.args.tested.form.bands2 c.args.tested.form.channels c.args.cells c.args.text.now c.new-reader.ensures.front (ap (λ (t : _). t.now) c.new-reader.ensures.text)
