@@ -39,7 +39,7 @@ pub fn fill_many(out: &mut [i64], grid_points: &[i64], steps: Triples, grid: Tes
     }
 }
 
-// The questions of the call for one point, after those on the grid.
+// The questions of the call for one point, after those on the grid. p and out_len count what is not read here: a list in their place would ask more of the caller.
 pub fn ask_point(grid_point: i64, steps: &[i64], p: usize, out_len: usize) -> Result<(), Refusal>
     ensures { result ≡ answer_of (first_no (step_questions steps.now grid_point p out_len)) tt }
 {
@@ -55,7 +55,7 @@ pub fn ask_point(grid_point: i64, steps: &[i64], p: usize, out_len: usize) -> Re
     Ok(())
 }
 
-// The questions of the call for many points, after those on the grid.
+// The questions of the call for many points, after those on the grid. p and out_len count what is not read here: a list in their place would ask more of the caller.
 pub fn ask_points(
     grid_points: &[i64],
     steps: &[i64],

@@ -32,7 +32,7 @@ pub fn grid_of(bz_grid_type: i64, d_diag: [i64; 3]) -> BzGrid
     }
 }
 
-// Whether address number j is the wanted one.
+// Whether address number j is the wanted one. A derived equality would be no plainer: it needs an `Address` made of the three numbers first.
 fn same_address(addresses: &[i64], j: usize, w: Address) -> bool
     requires { 3 * j + 2 < length addresses.now }
     ensures { result ≡ is_address addresses.now w j }

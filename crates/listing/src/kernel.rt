@@ -1,21 +1,13 @@
 // The writers need room for exactly what they write, and keep every other byte.
+pub mod sheet;
+
 ghost use Rattle.std.specs.Prelude.{◌<◌, ◌≡◌, length};
 ghost use Rattle.listing.specs.Listings.{flag_at, front_of, refusal_of, weight_end};
-ghost use Rattle.listing.specs.Sheets.{IsListable, line_in, lines_in, sheet_listing, weights_in};
+ghost use Rattle.listing.specs.Sheets.{line_in, lines_in, sheet_listing, weights_in};
 ghost use Rattle.writing.specs.Written.{HasRoom, Wrote};
 
+pub use sheet::Sheet;
 use writing::kernel::Writer;
-
-// A sheet as it is listed: its counts, its weights, by channel and then as the flags, and its flags.
-#[derive(Clone, Copy)]
-pub struct Sheet<'a> {
-    pub points: usize,
-    pub bands1: usize,
-    pub bands2: usize,
-    pub channels: usize,
-    pub weights: &'a [f64],
-    pub flags: &'a [i8],
-}
 
 // A flag as the listing writes it: 0, or 1 for any other.
 fn flag_at(flags: &[i8], e: usize) -> u64
@@ -47,7 +39,7 @@ pub fn weight_end(channels: usize, c: usize) -> u8
 
 // Writes the weights of entry number e, channel after channel: a tab after each but the last, a newline after that.
 fn put_weights(writer: &mut Writer<'_>, sheet: &Sheet<'_>, e: usize)
-    requires entry { IsListable sheet.now × (e < length sheet.now.flags.now) }
+    requires entry { e < length sheet.now.flags.now }
     requires room { HasRoom (weights_in sheet.now e) writer.old }
     ensures { Wrote (weights_in sheet.now e) writer.old writer.new }
 {
@@ -60,7 +52,7 @@ fn put_weights(writer: &mut Writer<'_>, sheet: &Sheet<'_>, e: usize)
 
 // Writes the line of entry number e.
 fn put_line(writer: &mut Writer<'_>, sheet: &Sheet<'_>, e: usize)
-    requires entry { IsListable sheet.now × (e < length sheet.now.flags.now) }
+    requires entry { e < length sheet.now.flags.now }
     requires room { HasRoom (line_in sheet.now e) writer.old }
     ensures { Wrote (line_in sheet.now e) writer.old writer.new }
 {
@@ -75,8 +67,7 @@ fn put_line(writer: &mut Writer<'_>, sheet: &Sheet<'_>, e: usize)
 
 // Writes the lines of all entries, in the order of the flags.
 fn put_lines(writer: &mut Writer<'_>, sheet: &Sheet<'_>)
-    requires counts { IsListable sheet.now }
-    requires room { HasRoom (lines_in sheet.now) writer.old }
+    requires { HasRoom (lines_in sheet.now) writer.old }
     ensures { Wrote (lines_in sheet.now) writer.old writer.new }
 {
     for e in 0..sheet.flags.len() {
@@ -86,8 +77,7 @@ fn put_lines(writer: &mut Writer<'_>, sheet: &Sheet<'_>)
 
 // Writes the listing of a sheet.
 pub fn put_listing(writer: &mut Writer<'_>, sheet: &Sheet<'_>)
-    requires counts { IsListable sheet.now }
-    requires room { HasRoom (sheet_listing sheet.now) writer.old }
+    requires { HasRoom (sheet_listing sheet.now) writer.old }
     ensures { Wrote (sheet_listing sheet.now) writer.old writer.new }
 {
     writer.put_slice(b"triplet\tpoint\tb1\tb2\tflag\tw\n");

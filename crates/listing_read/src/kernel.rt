@@ -1,14 +1,16 @@
 // Question 22, and the order of the questions.
 pub mod restore;
+pub mod tested;
 
 ghost use Rattle.std.specs.Prelude.{◌+◌, ◌<◌, ◌≡◌};
 ghost use Rattle.ask.specs.Refusals.{answer_of};
 ghost use Rattle.reading.specs.Passes.{Passes};
-ghost use Rattle.listing_read.specs.Forms.{IsForm, form_of};
+ghost use Rattle.listing_read.specs.Forms.{form_of};
 ghost use Rattle.listing_read.specs.Restored.{next_place, is_listing, listing_in};
 ghost use Rattle.listing_read.specs.Reading.{read_no};
 
 use crate::Form;
+use crate::kernel::tested::TestedForm;
 use ask::Refusal;
 use listing_line::Place;
 use listing_line::kernel::pass_line;
@@ -65,10 +67,11 @@ pub fn next_place(place: Place, form: Form) -> Place
 }
 
 // Passes over the listing of `cells` entries from the front of a text on: its header, and the line of each.
-fn pass_listing(reader: &mut Reader<'_>, form: Form, cells: usize) -> Option<()>
-    requires { (reader.old.at ≡ 0) × IsForm form × (cells < 1099511627776) }
-    ensures { Passes (listing_in form.points form.bands1 form.bands2 form.channels cells reader.old.text.now) reader.old reader.new result }
+fn pass_listing(reader: &mut Reader<'_>, tested: TestedForm, cells: usize) -> Option<()>
+    requires { (reader.old.at ≡ 0) × (cells < 1099511627776) }
+    ensures { Passes (listing_in tested.form.points tested.form.bands1 tested.form.bands2 tested.form.channels cells reader.old.text.now) reader.old reader.new result }
 {
+    let form = tested.form;
     reader.pass_slice(b"triplet\tpoint\tb1\tb2\tflag\tw\n")?;
     let mut place = Place {
         triplet: 0,
@@ -84,12 +87,12 @@ fn pass_listing(reader: &mut Reader<'_>, form: Form, cells: usize) -> Option<()>
 }
 
 // Question 22: whether the text is the listing of `cells` entries.
-fn is_listing(text: &[u8], form: Form, cells: usize) -> bool
-    requires { IsForm form × (cells < 1099511627776) }
-    ensures { result ≡ is_listing form.points form.bands1 form.bands2 form.channels cells text.now }
+fn is_listing(text: &[u8], tested: TestedForm, cells: usize) -> bool
+    requires { cells < 1099511627776 }
+    ensures { result ≡ is_listing tested.form.points tested.form.bands1 tested.form.bands2 tested.form.channels cells text.now }
 {
     let mut reader = Reader::new(text);
-    let passed = pass_listing(&mut reader, form, cells);
+    let passed = pass_listing(&mut reader, tested, cells);
     passed.is_some() && reader.at == text.len()
 }
 
@@ -104,15 +107,17 @@ pub fn ask_listing(
     ensures { result ≡ answer_of (read_no listing.now tp_type counts num_weights num_flags) tt }
 {
     ask_counts(tp_type, counts)?;
-    let form = form_of(tp_type, counts);
+    let tested = TestedForm {
+        form: form_of(tp_type, counts),
+    };
     let cells = cells_of(counts);
-    if num_weights != form.channels * cells {
+    if num_weights != tested.form.channels * cells {
         return Err(Refusal::Lengths);
     }
     if num_flags != cells {
         return Err(Refusal::Lengths);
     }
-    if !is_listing(listing, form, cells) {
+    if !is_listing(listing, tested, cells) {
         return Err(Refusal::Listing);
     }
     Ok(())

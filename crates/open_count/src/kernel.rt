@@ -5,7 +5,7 @@ ghost use Rattle.ask.specs.Refusals.{answer_of};
 ghost use Rattle.open_count.specs.OpenCount.{open_questions, is_nonzero, is_open, open_from};
 
 use ask::Refusal;
-use numbers::kernel::{is_below, magnitude, one_if};
+use numbers::kernel::{is_below, magnitude};
 use question_values::kernel::tp_type::channels_of;
 use sheet_counts::Counts;
 use sheet_counts::kernel::{ask_counts, cells_of};
@@ -67,7 +67,7 @@ impl<'a> Channels<'a> {
     {
         let mut count: u64 = 0;
         for i in 0..n {
-            count = count + one_if(self.is_open(start + i));
+            count = count + u64::from(self.is_open(start + i));
         }
         count
     }

@@ -8,7 +8,7 @@ ghost use Rattle.triplet_addresses.specs.Copies.{copies_of, copy_questions};
 
 use ask::Refusal;
 
-// Questions 7, 8 and 12.
+// Questions 7, 8 and 12. out_len counts what is not read here: a list in its place would ask more of the caller.
 pub fn ask_copies(
     relative_grid_address: &[i64],
     tp_type: i64,
@@ -28,7 +28,7 @@ pub fn ask_copies(
     Ok(())
 }
 
-// The second copy of the table, negated or as it is.
+// The second copy of the table, negated or as it is: `copy_from_slice` could not negate.
 fn fill_copy(out: &mut [i64], table: &[i64], negated: bool)
     requires { (are_triples table.now ≡ true) × (length out.old ≡ length table.now) }
     ensures { out.new ≡ copy_of negated table.now }

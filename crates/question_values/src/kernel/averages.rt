@@ -5,7 +5,7 @@ ghost use Rattle.question_values.specs.Averages.{is_degenerate_id, are_degenerat
 
 use numbers::kernel;
 
-// Whether the id at k is k or the id before it.
+// Whether the id at k is k or the id before it: the place is part of the test, and the first has no id before it.
 fn id_ok(ids: &[i64], k: usize) -> bool
     requires { k < length ids.now }
     ensures { result ≡ is_degenerate_id ids.now k }

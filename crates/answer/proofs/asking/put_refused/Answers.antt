@@ -2,13 +2,8 @@
 use mathlib.Core.Path.{ap}
 use native.Mathlib.Omega.{arith}
 use lib.ListN.{length}
-use Rattle.listing.specs.Listings.{refusal_of}
-use Rattle.answer_weights.proofs.ListedLaws.{wrote_front}
 use Rattle.answer.proofs.AnswerLaws.{refusal-room}
 use Rattle.answer.proofs.asking.put_refused.Goals as goal
 
 pub put_refusal-requires : goal.put_refusal-requires
 put_refusal-requires c = omega (arith, refusal-room c.number.result, c.new-writer.ensures.front, ap length c.new-writer.ensures.content)
-
-pub returns : goal.returns
-returns c = wrote_front c.new-writer.ensures.front c.new-writer.ensures.content c.put_refusal.ensures (ap refusal_of c.number.ensures)

@@ -3,7 +3,7 @@ use Prim.Native.Nat.{ℕ, ◌%◌, ◌/◌}
 use mathlib.Core.List.{List}
 use Rattle.listing.specs.Listings.{flag_at, front_of, line_of}
 use Rattle.listing.specs.Sheets.{weights_in}
-use Rattle.listing.specs.declared.kernel.Sheet.{Sheet}
+use Rattle.listing.specs.declared.kernel.sheet.Sheet.{Sheet}
 use Rattle.writing.proofs.WrittenLaws.{room-first, room-next, wrote-both}
 use Rattle.listing.proofs.kernel.put_line.Goals as goal
 

@@ -3,16 +3,13 @@ use mathlib.Core.Path.{◌∙◌, ap, sym}
 use Rattle.listing_read.proofs.RestoredLaws.{judged-none, judged-some}
 use Rattle.listing_read.proofs.kernel.is_listing.Goals as goal
 
-pub pass_listing-passed-requires : goal.pass_listing-passed-requires
-pass_listing-passed-requires c = (c.new-reader.ensures.front, c.requires.0, c.requires.1)
-
 pub returns-then-is_some : goal.returns-then-is_some
 returns-then-is_some c =
-    judged-some c.args.form.points c.args.form.bands1 c.args.form.bands2 c.args.form.channels c.args.cells c.args.text.now c.new-reader.ensures.front (ap (λ (t : _). t.now) c.new-reader.ensures.text)
+    judged-some c.args.tested.form.points c.args.tested.form.bands1 c.args.tested.form.bands2 c.args.tested.form.channels c.args.cells c.args.text.now c.new-reader.ensures.front (ap (λ (t : _). t.now) c.new-reader.ensures.text)
     c.pass_listing-passed.result (sym c.if-is_some.ensures) c.pass_listing-passed.ensures
 
 pub returns-else-is_some : goal.returns-else-is_some
 returns-else-is_some c =
     c.if-is_some.false
-    ∙ judged-none c.args.form.points c.args.form.bands1 c.args.form.bands2 c.args.form.channels c.args.cells c.args.text.now c.new-reader.ensures.front (ap (λ (t : _). t.now) c.new-reader.ensures.text)
+    ∙ judged-none c.args.tested.form.points c.args.tested.form.bands1 c.args.tested.form.bands2 c.args.tested.form.channels c.args.cells c.args.text.now c.new-reader.ensures.front (ap (λ (t : _). t.now) c.new-reader.ensures.text)
     c.pass_listing-passed.result (sym c.if-is_some.ensures) c.pass_listing-passed.ensures
