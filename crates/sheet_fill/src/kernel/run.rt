@@ -7,7 +7,7 @@ ghost use Rattle.sheet_fill.specs.Kept.{Keeps, study_in};
 
 use crate::{PreparedStudy, Work};
 use triplet_piece::Piece;
-use triplet_piece::kernel::{corners_of, fill_piece};
+use triplet_piece::kernel::{fill_corners, fill_piece};
 
 // Keeps the corners of triplet `t`: nothing is looked up where they are kept already.
 fn keep_corners(work: &mut Work, prepared: &PreparedStudy, t: usize)
@@ -18,7 +18,7 @@ fn keep_corners(work: &mut Work, prepared: &PreparedStudy, t: usize)
     if work.held == t {
         return;
     }
-    work.corners = corners_of(&prepared.tested, prepared.second, t);
+    fill_corners(&mut work.corners, &prepared.tested, prepared.second, t);
     work.held = t;
 }
 
