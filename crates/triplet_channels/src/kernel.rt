@@ -1,5 +1,5 @@
 // Channels and outputs at a frequency point, of work areas whose rows are in order.
-ghost use Rattle.std.specs.Prelude.{◌≡◌, ◌*◌};
+ghost use Rattle.std.specs.Prelude.{◌≡◌, ◌*◌, ◌≤◌};
 ghost use Rattle.triplet_values.specs.Values.{channel_values, number_of};
 ghost use Rattle.triplet_channels.specs.Ordered.{further_rows, ordered_channel_at, ordered_further_at, outputs_ordered, Prepared};
 
@@ -10,7 +10,7 @@ use tetrahedron_sort::Rows;
 use triplet_outputs::Outputs;
 use triplet_outputs::kernel::{combine_outputs, is_open};
 use triplet_types::TpType;
-use triplet_values::Combination;
+use triplet_values::{Combination, CornerCount};
 
 // Makes a channel ready: its values at the corners, of frequencies f1 and f2 there, their box, and then the rows in order.
 pub fn prepare_channel(
@@ -22,8 +22,11 @@ pub fn prepare_channel(
 )
     ensures { Prepared rows.count (channel_values (number_of combination) f1.now f2.now (rows.count * 4)) channel.new }
 {
-    triplet_values::kernel::fill_channel(&mut channel.values, combination, f1, f2, rows);
-    channel.bounds = triplet_values::kernel::box_of(&channel.values, rows);
+    let n = CornerCount {
+        count: rows.corners(),
+    };
+    triplet_values::kernel::fill_channel(&mut channel.values, combination, f1, f2, n);
+    channel.bounds = triplet_values::kernel::box_of(&channel.values, n);
     sort_rows(&mut channel.values, &mut channel.places, rows);
 }
 
@@ -46,13 +49,14 @@ fn channel_at(f0: f64, channel: &Channel, rows: Rows) -> Option<f64>
 }
 
 // How many rows to make of a channel that type 4 does not have.
-pub fn further_rows(tp: TpType, rows: Rows) -> Rows
-    ensures { result.count ≡ further_rows tp rows.count }
+pub fn further_rows(tp: TpType, rows: usize) -> usize
+    ensures by_type { result ≡ further_rows tp rows }
+    ensures few { result ≤ rows }
 {
     match tp {
         TpType::Type2 => rows,
         TpType::Type3 => rows,
-        TpType::Type4 => Rows { count: 0 },
+        TpType::Type4 => 0,
     }
 }
 

@@ -18,9 +18,9 @@ fill_piece-requires-clause-fits c =
 pub fill_piece-requires-clause-held : goal.fill_piece-requires-clause-held
 fill_piece-requires-clause-held c =
     rw (c.counted-counted.ensures.sizes, c.counted-counted.ensures.values.0, c.counted-counted.ensures.values.1.0)
-    (is-held c.args.tested.now _ (piece_of c.args.tested.now.sizes c.args.t c.loop-k.k) c.corners_of-corners.ensures (piece-in c.args.tested.now c.args.t c.loop-k.k c.requires.t_in_bounds (omega arith)))
+    (is-held c.args.tested.now _ (piece_of c.args.tested.now.sizes c.args.t c.loop-k.k) c.fill_corners.ensures (piece-in c.args.tested.now c.args.t c.loop-k.k c.requires.t_in_bounds (omega arith)))
 
 pub loop-k-preserved : goal.loop-k-preserved
 loop-k-preserved c =
-    pieces_more c.args.tested.now c.args.t c.loop-k.k c.requires.t_in_bounds (omega arith) _ c.corners_of-corners.ensures c.loop-k.invariant
+    pieces_more c.args.tested.now c.args.t c.loop-k.k c.requires.t_in_bounds (omega arith) _ c.fill_corners.ensures c.loop-k.invariant
     (rw (c.counted-counted.ensures.sizes, c.counted-counted.ensures.values.0, c.counted-counted.ensures.values.1.0, c.counted-counted.ensures.values.1.1) at c.fill_piece.ensures)

@@ -1,5 +1,4 @@
 -- `triplet_values::kernel::box_of` meets its contract.
-use Prim.Native.Nat.{◌*◌}
 use mathlib.Core.Path.{◌≡◌, refl}
 use native.Mathlib.Numerals.{add-one}
 use native.Mathlib.Omega.{arith}
@@ -19,4 +18,4 @@ loop-i-preserved c =
 pub returns : goal.returns
 unfolding box_of
 returns c =
-    let e : c.loop-i.i ≡ c.args.rows.count * 4 = omega arith in simp (c.loop-i.invariant.0, c.loop-i.invariant.1, e)
+    let e : c.loop-i.i ≡ c.args.n.count = omega arith in simp (c.loop-i.invariant.0, c.loop-i.invariant.1, e)
