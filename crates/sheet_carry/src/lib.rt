@@ -32,12 +32,8 @@ pub fn carry_on(
         sheet.flags.len(),
         sheet.marks(),
     )?;
-    let steps = tested.study.relative_grid_address;
     let second = triplet_corners::kernel::second_steps(tested.sizes.tp, tested.steps());
-    let prepared = PreparedStudy {
-        tested,
-        second: &second[..steps.len()],
-    };
+    let prepared = PreparedStudy::new(tested, &second);
     let mut work = Work::new(prepared);
     kernel::carry_asked(&mut work, sheet, tally, worker)
 }

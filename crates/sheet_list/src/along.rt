@@ -25,12 +25,8 @@ fn play_tested(
     ensures same { SameBuffers sheet.old sheet.new }
     ensures same_list { SameList list.old list.new }
 {
-    let steps = tested.study.relative_grid_address;
     let second = triplet_corners::kernel::second_steps(tested.sizes.tp, tested.steps());
-    let prepared = PreparedStudy {
-        tested,
-        second: &second[..steps.len()],
-    };
+    let prepared = PreparedStudy::new(tested, &second);
     sheet_play::kernel::play_prepared(sheet, &prepared, before, list)
 }
 

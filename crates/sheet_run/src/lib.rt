@@ -29,12 +29,8 @@ pub fn run_piece(
 {
     let tested = asks::ask_common(study, sheet.weights.len(), sheet.flags.len(), sheet.marks())?;
     asks::ask_run(&tested, sheet.marks(), tally, worker, piece)?;
-    let steps = tested.study.relative_grid_address;
     let second = triplet_corners::kernel::second_steps(tested.sizes.tp, tested.steps());
-    let prepared = PreparedStudy {
-        tested,
-        second: &second[..steps.len()],
-    };
+    let prepared = PreparedStudy::new(tested, &second);
     let mut work = Work::new(prepared);
     Ok(sheet_turn::kernel::run_accepted(&mut work, sheet, tally, worker, piece))
 }

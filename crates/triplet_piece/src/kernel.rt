@@ -12,16 +12,17 @@ use question_grids::Triples;
 use tetrahedron_sort::Rows;
 use triplet_channels::Channels;
 use triplet_channels::kernel::{further_rows, prepare_channel};
+use triplet_corners::kernel::fill_corner_numbers;
 use triplet_outputs::Outputs;
 use triplet_study::{CountedStudy, TestedSteps, TestedStudy};
 use triplet_values::kernel::fill_frequencies;
 use triplet_values::{Band, Combination, CornerCount};
 
-// The corners of triplet `t`, looked up; `second` is the second copy of the steps.
-pub fn corners_of(tested: &TestedStudy, second: &[i64], t: usize) -> Corners
+// Looks up the corners of triplet `t`; `second` is the second copy of the steps.
+pub fn fill_corners(corners: &mut Corners, tested: &TestedStudy, second: &[i64], t: usize)
     requires copied { second.now ≡ second_steps tested.now.sizes.tp tested.now.study.relative_grid_address.now }
     requires t_in_bounds { t < tested.now.sizes.triplets }
-    ensures { AreCornersOf (study_of tested.now.study) t result }
+    ensures { AreCornersOf (study_of tested.now.study) t corners.new }
 {
     let triplets = tested.study.triplets;
     let g1 = numbers::kernel::magnitude_at(triplets, 3 * t + 1);
@@ -30,10 +31,8 @@ pub fn corners_of(tested: &TestedStudy, second: &[i64], t: usize) -> Corners
     let copy = TestedSteps {
         triples: Triples { numbers: second },
     };
-    Corners {
-        first: triplet_corners::kernel::corner_numbers(grid, tested.steps(), g1),
-        second: triplet_corners::kernel::corner_numbers(grid, copy, g2),
-    }
+    fill_corner_numbers(&mut corners.first, grid, tested.steps(), g1);
+    fill_corner_numbers(&mut corners.second, grid, copy, g2);
 }
 
 // The weight of an output channel.

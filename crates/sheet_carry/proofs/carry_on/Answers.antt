@@ -24,27 +24,15 @@ returns-in_err-tested-clause-did c =
     let p = err_from_is_err_and c.from_residual.result c.from_residual.ensures.1 in
     rw (p.1, p.2) (common-refused (study_of c.args.study) (start (goal.at.returns-in_err-tested-clause-did c).Start) (carry c.args.worker) _ told)
 
-pub slice_bounds-second-end : goal.slice_bounds-second-end
-slice_bounds-second-end c =
-    omega (arith, (tested-steps c.in_ok-tested.tested).0)
-
-pub slice_bounds-prepared-end : goal.slice_bounds-prepared-end
-slice_bounds-prepared-end c =
-    sym (ap length (second-lent c.in_ok-tested.tested.sizes.tp c.in_ok-tested.tested.study.relative_grid_address.now c.second_steps-second.result (rw c.steps.ensures at c.second_steps-second.ensures)) ∙ second-length c.in_ok-tested.tested.sizes.tp c.in_ok-tested.tested.study.relative_grid_address.now)
-
-pub invariant_of-prepared : goal.invariant_of-prepared
-invariant_of-prepared c =
-    record { copy = second-lent c.in_ok-tested.tested.sizes.tp c.in_ok-tested.tested.study.relative_grid_address.now c.second_steps-second.result (rw c.steps.ensures at c.second_steps-second.ensures) }
-
 pub carry_asked-requires : goal.carry_asked-requires
 carry_asked-requires c =
     let same : c.in_ok-tested.tested.study ≡ c.args.study = rw c.in_ok-tested.was at c.ask_common.ensures.same in
     let told : _ = rw (c.marks.ensures, c.in_ok-tested.was) at c.ask_common.ensures.asked in
     let yes : _ = tested-yes c.in_ok-tested.tested same (start (goal.at.carry_asked-requires c).Start) (given-is _ _ tt told).0 in
-    record { common = rw c.new-work.ensures yes }
+    record { common = rw (c.new-work.ensures, c.new-prepared.ensures) yes }
 
 pub returns-clause-did : goal.returns-clause-did
 returns-clause-did c =
     let same : c.in_ok-tested.tested.study ≡ c.args.study = rw c.in_ok-tested.was at c.ask_common.ensures.same in
-    let did : _ = rw (to_z-of_z w64 c.args.worker c.ranges.worker, c.new-work.ensures) at c.carry_asked.ensures.did in
+    let did : _ = rw (to_z-of_z w64 c.args.worker c.ranges.worker, c.new-work.ensures, c.new-prepared.ensures) at c.carry_asked.ensures.did in
     tested-did c.in_ok-tested.tested same (start (goal.at.returns-clause-did c).Start) did

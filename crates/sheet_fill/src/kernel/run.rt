@@ -7,7 +7,7 @@ ghost use Rattle.sheet_fill.specs.Kept.{study_in};
 
 use crate::Work;
 use triplet_piece::Piece;
-use triplet_piece::kernel::{corners_of, fill_piece};
+use triplet_piece::kernel::{fill_corners, fill_piece};
 
 // Keeps the corners of triplet `t`: nothing is looked up where they are kept already.
 fn keep_corners(work: &mut Work, t: usize)
@@ -18,7 +18,8 @@ fn keep_corners(work: &mut Work, t: usize)
     if work.held == t {
         return;
     }
-    work.corners = corners_of(&work.prepared.tested, work.prepared.second, t);
+    let prepared = work.prepared;
+    fill_corners(&mut work.corners, &prepared.tested, prepared.second, t);
     work.held = t;
 }
 

@@ -41,32 +41,20 @@ returns-in_err-ask_run-clause-did c =
     let p = err_from_is_err_and c.from_residual-in_err-ask_run.result c.from_residual-in_err-ask_run.ensures.1 in
     rw (p.1, p.2) (tested-did c.in_ok-tested.tested same (start (goal.at.returns-in_err-ask_run-clause-did c).Start) (run-no (study_of c.in_ok-tested.tested.study) (start (goal.at.returns-in_err-ask_run-clause-did c).Start) yes c.in_ok-tested.tested.counts c.args.worker c.args.piece.triplet c.args.piece.b1 c.args.piece.b2 _ own))
 
-pub slice_bounds-second-end : goal.slice_bounds-second-end
-slice_bounds-second-end c =
-    omega (arith, (tested-steps c.in_ok-tested.tested).0)
-
-pub slice_bounds-prepared-end : goal.slice_bounds-prepared-end
-slice_bounds-prepared-end c =
-    sym (ap length (second-lent c.in_ok-tested.tested.sizes.tp c.in_ok-tested.tested.study.relative_grid_address.now c.second_steps-second.result (rw c.steps.ensures at c.second_steps-second.ensures)) ∙ second-length c.in_ok-tested.tested.sizes.tp c.in_ok-tested.tested.study.relative_grid_address.now)
-
-pub invariant_of-prepared : goal.invariant_of-prepared
-invariant_of-prepared c =
-    record { copy = second-lent c.in_ok-tested.tested.sizes.tp c.in_ok-tested.tested.study.relative_grid_address.now c.second_steps-second.result (rw c.steps.ensures at c.second_steps-second.ensures) }
-
 pub run_accepted-requires-clause-common : goal.run_accepted-requires-clause-common
 run_accepted-requires-clause-common c =
     let same : c.in_ok-tested.tested.study ≡ c.args.study = rw c.in_ok-tested.was at c.ask_common.ensures.same in
     let told : _ = rw (c.marks.ensures, c.in_ok-tested.was) at c.ask_common.ensures.asked in
     let yes : _ = tested-yes c.in_ok-tested.tested same (start (goal.at.run_accepted-requires-clause-common c).Start) (given-is _ _ tt told).0 in
-    rw c.new-work.ensures yes
+    rw (c.new-work.ensures, c.new-prepared.ensures) yes
 
 pub run_accepted-requires-clause-own : goal.run_accepted-requires-clause-own
 run_accepted-requires-clause-own c =
     let own : _ = rw (c.marks-2.ensures, c.in_ok-ask_run.was) at c.ask_run.ensures in
-    rw c.new-work.ensures (given-is _ _ tt own).0
+    rw (c.new-work.ensures, c.new-prepared.ensures) (given-is _ _ tt own).0
 
 pub returns-clause-did : goal.returns-clause-did
 returns-clause-did c =
     let same : c.in_ok-tested.tested.study ≡ c.args.study = rw c.in_ok-tested.was at c.ask_common.ensures.same in
-    let called : _ = rw (to_z-of_z w64 c.args.worker c.ranges.worker, c.new-work.ensures) at c.run_accepted.ensures.called in
+    let called : _ = rw (to_z-of_z w64 c.args.worker c.ranges.worker, c.new-work.ensures, c.new-prepared.ensures) at c.run_accepted.ensures.called in
     tested-did c.in_ok-tested.tested same (start (goal.at.returns-clause-did c).Start) (done-did (study_of c.in_ok-tested.tested.study) (start (goal.at.returns-clause-did c).Start) (run c.args.worker c.args.piece.triplet c.args.piece.b1 c.args.piece.b2) c.run_accepted.result _ _ _ called)

@@ -1,6 +1,5 @@
 -- `sheet_step::kernel::asks::ask_common` meets its contract.
 use mathlib.Core.Path.{◌≡◌, ◌∙◌, ap}
-use lib.ListN.{length}
 use Rattle.std.proofs.lemmas.Result.{err_from_is_err_and}
 use Rattle.ask.proofs.AskLaws.{group-no}
 use Rattle.ask.proofs.RefusalLaws.{done-is, given-is, refused-not, refused-is}

@@ -1,4 +1,4 @@
--- `triplet_corners::kernel::corner_numbers` meets its contract.
+-- `triplet_corners::kernel::fill_corner_numbers` meets its contract.
 use Prim.Native.Nat.{ℕ}
 use lib.IntN.{ℤ}
 use mathlib.Core.List.{List}
@@ -6,7 +6,7 @@ use mathlib.Core.Path.{◌≡◌}
 use Rattle.bzgrid_lookup.specs.Neighbours.{neighbour_of, wanted_address}
 use Rattle.list_laws.specs.Lists.{area}
 use Rattle.bzgrid_lookup.specs.declared.BzGrid.{BzGrid}
-use Rattle.triplet_corners.proofs.kernel.corner_numbers.Given as goal
+use Rattle.triplet_corners.proofs.kernel.fill_corner_numbers.Given as goal
 
 abbrev pub entry : BzGrid → List ℤ → List ℤ → List ℤ → ℕ → ℕ → ℕ
 entry grid addresses gp-map steps g j = neighbour_of grid addresses gp-map (wanted_address addresses steps g j)

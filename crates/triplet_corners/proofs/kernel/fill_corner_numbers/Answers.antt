@@ -1,13 +1,13 @@
--- `triplet_corners::kernel::corner_numbers` meets its contract.
+-- `triplet_corners::kernel::fill_corner_numbers` meets its contract.
 use Prim.Native.Nat.{◌/◌, ℕ}
 use lib.ListN.{length}
 use mathlib.Core.Path.{◌∙◌, ◌≡◌}
 use native.Mathlib.Omega.{arith}
 use Rattle.list_laws.proofs.FillLaws.{area-next, area-none}
 use Rattle.triplet_corners.specs.Corners.{corner_numbers}
-use Rattle.triplet_corners.proofs.kernel.corner_numbers.Invariants.{entry}
-use Rattle.triplet_corners.proofs.kernel.corner_numbers.Goals.{Start}
-use Rattle.triplet_corners.proofs.kernel.corner_numbers.Goals as goal
+use Rattle.triplet_corners.proofs.kernel.fill_corner_numbers.Invariants.{entry}
+use Rattle.triplet_corners.proofs.kernel.fill_corner_numbers.Goals.{Start}
+use Rattle.triplet_corners.proofs.kernel.fill_corner_numbers.Goals as goal
 
 -- the number at each place
 abbrev number : Start → ℕ → ℕ
