@@ -21,9 +21,9 @@ pub steps-triples : (steps : List ℤ) → are_steps steps ≡ true → are_trip
 unfolding are_steps
 steps-triples steps e = and_left (are_triples steps) (leb 3 (length steps)) e
 
-pub steps-some : (steps : List ℤ) → are_steps steps ≡ true → 3 ≤ length steps
+pub steps_some : (steps : List ℤ) → are_steps steps ≡ true → 3 ≤ length steps
 unfolding are_steps
-steps-some steps e = leb-true 3 (length steps) (and_right (are_triples steps) (leb 3 (length steps)) e)
+steps_some steps e = leb-true 3 (length steps) (and_right (are_triples steps) (leb 3 (length steps)) e)
 
 pub grid-points-at : (p : ℕ) (points : List ℤ) → are_grid_points p points ≡ true → (k : ℕ) → k < length points → mag (at points k) < p
 unfolding are_grid_points

@@ -1,5 +1,5 @@
 // Questions 3 to 6: the grid kind, the mesh, the addresses and the map.
-ghost use Rattle.std.specs.Prelude.{◌≡◌, ◌+◌, ◌<◌, length};
+ghost use Rattle.std.specs.Prelude.{◌≡◌, ◌+◌, ◌<◌, length, ◌-◌};
 ghost use Rattle.std.specs.Int.Signed.{lt_z};
 ghost use Rattle.list_laws.specs.Lists.{all_below, at};
 ghost use Rattle.list_laws.specs.Signed.{within};
@@ -28,6 +28,7 @@ pub fn mesh_ok(top: usize, d_diag: [i64; 3]) -> bool
 }
 
 // The tests of a whole list are joined by `&`, with no branch between them: `all`, which stops at the first no, costs half as much again where the answer is yes.
+// Each has its own loop: of one that is handed its test, a contract would have to name the test a second time.
 
 // Components within ±4,096.
 fn all_small(xs: &[i64]) -> bool
@@ -80,13 +81,13 @@ fn sparse_map_ok(n: usize, p: usize, gp_map: &[i64]) -> bool
     n <= gp_map.len() / 8 && all_places(p, 8 * n, &gp_map[..8 * n])
 }
 
-// The first n values are each below the next.
-fn all_rising(xs: &[i64], n: usize) -> bool
-    requires { n < length xs.now }
-    ensures { result ≡ all_below n (λ k. lt_z (at xs.now k) (at xs.now (k + 1))) }
+// Each value but the last is below the next.
+fn all_rising(xs: &[i64]) -> bool
+    requires { 0 < length xs.now }
+    ensures { result ≡ all_below (length xs.now - 1) (λ k. lt_z (at xs.now k) (at xs.now (k + 1))) }
 {
     let mut ok = true;
-    for k in 0..n {
+    for k in 0..xs.len() - 1 {
         ok &= xs[k] < xs[k + 1];
     }
     ok
@@ -97,7 +98,7 @@ fn dense_map_ok(n: usize, p: usize, gp_map: &[i64]) -> bool
     ensures { result ≡ is_dense_map n p gp_map.now }
 {
     n < gp_map.len()
-        && kernel::is_nat(gp_map[0], 0) & kernel::is_nat(gp_map[n], p) & all_rising(gp_map, n)
+        && kernel::is_nat(gp_map[0], 0) & kernel::is_nat(gp_map[n], p) & all_rising(&gp_map[..n + 1])
 }
 
 // Question 6.

@@ -15,6 +15,3 @@ pub loop-v-preserved : goal.loop-v-preserved
 loop-v-preserved c =
     let f : SFits w64 (at c.args.values.now c.loop-v.v-index) = search rules in
     below_next c.loop-v.v-index _ c.loop-v.invariant (rw (to_z-of_z w64 _ f) at c.place_ok-ok.ensures)
-
-pub returns : goal.returns
-returns c = below_end _ c.loop-v.invariant (omega arith)

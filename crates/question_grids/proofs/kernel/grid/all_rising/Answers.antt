@@ -17,6 +17,3 @@ loop-k-preserved c =
     let here : SFits w64 (at c.args.xs.now c.loop-k.k) = search rules in
     let next : SFits w64 (at c.args.xs.now (c.loop-k.k + 1)) = search rules in
     below_next c.loop-k.k _ c.loop-k.invariant (cc (to_z-of_z w64 (at c.args.xs.now c.loop-k.k) here, to_z-of_z w64 (at c.args.xs.now (c.loop-k.k + 1)) next))
-
-pub returns : goal.returns
-returns c = below_end _ c.loop-k.invariant (omega arith)

@@ -15,6 +15,3 @@ pub loop-x-preserved : goal.loop-x-preserved
 loop-x-preserved c =
     let f : SFits w64 (at c.args.xs.now c.loop-x.x-index) = search rules in
     below_next c.loop-x.x-index _ c.loop-x.invariant (rw (to_z-of_z w64 _ f) at c.is_within-ok.ensures)
-
-pub returns : goal.returns
-returns c = below_end _ c.loop-x.invariant (omega arith)
