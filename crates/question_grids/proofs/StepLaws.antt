@@ -21,9 +21,9 @@ pub steps-triples : (steps : List ℤ) → are_steps steps ≡ true → are_trip
 unfolding are_steps
 steps-triples steps e = and_left (are_triples steps) (leb 3 (length steps)) e
 
-pub steps_some : (steps : List ℤ) → are_steps steps ≡ true → 3 ≤ length steps
+pub steps-some : (steps : List ℤ) → are_steps steps ≡ true → 3 ≤ length steps
 unfolding are_steps
-steps_some steps e = leb-true 3 (length steps) (and_right (are_triples steps) (leb 3 (length steps)) e)
+steps-some steps e = leb-true 3 (length steps) (and_right (are_triples steps) (leb 3 (length steps)) e)
 
 pub grid-points-at : (p : ℕ) (points : List ℤ) → are_grid_points p points ≡ true → (k : ℕ) → k < length points → mag (at points k) < p
 unfolding are_grid_points
@@ -32,3 +32,6 @@ grid-points-at p points e k h = below-lt (at points k) p (below_at (length point
 pub product-yes : (rows size n : ℕ) → is_product rows size n ≡ true → n ≡ rows * size
 unfolding is_product
 product-yes rows size n e = eqb-true n (rows * size) e
+
+-- by one name, for the attributes of functions
+pub ruleset step_laws = (steps-triples, steps-some, grid-points-at, product-yes)

@@ -22,16 +22,6 @@ same-address : (a : Address) (l : List ℤ) → (a.x ≡ at l 0) × ((a.y ≡ at
 unfolding address_of
 same-address a l e = λ i. record { x = e.0 i; y = e.1.0 i; z = e.1.1 i }
 
-pub returns-then-not-mesh_ok : goal.returns-then-not-mesh_ok
-unfolding first_no
-returns-then-not-mesh_ok c =
-    rw (no_of c.mesh_ok.ensures c.if-not-mesh_ok.true)
-
-pub grid_index-index-requires : goal.grid_index-index-requires
-grid_index-index-requires c =
-    let w : _ = mesh-within 256 c.args.d_diag (yes_of c.mesh_ok.ensures c.if-not-mesh_ok.false) in
-    rw c.mesh_of-mesh.ensures w
-
 pub overflow_cast-result : goal.overflow_cast-result
 overflow_cast-result c =
     let w : _ = mesh-within 256 c.args.d_diag (yes_of c.mesh_ok.ensures c.if-not-mesh_ok.false) in

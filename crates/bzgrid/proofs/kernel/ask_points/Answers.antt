@@ -1,7 +1,7 @@
 -- `bzgrid::kernel::ask_points` meets its contract.
 use native.Mathlib.Omega.{arith}
 use Rattle.list_laws.proofs.BoolLaws.{no_of, yes_of}
-use Rattle.question_grids.proofs.StepLaws.{steps_some}
+use Rattle.question_grids.proofs.StepLaws.{steps-some}
 use Rattle.ask.specs.Ask.{first_no}
 use Rattle.bzgrid.proofs.kernel.ask_points.Goals as goal
 
@@ -22,7 +22,7 @@ returns-then-not-grid_points_ok c =
 
 pub length_ok-requires : goal.length_ok-requires
 length_ok-requires c =
-    omega (arith, steps_some c.args.steps.now (yes_of c.steps_ok.ensures c.if-not-steps_ok.false))
+    omega (arith, steps-some c.args.steps.now (yes_of c.steps_ok.ensures c.if-not-steps_ok.false))
 
 pub returns-then-not-length_ok : goal.returns-then-not-length_ok
 unfolding first_no
