@@ -86,7 +86,7 @@ fn in_group(addresses: &[i64], w: Address, lo: usize, hi: usize) -> usize
 }
 
 // Kind 2: the group of the grid index.
-#[tactic(auto, using(question_grids::proofs::GridLaws::grid_laws, grgrid::proofs::IndexLaws::index_laws), unfolding(crate::specs::Neighbours::dense_neighbour))]
+#[tactic(auto, unfolding(crate::specs::Neighbours::dense_neighbour))]
 fn dense_neighbour(m: Mesh, addresses: &[i64], gp_map: &[i64], w: Address) -> usize
     requires { MeshWithin 128 m × (is_dense_map (count_of m) (triples_in addresses.now) gp_map.now ≡ true) }
     ensures { result ≡ dense_neighbour m addresses.now gp_map.now w }
@@ -98,7 +98,6 @@ fn dense_neighbour(m: Mesh, addresses: &[i64], gp_map: &[i64], w: Address) -> us
 }
 
 // Component i of the address of point g, moved by step j.
-#[tactic(auto, using(question_grids::proofs::GridLaws::grid_laws))]
 fn moved_by(addresses: Triples, steps: Triples, g: usize, j: usize, i: usize) -> i64
     requires { (3 * g + i < length addresses.numbers.now) × (3 * j + i < length steps.numbers.now) }
     ensures { result ≡ moved addresses.entry.numbers.now steps.entry.numbers.now g j i }

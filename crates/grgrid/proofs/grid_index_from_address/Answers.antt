@@ -12,7 +12,7 @@ use Rattle.ask.specs.Ask.{first_no}
 use Rattle.grgrid.proofs.IndexLaws.{index-lt}
 use Rattle.grgrid.specs.Index.{address_of}
 use Rattle.list_laws.specs.Lists.{at}
-use Rattle.list_laws.proofs.BoolLaws.{no_of, yes_of}
+use Rattle.list_laws.proofs.BoolLaws.{yes_of}
 use Rattle.question_grids.proofs.GridLaws.{mesh-within}
 use Rattle.std.specs.declared.result.Result.TheVariants.{Ok}
 use Rattle.grgrid.proofs.grid_index_from_address.Goals as goal
