@@ -26,13 +26,11 @@ fn place(tetrahedron: usize, n: usize, k: usize) -> i64
 {
     let changed = edge_along(tetrahedron % 6, k) < n;
     let falls = main_diagonal(tetrahedron / 6)[k] < 0;
-    if changed ^ falls {
-        return 1;
-    }
-    0
+    i64::from(changed ^ falls)
 }
 
 // Number i of the tables.
+#[tactic(auto, using(crate::proofs::NumberLaws::number_fits), unfolding(crate::specs::Numbers::number_of))]
 fn number(i: usize) -> i64
     requires { i < 1152 }
     ensures { result ≡ number_of i }

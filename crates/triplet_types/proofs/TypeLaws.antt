@@ -86,3 +86,8 @@ pub channel-count-le : (tp : TpType) → channel_count tp ≤ 3
 channel-count-le Type2 = omega arith
 channel-count-le Type3 = omega arith
 channel-count-le Type4 = omega arith
+
+-- by one name, for the attributes of functions
+pub ruleset type_laws = (names-two, names-three, names-four)
+
+pub ruleset answer_laws = (answers-two, answers-three, answers-four, answers-none)

@@ -5,6 +5,7 @@ ghost use Rattle.question_values.specs.TpTypes.{is_tp_type, channels_of};
 use numbers::kernel;
 
 // Question 8.
+#[tactic(auto, unfolding(crate::specs::TpTypes::is_tp_type))]
 pub fn tp_type_ok(tp_type: i64) -> bool
     ensures { result ≡ is_tp_type tp_type }
 {
@@ -12,6 +13,7 @@ pub fn tp_type_ok(tp_type: i64) -> bool
 }
 
 // How many channels a type has.
+#[tactic(auto, unfolding(crate::specs::TpTypes::channels_of))]
 pub fn channels_of(tp_type: i64) -> usize
     ensures { result ≡ channels_of tp_type }
 {
