@@ -1,5 +1,5 @@
-// For the crates above, on a sheet whose questions 3 to 13 say yes. That is a clause, here, in carry_asked and in one_turn: a struct of the work
-// and the sheet would be taken apart again for an averaging, which has no work.
+// For the crates above, on a sheet whose questions 3 to 13 say yes. That is a clause, here, in carry_asked and in one_turn: a type of sheet and
+// study would have every call show that it stays so, which a list of calls alone needs, and an averaging has no work to lie beside.
 ghost use Rattle.std.specs.Prelude.{◌++◌, ◌≡◌};
 ghost use Rattle.ask.specs.Ask.{first_no};
 ghost use Rattle.sheet_tally.specs.Tallies.{tally_questions, runs_after};
