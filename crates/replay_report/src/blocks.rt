@@ -37,7 +37,8 @@ fn replay_block<R: Replay>(
     Ok(())
 }
 
-// Replays the blocks of the input, a thousand at most, and prints what is counted.
+// Replays the blocks of the input, a thousand at most, and prints what is counted. No contract: it reads the input and prints, of which a
+// contract can say nothing; each program's stdout is compared.
 pub fn replay_blocks<R: Replay>(
     rt: &impl Print,
     alloc: Global,

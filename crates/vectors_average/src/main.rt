@@ -131,7 +131,7 @@ impl Replay for Averages {
         reader: &mut Reader<'_>,
         cases: &mut Cases,
     ) -> Result<()> {
-        cases.add(rt, average_case(reader, alloc)?)?;
+        cases.add(rt, average_case(reader, alloc)?);
         Ok(())
     }
 }

@@ -179,15 +179,15 @@ impl Replay for Kept {
         let grid = self.grid.as_ref().context("a call before any grid");
         match record {
             Record::Grid => self.grid = Some(next_grid(reader, alloc)?),
-            Record::Index => counts.index.add(rt, index_case(reader))?,
-            Record::OnePoint => counts.one.add(rt, one_case(reader, alloc, grid?)?)?,
+            Record::Index => counts.index.add(rt, index_case(reader)),
+            Record::OnePoint => counts.one.add(rt, one_case(reader, alloc, grid?)?),
             Record::ManyPoints => {
                 let many = next_many(reader, alloc)?;
-                counts.many.add(rt, many_case(&many, alloc, grid?)?)?;
+                counts.many.add(rt, many_case(&many, alloc, grid?)?);
             }
             Record::RepeatedPoint => {
                 let many = next_repeated(reader, alloc)?;
-                counts.many.add(rt, many_case(&many, alloc, grid?)?)?;
+                counts.many.add(rt, many_case(&many, alloc, grid?)?);
             }
         }
         Ok(())

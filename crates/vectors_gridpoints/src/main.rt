@@ -248,14 +248,14 @@ impl Replay for Kept {
             Record::Study => self.study = Some(next_study(reader, alloc)?),
             Record::Weights => {
                 let asked = next_weights(reader, alloc)?;
-                counts.weights.add(rt, self.weights_case(alloc, &asked)?)?;
+                counts.weights.add(rt, self.weights_case(alloc, &asked)?);
             }
             Record::RepeatedPoint => {
                 let asked = next_repeated(reader, alloc)?;
-                counts.weights.add(rt, self.weights_case(alloc, &asked)?)?;
+                counts.weights.add(rt, self.weights_case(alloc, &asked)?);
             }
-            Record::Normal => counts.normal.add(rt, normal_case(reader, alloc)?)?,
-            Record::Copies => counts.copies.add(rt, copies_case(reader, alloc)?)?,
+            Record::Normal => counts.normal.add(rt, normal_case(reader, alloc)?),
+            Record::Copies => counts.copies.add(rt, copies_case(reader, alloc)?),
         }
         Ok(())
     }

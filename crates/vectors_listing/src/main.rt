@@ -73,7 +73,7 @@ impl Replay for Listings {
         reader: &mut Reader<'_>,
         cases: &mut Cases,
     ) -> Result<()> {
-        cases.add(rt, listing_case(reader, alloc)?)?;
+        cases.add(rt, listing_case(reader, alloc)?);
         Ok(())
     }
 }

@@ -48,7 +48,7 @@ impl Replay for TestFrequencies {
         reader: &mut Reader<'_>,
         cases: &mut Cases,
     ) -> Result<()> {
-        cases.add(rt, load_case(reader, alloc)?)?;
+        cases.add(rt, load_case(reader, alloc)?);
         Ok(())
     }
 }

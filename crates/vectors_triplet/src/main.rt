@@ -241,11 +241,11 @@ impl Replay for Kept {
             Record::Study => self.study = Some(next_study(reader, alloc)?),
             Record::AllTriplets => {
                 let judged = self.call_case(reader, alloc, Asked::AllTriplets)?;
-                counts.all.add(rt, judged)?;
+                counts.all.add(rt, judged);
             }
             Record::OneTriplet => {
                 let judged = self.call_case(reader, alloc, Asked::OneTriplet)?;
-                counts.one.add(rt, judged)?;
+                counts.one.add(rt, judged);
             }
         }
         Ok(())

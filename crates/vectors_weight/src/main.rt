@@ -283,14 +283,14 @@ impl Replay for Kept {
         let record = record_of(&RECORDS, reader.next_count())?;
         match record {
             Record::Vertices => self.vertices = Some(next_list(reader, alloc)?),
-            Record::Sort => counts.sort.add(rt, sort_case(reader))?,
-            Record::Weight => counts.weight.add(rt, weight_case(reader, self.vertices()))?,
-            Record::EqualRows => counts.weight.add(rt, row_case(reader))?,
-            Record::Lattice => counts.lattice.add(rt, lattice_case(reader))?,
-            Record::Tables => counts.tables.add(rt, tables_case(reader, alloc)?)?,
-            Record::Exact => counts.exact.add(rt, exact_case(reader, false))?,
-            Record::ExactSum => counts.exact_sum.add(rt, exact_case(reader, true))?,
-            Record::Product => counts.product.add(rt, product_case(reader))?,
+            Record::Sort => counts.sort.add(rt, sort_case(reader)),
+            Record::Weight => counts.weight.add(rt, weight_case(reader, self.vertices())),
+            Record::EqualRows => counts.weight.add(rt, row_case(reader)),
+            Record::Lattice => counts.lattice.add(rt, lattice_case(reader)),
+            Record::Tables => counts.tables.add(rt, tables_case(reader, alloc)?),
+            Record::Exact => counts.exact.add(rt, exact_case(reader, false)),
+            Record::ExactSum => counts.exact_sum.add(rt, exact_case(reader, true)),
+            Record::Product => counts.product.add(rt, product_case(reader)),
         }
         Ok(())
     }
