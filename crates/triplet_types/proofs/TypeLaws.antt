@@ -6,6 +6,8 @@ use native.Mathlib.Omega.{arith}
 use lib.IntN.{ℤ, pos, negsuc}
 use Rattle.std.proofs.Common.{Ok, Err}
 use Rattle.ask.specs.Ask.{first_no}
+use Rattle.ask.proofs.AskLaws.{all_yes}
+use Rattle.ask.proofs.RefusalLaws.{given-is}
 use Rattle.ask.specs.declared.refusal.Refusal.TheVariants as refusal
 use Rattle.list_laws.specs.Signed.{is_nat, is_between}
 use Rattle.list_laws.proofs.EqualLaws.{nat-pos}
@@ -13,7 +15,7 @@ use Rattle.list_laws.proofs.SignedLaws.{between-low, between-high}
 use Rattle.question_values.specs.TpTypes.{channels_of, is_tp_type}
 use Rattle.triplet_types.specs.declared.TpType.{TpType}
 use Rattle.triplet_types.specs.declared.TpType.TheVariants.{Type2, Type3, Type4}
-use Rattle.triplet_types.specs.Types.{tp_type_of, tp_type_answer, channel_count}
+use Rattle.triplet_types.specs.Types.{tp_type_of, type_questions, tp_type_answer, channel_count}
 
 -- ---- the type that a number names
 
@@ -68,6 +70,12 @@ no-type (negsuc k) two three four = refl
 pub answers-none : (z : ℤ) → (z ≡ pos 2 → ⊥) → (z ≡ pos 3 → ⊥) → (z ≡ pos 4 → ⊥) → Err refusal.TpType ≡ tp_type_answer z
 unfolding first_no
 answers-none z two three four = rw (no-type z two three four) refl
+
+-- a number that was answered with a type has passed question 8, and names it
+pub type-given : (z : ℤ) (tp : TpType) → Ok tp ≡ tp_type_answer z → (is_tp_type z ≡ true) × (tp ≡ tp_type_of z)
+type-given z tp e =
+    let g = given-is (first_no (type_questions z)) tp (tp_type_of z) e in
+    ((all_yes (type_questions z) (omega arith, tt) g.0).0, g.1)
 
 -- ---- its output channels
 
