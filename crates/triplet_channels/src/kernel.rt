@@ -31,6 +31,7 @@ pub fn prepare_channel(
 }
 
 // A channel: closed, `None`, or open with its weight I where the point lies in the box.
+#[tactic(auto, unfolding(crate::specs::Ordered::ordered_channel_at))]
 fn channel_at(f0: f64, channel: &Channel, rows: Rows) -> Option<f64>
     ensures { result ≡ ordered_channel_at f0 channel.now rows.count }
 {
@@ -61,6 +62,7 @@ pub fn further_rows(tp: TpType, rows: usize) -> usize
 }
 
 // A channel that type 4 does not have.
+#[tactic(auto, unfolding(crate::specs::Ordered::ordered_further_at))]
 fn further_channel_at(tp: TpType, f0: f64, channel: &Channel, rows: Rows) -> Option<f64>
     ensures { result ≡ ordered_further_at tp f0 channel.now rows.count }
 {
@@ -72,6 +74,7 @@ fn further_channel_at(tp: TpType, f0: f64, channel: &Channel, rows: Rows) -> Opt
 }
 
 // The outputs at a frequency point of three channels that are ready.
+#[tactic(auto, unfolding(crate::specs::Ordered::outputs_ordered))]
 pub fn outputs_at(tp: TpType, f0: f64, channels: &Channels, rows: Rows) -> Outputs
     ensures { result ≡ outputs_ordered tp f0 channels.now rows.count }
 {

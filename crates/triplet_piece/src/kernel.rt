@@ -19,6 +19,7 @@ use triplet_values::kernel::fill_frequencies;
 use triplet_values::{Band, Combination, CornerCount};
 
 // Looks up the corners of triplet `t`; `second` is the second copy of the steps.
+#[tactic(auto, using(crate::proofs::CornersLaws::point_in, crate::proofs::CornersLaws::copy_triples, crate::proofs::CornersLaws::copy_few))]
 pub fn fill_corners(corners: &mut Corners, tested: &TestedStudy, second: &[i64], t: usize)
     requires copied { second.now ≡ second_steps tested.now.sizes.tp tested.now.study.relative_grid_address.now }
     requires t_in_bounds { t < tested.now.sizes.triplets }
@@ -36,6 +37,7 @@ pub fn fill_corners(corners: &mut Corners, tested: &TestedStudy, second: &[i64],
 }
 
 // The weight of an output channel.
+#[tactic(auto, unfolding(crate::specs::Layout::channel_of))]
 fn channel_of(o: Outputs, c: usize) -> f64
     ensures { result ≡ channel_of o c }
 {

@@ -13,6 +13,7 @@ fn clamp(f: f64) -> f64
 }
 
 // A corner's frequency: types 2 and 3 replace a value below 0 by 0, type 4 keeps it.
+#[tactic(auto, unfolding(crate::specs::Values::corner_frequency))]
 fn corner_frequency(tp: TpType, f: f64) -> f64
     ensures { result ≡ corner_frequency tp f }
 {
@@ -41,6 +42,7 @@ pub fn fill_frequencies(
 }
 
 // The value of a channel at a corner.
+#[tactic(auto, unfolding(crate::specs::Values::combined))]
 fn combine(channel: Combination, f1: f64, f2: f64) -> f64
     ensures { result ≡ combined (number_of channel) f1 f2 }
 {
@@ -81,6 +83,7 @@ fn greater_of(fmax: f64, v: f64) -> f64
 }
 
 // The least and the greatest of the values at the first corners.
+#[tactic(auto, unfolding(crate::specs::Values::least_of, crate::specs::Values::greatest_of, crate::specs::Values::box_of))]
 pub fn box_of(a: &[f64; 384], n: CornerCount) -> ValueBox
     ensures { result ≡ box_of a.now n.count }
 {

@@ -1,40 +1,28 @@
 -- `triplet_piece::kernel::fill_corners` meets its contract.
 use native.Mathlib.Omega.{arith}
-use Rattle.triplet_piece.proofs.CornersLaws.{copy-few, copy-triples, few-in, first-looked, point-in, second-looked, three-in}
+use Rattle.triplet_piece.proofs.CornersLaws.{few_in, first_looked, second_looked, three_in}
 use Rattle.triplet_piece.proofs.kernel.fill_corners.Goals as goal
 
 pub overflow_mul-t : goal.overflow_mul-t
-overflow_mul-t c = omega (arith, few-in c.args.tested.now c.args.t c.requires.t_in_bounds)
+overflow_mul-t c = omega (arith, few_in c.args.tested.now c.args.t c.requires.t_in_bounds)
 
 pub overflow_add-t : goal.overflow_add-t
-overflow_add-t c = omega (arith, few-in c.args.tested.now c.args.t c.requires.t_in_bounds)
+overflow_add-t c = omega (arith, few_in c.args.tested.now c.args.t c.requires.t_in_bounds)
 
 pub magnitude_at-g1-requires : goal.magnitude_at-g1-requires
-magnitude_at-g1-requires c = omega (arith, three-in c.args.tested.now c.args.t c.requires.t_in_bounds)
+magnitude_at-g1-requires c = omega (arith, three_in c.args.tested.now c.args.t c.requires.t_in_bounds)
 
 pub overflow_mul-t-2 : goal.overflow_mul-t-2
-overflow_mul-t-2 c = omega (arith, few-in c.args.tested.now c.args.t c.requires.t_in_bounds)
+overflow_mul-t-2 c = omega (arith, few_in c.args.tested.now c.args.t c.requires.t_in_bounds)
 
 pub overflow_add-t-2 : goal.overflow_add-t-2
-overflow_add-t-2 c = omega (arith, few-in c.args.tested.now c.args.t c.requires.t_in_bounds)
+overflow_add-t-2 c = omega (arith, few_in c.args.tested.now c.args.t c.requires.t_in_bounds)
 
 pub magnitude_at-g2-requires : goal.magnitude_at-g2-requires
-magnitude_at-g2-requires c = three-in c.args.tested.now c.args.t c.requires.t_in_bounds
-
-pub fill_corner_numbers-requires : goal.fill_corner_numbers-requires
-fill_corner_numbers-requires c = rw (c.grid-grid.ensures.1.0, c.magnitude_at-g1.ensures) (point-in c.args.tested.now c.args.t 1 c.requires.t_in_bounds (omega arith))
-
-pub invariant_of-copy : goal.invariant_of-copy
-invariant_of-copy c = record { tested = copy-triples c.args.tested.now c.args.second.now c.requires.copied }
-
-pub invariant_of-copy-2 : goal.invariant_of-copy-2
-invariant_of-copy-2 c = record { few = copy-few c.args.tested.now c.args.second.now c.requires.copied }
-
-pub fill_corner_numbers-requires-2 : goal.fill_corner_numbers-requires-2
-fill_corner_numbers-requires-2 c = rw (c.grid-grid.ensures.1.0, c.magnitude_at-g2.ensures) (point-in c.args.tested.now c.args.t 2 c.requires.t_in_bounds (omega arith))
+magnitude_at-g2-requires c = three_in c.args.tested.now c.args.t c.requires.t_in_bounds
 
 pub returns : goal.returns
 returns c =
     let e1 : _ = rw (c.grid-grid.ensures.0, c.grid-grid.ensures.1.0, c.grid-grid.ensures.1.1, c.steps.ensures, c.magnitude_at-g1.ensures) at c.fill_corner_numbers.ensures in
     let e2 : _ = rw (c.grid-grid.ensures.0, c.grid-grid.ensures.1.0, c.grid-grid.ensures.1.1, c.magnitude_at-g2.ensures) at c.fill_corner_numbers-2.ensures in
-    (first-looked c.args.tested.now c.args.t _ e1, second-looked c.args.tested.now c.args.second.now c.requires.copied c.args.t _ e2)
+    (first_looked c.args.tested.now c.args.t _ e1, second_looked c.args.tested.now c.args.second.now c.requires.copied c.args.t _ e2)
