@@ -103,3 +103,6 @@ listing-length points bands1 bands2 channels weights flags = omega arith
 pub line-length : (points bands1 bands2 channels : ℕ) (weights : List Float) (flags : List ℤ) (e : ℕ) → length (line_of points bands1 bands2 channels weights flags e) ≡ length (front_of (e / bands2 / bands1 / points) (e / bands2 / bands1 % points) (e / bands2 % bands1) (e % bands2) (flag_at flags e)) + length (weights_of weights (length flags) e channels)
 unfolding line_of
 line-length points bands1 bands2 channels weights flags e = length-append (front_of (e / bands2 / bands1 / points) (e / bands2 / bands1 % points) (e / bands2 % bands1) (e % bands2) (flag_at flags e)) (weights_of weights (length flags) e channels)
+
+-- what `grind` is given at a function
+pub ruleset five_rooms = (first-of-five, second-of-five, third-of-five, fourth-of-five, fifth-of-five)

@@ -10,6 +10,7 @@ pub use sheet::Sheet;
 use writing::kernel::Writer;
 
 // A flag as the listing writes it: 0, or 1 for any other.
+#[tactic(auto, unfolding(crate::specs::Listings::flag_at))]
 fn flag_at(flags: &[i8], e: usize) -> u64
     requires { e < length flags.now }
     ensures { result ≡ flag_at flags.now e }
@@ -18,6 +19,7 @@ fn flag_at(flags: &[i8], e: usize) -> u64
 }
 
 // Writes the front of an entry's line: triplet, point, bands and flag, a tab after each.
+#[tactic(auto, using(crate::proofs::ListingLaws::five_rooms), unfolding(crate::specs::Listings::front_of))]
 fn put_front(writer: &mut Writer<'_>, t: u64, p: u64, b1: u64, b2: u64, flag: u64)
     requires { HasRoom (front_of t p b1 b2 flag) writer.old }
     ensures { Wrote (front_of t p b1 b2 flag) writer.old writer.new }
@@ -30,6 +32,7 @@ fn put_front(writer: &mut Writer<'_>, t: u64, p: u64, b1: u64, b2: u64, flag: u6
 }
 
 // The byte after the weight of channel c.
+#[tactic(auto, unfolding(crate::specs::Listings::weight_end))]
 pub fn weight_end(channels: usize, c: usize) -> u8
     requires { c < channels }
     ensures { result ≡ weight_end channels c }
@@ -51,6 +54,7 @@ fn put_weights(writer: &mut Writer<'_>, sheet: &Sheet<'_>, e: usize)
 }
 
 // Writes the line of entry number e.
+#[tactic(auto, using(writing::proofs::WrittenLaws::room_laws), unfolding(crate::specs::Listings::line_of))]
 fn put_line(writer: &mut Writer<'_>, sheet: &Sheet<'_>, e: usize)
     requires entry { e < length sheet.now.flags.now }
     requires room { HasRoom (line_in sheet.now e) writer.old }

@@ -33,6 +33,7 @@ pub fn form_of(tp_type: i64, counts: Counts) -> Form
 }
 
 // The place after a place: b2 goes first, then b1, the point, the triplet.
+#[tactic(auto, unfolding(crate::specs::Restored::next_place))]
 pub fn next_place(place: Place, form: Form) -> Place
     requires { (place.triplet < 1099511627776) × (place.point < form.points) × (place.b1 < form.bands1) × (place.b2 < form.bands2) }
     ensures { result ≡ next_place form.points form.bands1 form.bands2 place }
@@ -67,6 +68,7 @@ pub fn next_place(place: Place, form: Form) -> Place
 }
 
 // Passes over the listing of `cells` entries from the front of a text on: its header, and the line of each.
+#[tactic(auto, using(crate::proofs::RestoredLaws::place_laws))]
 fn pass_listing(reader: &mut Reader<'_>, tested: TestedForm, cells: usize) -> Option<()>
     requires { (reader.old.at ≡ 0) × (cells < 1099511627776) }
     ensures { Passes (listing_in tested.form.points tested.form.bands1 tested.form.bands2 tested.form.channels cells reader.old.text.now) reader.old reader.new result }
@@ -87,6 +89,7 @@ fn pass_listing(reader: &mut Reader<'_>, tested: TestedForm, cells: usize) -> Op
 }
 
 // Question 22: whether the text is the listing of `cells` entries.
+#[tactic(auto, using(crate::proofs::RestoredLaws::judged_laws))]
 fn is_listing(text: &[u8], tested: TestedForm, cells: usize) -> bool
     requires { cells < 1099511627776 }
     ensures { result ≡ is_listing tested.form.points tested.form.bands1 tested.form.bands2 tested.form.channels cells text.now }
@@ -97,6 +100,7 @@ fn is_listing(text: &[u8], tested: TestedForm, cells: usize) -> bool
 }
 
 // Questions 8, 9, 12 and 22 of a listing and two buffers for its record.
+#[tactic(auto, using(list_laws::proofs::BoolLaws::yes_of, list_laws::proofs::BoolLaws::no_of, crate::proofs::RestoredLaws::count_laws), unfolding(ask::specs::Ask::first_no, crate::specs::Reading::is_listed))]
 pub fn ask_listing(
     listing: &[u8],
     tp_type: i64,

@@ -3,6 +3,7 @@ ghost use Rattle.std.specs.Prelude.{◌≡◌};
 ghost use Rattle.study_counts.specs.Counts.{few_weights};
 
 // Question 1, the count of weights.
+#[tactic(auto, using(list_laws::proofs::BoolLaws::yes_of, list_laws::proofs::BoolLaws::no_of, crate::proofs::CountLaws::small_laws), unfolding(crate::specs::Counts::few_weights, crate::specs::Counts::weight_count))]
 pub fn weight_count_ok(
     tp_type: i64,
     num_band1: i64,

@@ -57,3 +57,6 @@ module _ (text : List ℕ) where
       go : (t : List ℕ) → length t ≡ 0 → false ≡ eqb (get_or t (length t - 1) 0) 10
       go [] e = refl
       go (x ∷ t) e = absurd (omega (arith, e))
+
+-- what `grind` is given at a function
+pub ruleset head_laws = (no-grid, no-diag, no-type, no-bands, bad-diag, head_read, sized)

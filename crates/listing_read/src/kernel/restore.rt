@@ -32,6 +32,7 @@ fn restore_weights(
 }
 
 // Restores the weights and flags of a listing.
+#[tactic(auto, using(crate::proofs::RestoredLaws::place_laws), unfolding(crate::specs::Restored::weights_in, crate::specs::Restored::flags_in))]
 pub fn restore(text: &[u8], tested: TestedForm, weights: &mut [f64], flags: &mut [i8])
     requires counts { (length flags.old < 1099511627776) × (length weights.old ≡ tested.form.channels * length flags.old) }
     requires text_value { is_listing tested.form.points tested.form.bands1 tested.form.bands2 tested.form.channels (length flags.old) text.now ≡ true }

@@ -4,7 +4,7 @@ use mathlib.Core.Path.{◌∙◌, ◌≡◌, ap, refl, sym}
 use native.Mathlib.Omega.{arith}
 use Rattle.listing.specs.Listings.{header}
 use Rattle.listing_read.specs.Restored.{next_place}
-use Rattle.listing_read.proofs.RestoredLaws.{first-place, judged-first, judged-lost, judged-next, listed-is, next_place_lem, place-bounds, place-low}
+use Rattle.listing_read.proofs.RestoredLaws.{first-place, judged-first, judged-lost, judged-next, listed-is, next_place_lem}
 use Rattle.reading.proofs.ReaderLaws.{passes-as}
 use Rattle.listing_read.proofs.kernel.pass_listing.Goals as goal
 
@@ -30,11 +30,6 @@ returns-in_err-pass_line c =
     (judged-lost c.args.tested.form.points c.args.tested.form.bands1 c.args.tested.form.bands2 c.args.tested.form.channels c.args.cells c.args.reader.now.text.now c.requires.0 refl (c.loop-entry._entry + 1) (omega arith)
     (judged-next c.args.tested.form.points c.args.tested.form.bands1 c.args.tested.form.bands2 c.args.tested.form.channels c.args.cells c.args.reader.now.text.now c.requires.0 refl c.loop-entry._entry (omega arith) c.loop-entry.invariant.1
     (rw (c.loop-entry.invariant.0, c.in_err-pass_line.was) at c.pass_line.ensures))))
-
-pub next_place-place-requires : goal.next_place-place-requires
-next_place-place-requires c =
-    let b = place-bounds c.args.tested.form.points c.args.tested.form.bands1 c.args.tested.form.bands2 c.args.tested.formed.0 c.args.tested.formed.1 c.args.tested.formed.2 c.loop-entry._entry in
-    rw c.loop-entry.invariant.0 (omega (arith, place-low c.args.tested.form.points c.args.tested.form.bands1 c.args.tested.form.bands2 c.args.tested.formed.0 c.args.tested.formed.1 c.args.tested.formed.2 c.loop-entry._entry, c.requires.1), b.0, b.1, b.2)
 
 pub loop-entry-preserved : goal.loop-entry-preserved
 loop-entry-preserved c = (

@@ -6,19 +6,16 @@ use mathlib.Core.Path.{◌≡◌}
 use mir.Syntax.{w64}
 use mir.ValLaws.{to_z-of_z}
 use native.Mathlib.Omega.{arith}
-use Rattle.list_laws.proofs.BoolLaws.{no_of, yes_of}
+use Rattle.list_laws.proofs.BoolLaws.{yes_of}
 use Rattle.question_values.specs.TpTypes.{channels_of, is_tp_type}
 use Rattle.question_values.specs.Counts.{are_counts}
-use Rattle.study_counts.proofs.CountLaws.{bands-small, one-small, three-small, two-small}
+use Rattle.study_counts.proofs.CountLaws.{bands-small}
 use Rattle.study_counts.specs.Counts.{few_weights, weight_count}
 use Rattle.study_counts.proofs.kernel.weight_count_ok.Goals.{After-channels_of-channels, After-counts_ok, After-magnitude, After-magnitude-2, After-tp_type_ok, Else-not-counts_ok}
 use Rattle.study_counts.proofs.kernel.weight_count_ok.Goals as goal
 
 type-said : (c : After-tp_type_ok) → c.tp_type_ok.result ≡ is_tp_type c.args.tp_type
 type-said c = rw (to_z-of_z w64 c.args.tp_type c.ranges.tp_type) at c.tp_type_ok.ensures
-
-counts-said : (c : After-counts_ok) → c.counts_ok.result ≡ are_counts c.args.num_band1 c.args.num_band2 (pos c.args.points) (pos c.args.triplets)
-counts-said c = rw (to_z-of_z w64 c.args.num_band1 c.ranges.num_band1, to_z-of_z w64 c.args.num_band2 c.ranges.num_band2) at c.counts_ok.ensures
 
 channels-said : (c : After-channels_of-channels) → c.channels_of-channels.result ≡ channels_of c.args.tp_type
 channels-said c = rw (to_z-of_z w64 c.args.tp_type c.ranges.tp_type) at c.channels_of-channels.ensures
@@ -33,29 +30,9 @@ bands2-said c = rw (to_z-of_z w64 c.args.num_band2 c.ranges.num_band2) at c.magn
 counted : (c : Else-not-counts_ok) → are_counts c.args.num_band1 c.args.num_band2 (pos c.args.points) (pos c.args.triplets) ≡ true
 counted c = yes_of (rw (to_z-of_z w64 c.args.num_band1 c.ranges.num_band1, to_z-of_z w64 c.args.num_band2 c.ranges.num_band2) at c.counts_ok.ensures) c.if-not-counts_ok.false
 
-pub returns-then-not-tp_type_ok : goal.returns-then-not-tp_type_ok
-unfolding few_weights
-returns-then-not-tp_type_ok c = rw (no_of (type-said (goal.at.returns-then-not-tp_type_ok c).After-tp_type_ok) c.if-not-tp_type_ok.true)
-
-pub returns-then-not-counts_ok : goal.returns-then-not-counts_ok
-unfolding few_weights
-returns-then-not-counts_ok c = rw (yes_of (type-said (goal.at.returns-then-not-counts_ok c).After-tp_type_ok) c.if-not-tp_type_ok.false, no_of (counts-said (goal.at.returns-then-not-counts_ok c).After-counts_ok) c.if-not-counts_ok.true)
-
 pub overflow_mul-bands : goal.overflow_mul-bands
 overflow_mul-bands c =
     rw (bands1-said (goal.at.overflow_mul-bands c).After-magnitude, bands2-said (goal.at.overflow_mul-bands c).After-magnitude-2) (omega (arith, bands-small c.args.tp_type c.args.num_band1 c.args.num_band2 c.args.points c.args.triplets (counted (goal.at.overflow_mul-bands c).Else-not-counts_ok)))
-
-pub overflow_mul-result : goal.overflow_mul-result
-overflow_mul-result c =
-    rw (channels-said (goal.at.overflow_mul-result c).After-channels_of-channels) (omega (arith, one-small c.args.tp_type c.args.num_band1 c.args.num_band2 c.args.points c.args.triplets (counted (goal.at.overflow_mul-result c).Else-not-counts_ok)))
-
-pub overflow_mul-result-2 : goal.overflow_mul-result-2
-overflow_mul-result-2 c =
-    rw (channels-said (goal.at.overflow_mul-result-2 c).After-channels_of-channels) (omega (arith, two-small c.args.tp_type c.args.num_band1 c.args.num_band2 c.args.points c.args.triplets (counted (goal.at.overflow_mul-result-2 c).Else-not-counts_ok)))
-
-pub overflow_mul-result-3 : goal.overflow_mul-result-3
-overflow_mul-result-3 c =
-    rw (bands1-said (goal.at.overflow_mul-result-3 c).After-magnitude, bands2-said (goal.at.overflow_mul-result-3 c).After-magnitude-2, channels-said (goal.at.overflow_mul-result-3 c).After-channels_of-channels) (omega (arith, three-small c.args.tp_type c.args.num_band1 c.args.num_band2 c.args.points c.args.triplets (counted (goal.at.overflow_mul-result-3 c).Else-not-counts_ok)))
 
 pub returns : goal.returns
 unfolding few_weights weight_count

@@ -4,19 +4,19 @@ use borrow.Author.Rules.{rules}
 use lib.Ieee.{nan}
 use lib.IntN.{pos}
 use lib.ListN.{length, length-set}
-use mathlib.Core.Path.{◌∙◌, ◌≡◌, ap, refl, sym}
+use mathlib.Core.Path.{◌∙◌, ◌≡◌, ap, refl}
 use mir.Syntax.{w8}
 use mir.Val.{SFits}
 use mir.ValLaws.{to_z-of_z}
 use native.Mathlib.Omega.{arith}
 use Rattle.list_laws.proofs.ColumnLaws.{columns-all, columns-next, columns-none}
-use Rattle.list_laws.proofs.FillLaws.{fill_end, fill-next, fill_none}
+use Rattle.list_laws.proofs.FillLaws.{fill-next, fill_none}
 use Rattle.list_laws.proofs.MatrixLaws.{replaced-as}
 use Rattle.listing_line.specs.Lines.{flag_here, numbers_of, weight_here}
 use Rattle.reading.specs.Passed.{passed}
 use Rattle.reading.proofs.ReaderLaws.{passes-found}
-use Rattle.listing_read.specs.Restored.{flag_place, flags_in, next_place, place_of, weight_place, weights_in}
-use Rattle.listing_read.proofs.RestoredLaws.{first-place, header-room, line-room, next_place_lem, numbers-passed, place-bounds, place-low, start_first, start-next}
+use Rattle.listing_read.specs.Restored.{flag_place, next_place, place_of, weight_place, weights_in}
+use Rattle.listing_read.proofs.RestoredLaws.{first-place, line-room, next_place_lem, numbers-passed, start_first, start-next}
 use Rattle.listing_read.proofs.kernel.restore.restore.Goals.{After-pass_numbers, In-loop-e}
 use Rattle.listing_read.proofs.kernel.restore.restore.Goals as goal
 
@@ -34,10 +34,6 @@ found c =
       ap (λ (t : _). t.now) c.pass_numbers.ensures.same-text ∙ c.loop-e.invariant.1,
     )
 
-pub skip-requires : goal.skip-requires
-skip-requires c =
-    omega (arith, c.new-reader.ensures.front, ap (λ (t : _). length t.now) c.new-reader.ensures.text, header-room c.args.tested.form.points c.args.tested.form.bands1 c.args.tested.form.bands2 c.args.tested.form.channels (length c.args.flags.now) c.args.text.now c.requires.text_value)
-
 pub loop-e-init : goal.loop-e-init
 loop-e-init c = (
   omega (arith, c.skip.ensures.at, c.new-reader.ensures.front, start_first c.args.tested.form.points c.args.tested.form.bands1 c.args.tested.form.bands2 c.args.tested.form.channels),
@@ -47,26 +43,6 @@ loop-e-init c = (
   fill_none (λ k. pos (flag_here c.args.text.now (flag_place c.args.tested.form.points c.args.tested.form.bands1 c.args.tested.form.bands2 c.args.tested.form.channels k))) c.args.flags.now,
   columns-none nan c.args.tested.form.channels (length c.args.flags.now) (λ r k. weight_here c.args.text.now (weight_place c.args.tested.form.points c.args.tested.form.bands1 c.args.tested.form.bands2 c.args.tested.form.channels r k)) c.args.weights.now,
 )
-
-pub flag_at-requires : goal.flag_at-requires
-flag_at-requires c = let f = found (goal.at.flag_at-requires c).After-pass_numbers in
-    omega (arith, f.0, ap length f.1, room (goal.at.flag_at-requires c).In-loop-e)
-
-pub skip-requires-in-loop-e : goal.skip-requires-in-loop-e
-skip-requires-in-loop-e c = let f = found (goal.at.skip-requires-in-loop-e c).After-pass_numbers in
-    omega (arith, f.0, ap length f.1, room (goal.at.skip-requires-in-loop-e c).In-loop-e)
-
-pub restore_weights-requires : goal.restore_weights-requires
-restore_weights-requires c = let f = found (goal.at.restore_weights-requires c).After-pass_numbers in (
-  c.loop-e-test.true,
-  c.loop-e.invariant.5.same_length ∙ c.requires.counts.1,
-  omega (arith, c.skip-in-loop-e.ensures.at, ap (λ (t : _). length t.now) c.skip-in-loop-e.ensures.text, f.0, ap length f.1, room (goal.at.restore_weights-requires c).In-loop-e),
-)
-
-pub next_place-place-requires : goal.next_place-place-requires
-next_place-place-requires c =
-    let b = place-bounds c.args.tested.form.points c.args.tested.form.bands1 c.args.tested.form.bands2 c.args.tested.formed.0 c.args.tested.formed.1 c.args.tested.formed.2 c.loop-e.e in
-    rw c.loop-e.invariant.2 (omega (arith, place-low c.args.tested.form.points c.args.tested.form.bands1 c.args.tested.form.bands2 c.args.tested.formed.0 c.args.tested.formed.1 c.args.tested.formed.2 c.loop-e.e, c.requires.counts.0), b.0, b.1, b.2)
 
 pub loop-e-preserved : goal.loop-e-preserved
 loop-e-preserved c =
@@ -86,9 +62,3 @@ unfolding weights_in
 returns-clause-weights_after c =
     let e : c.loop-e.e ≡ length c.args.flags.now = omega arith in
     columns-all nan c.args.tested.form.channels (length c.args.flags.now) (λ r k. weight_here c.args.text.now (weight_place c.args.tested.form.points c.args.tested.form.bands1 c.args.tested.form.bands2 c.args.tested.form.channels r k)) c.args.weights.now c.loop-e.weights c.requires.counts.1 (rw e at c.loop-e.invariant.5)
-
-pub returns-clause-flags_after : goal.returns-clause-flags_after
-unfolding flags_in
-returns-clause-flags_after c =
-    let e : c.loop-e.e ≡ length c.args.flags.now = omega arith in
-    fill_end (λ k. pos (flag_here c.args.text.now (flag_place c.args.tested.form.points c.args.tested.form.bands1 c.args.tested.form.bands2 c.args.tested.form.channels k))) c.loop-e.flags c.loop-e.e (length c.args.flags.now) c.loop-e.invariant.4 (c.loop-e.invariant.3 ∙ sym e) e
