@@ -11,7 +11,7 @@ use anyhow::Result;
 use averaging::{Averaging, average_weights_over_degenerate_sets};
 use replay_compare::kernel::agree;
 use replay_input::reader::{Field, Reader};
-use replay_report::blocks::{Replay, replay_blocks};
+use replay_report::blocks::{Case, Only, replay_blocks};
 use replay_report::cases::{Cases, Judged, stored};
 use replay_study::owned::next_list;
 use std::alloc::{AllocError, Global};
@@ -117,25 +117,16 @@ fn average_case(reader: &mut Reader<'_>, alloc: Global) -> Result<Judged, AllocE
     Ok(Judged { refusal, agrees })
 }
 
-// Averages; no record is kept for those after it.
+// Averages.
 #[derive(Debug, Default, Drop)]
 struct Averages;
 
-impl Replay for Averages {
-    type Counts = Cases;
-
-    fn next_record(
-        &mut self,
-        rt: &impl Print,
-        alloc: Global,
-        reader: &mut Reader<'_>,
-        cases: &mut Cases,
-    ) -> Result<()> {
-        cases.add(rt, average_case(reader, alloc)?);
-        Ok(())
+impl Case for Averages {
+    fn next_case(reader: &mut Reader<'_>, alloc: Global) -> Result<Judged, AllocError> {
+        average_case(reader, alloc)
     }
 }
 
 fn main(rt: HostRuntime) -> Result<()> {
-    replay_blocks::<Averages>(&rt, rt.alloc(), Cases::new("averages", "averages"))
+    replay_blocks::<Only<Averages>>(&rt, rt.alloc(), Cases::new("averages", "averages"))
 }

@@ -11,7 +11,7 @@ use listing_read::read_listing;
 use replay_compare::kernel::Compared;
 use replay_input::kernel::at_most;
 use replay_input::reader::Reader;
-use replay_report::blocks::{Replay, replay_blocks};
+use replay_report::blocks::{Case, Only, replay_blocks};
 use replay_report::cases::{Cases, Judged};
 use sheet_counts::Counts;
 use std::alloc::{AllocError, Global};
@@ -59,27 +59,18 @@ fn listing_case(reader: &mut Reader<'_>, alloc: Global) -> Result<Judged, AllocE
     Ok(Judged { refusal, agrees })
 }
 
-// Listings; no record is kept for those after it.
+// Listings.
 #[derive(Debug, Default, Drop)]
 struct Listings;
 
-impl Replay for Listings {
-    type Counts = Cases;
-
-    fn next_record(
-        &mut self,
-        rt: &impl Print,
-        alloc: Global,
-        reader: &mut Reader<'_>,
-        cases: &mut Cases,
-    ) -> Result<()> {
-        cases.add(rt, listing_case(reader, alloc)?);
-        Ok(())
+impl Case for Listings {
+    fn next_case(reader: &mut Reader<'_>, alloc: Global) -> Result<Judged, AllocError> {
+        listing_case(reader, alloc)
     }
 }
 
 fn main(rt: HostRuntime) -> Result<()> {
-    replay_blocks::<Listings>(
+    replay_blocks::<Only<Listings>>(
         &rt,
         rt.alloc(),
         Cases::new("listings read", "listings read"),

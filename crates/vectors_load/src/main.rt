@@ -7,7 +7,7 @@
 
 use anyhow::Result;
 use replay_input::reader::Reader;
-use replay_report::blocks::{Replay, replay_blocks};
+use replay_report::blocks::{Case, Only, replay_blocks};
 use replay_report::cases::{Cases, Judged};
 use std::alloc::{AllocError, Global};
 
@@ -34,27 +34,18 @@ fn load_case(reader: &mut Reader<'_>, alloc: Global) -> Result<Judged, AllocErro
     })
 }
 
-// Test frequencies; no record is kept for those after it.
+// Test frequencies.
 #[derive(Debug, Default, Drop)]
 struct TestFrequencies;
 
-impl Replay for TestFrequencies {
-    type Counts = Cases;
-
-    fn next_record(
-        &mut self,
-        rt: &impl Print,
-        alloc: Global,
-        reader: &mut Reader<'_>,
-        cases: &mut Cases,
-    ) -> Result<()> {
-        cases.add(rt, load_case(reader, alloc)?);
-        Ok(())
+impl Case for TestFrequencies {
+    fn next_case(reader: &mut Reader<'_>, alloc: Global) -> Result<Judged, AllocError> {
+        load_case(reader, alloc)
     }
 }
 
 fn main(rt: HostRuntime) -> Result<()> {
-    replay_blocks::<TestFrequencies>(
+    replay_blocks::<Only<TestFrequencies>>(
         &rt,
         rt.alloc(),
         Cases::new("test frequencies", "test frequencies"),
