@@ -90,40 +90,35 @@ fn flags_of(numbers: &[i64], alloc: Global) -> Result<Vec<i8>, AllocError> {
         .collect(alloc)
 }
 
-fn average_case(reader: &mut Reader<'_>, alloc: Global) -> Result<Judged, AllocError> {
-    let refusal = reader.next_count();
-    let tp_type = reader.next_whole();
-    let num_band0 = reader.next_whole();
-    let num_band = reader.next_whole();
-    let ids1 = next_list(reader, alloc)?;
-    let ids2 = next_list(reader, alloc)?;
-    let weights: Stored<f64> = next_stored(reader, alloc)?;
-    let flags: Stored<i64> = next_stored(reader, alloc)?;
-    let averaging = Averaging {
-        degenerate_ids1: &ids1,
-        degenerate_ids2: &ids2,
-        num_band0,
-        num_band,
-        tp_type,
-    };
-    let mut iw = before(&weights, alloc)?;
-    let mut iw_zero = flags_of(&before(&flags, alloc)?, alloc)?;
-    let answer = average_weights_over_degenerate_sets(averaging, &mut iw, &mut iw_zero);
-    let weights_after = after(&weights, refusal, alloc)?;
-    let flags_after = flags_of(&after(&flags, refusal, alloc)?, alloc)?;
-    let agrees = answer.map_err(|why| why.number()) == stored(refusal, ())
-        && agree(&iw, &weights_after)
-        && iw_zero == flags_after;
-    Ok(Judged { refusal, agrees })
-}
-
-// Averages.
 #[derive(Debug, Default, Drop)]
 struct Averages;
 
 impl Case for Averages {
     fn next_case(reader: &mut Reader<'_>, alloc: Global) -> Result<Judged, AllocError> {
-        average_case(reader, alloc)
+        let refusal = reader.next_count();
+        let tp_type = reader.next_whole();
+        let num_band0 = reader.next_whole();
+        let num_band = reader.next_whole();
+        let ids1 = next_list(reader, alloc)?;
+        let ids2 = next_list(reader, alloc)?;
+        let weights: Stored<f64> = next_stored(reader, alloc)?;
+        let flags: Stored<i64> = next_stored(reader, alloc)?;
+        let averaging = Averaging {
+            degenerate_ids1: &ids1,
+            degenerate_ids2: &ids2,
+            num_band0,
+            num_band,
+            tp_type,
+        };
+        let mut iw = before(&weights, alloc)?;
+        let mut iw_zero = flags_of(&before(&flags, alloc)?, alloc)?;
+        let answer = average_weights_over_degenerate_sets(averaging, &mut iw, &mut iw_zero);
+        let weights_after = after(&weights, refusal, alloc)?;
+        let flags_after = flags_of(&after(&flags, refusal, alloc)?, alloc)?;
+        let agrees = answer.map_err(|why| why.number()) == stored(refusal, ())
+            && agree(&iw, &weights_after)
+            && iw_zero == flags_after;
+        Ok(Judged { refusal, agrees })
     }
 }
 

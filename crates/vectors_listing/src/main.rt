@@ -35,37 +35,32 @@ fn are_stored(reader: &mut Reader<'_>, weights: &[f64], flags: &[i8]) -> bool {
     reader.agrees_with(weights) & reader.agrees_with(flags)
 }
 
-// The call on two buffers, compared with what is stored for it.
-fn listing_case(reader: &mut Reader<'_>, alloc: Global) -> Result<Judged, AllocError> {
-    let refusal = reader.next_count();
-    let tp_type = reader.next_whole();
-    let counts = Counts {
-        num_triplets: reader.next_whole(),
-        num_band0: reader.next_whole(),
-        num_band1: reader.next_whole(),
-        num_band2: reader.next_whole(),
-    };
-    let num_weights = at_most(reader.next_count(), MOST);
-    let num_flags = at_most(reader.next_count(), MOST);
-    let size = reader.next_count();
-    let listing = reader.next_bytes(size);
-    let _newline = reader.next_bytes(1);
-    let mut weights = vec![in alloc; WEIGHT_BEFORE; num_weights]?;
-    let mut flags = vec![in alloc; FLAG_BEFORE; num_flags]?;
-    let agrees = match read_listing(listing, tp_type, counts, &mut weights, &mut flags) {
-        Ok(()) => refusal == 0 && are_stored(reader, &weights, &flags),
-        Err(why) => why.number() == refusal && are_kept(&weights, &flags),
-    };
-    Ok(Judged { refusal, agrees })
-}
-
-// Listings.
 #[derive(Debug, Default, Drop)]
 struct Listings;
 
 impl Case for Listings {
+    // The call on two buffers, compared with what is stored for it.
     fn next_case(reader: &mut Reader<'_>, alloc: Global) -> Result<Judged, AllocError> {
-        listing_case(reader, alloc)
+        let refusal = reader.next_count();
+        let tp_type = reader.next_whole();
+        let counts = Counts {
+            num_triplets: reader.next_whole(),
+            num_band0: reader.next_whole(),
+            num_band1: reader.next_whole(),
+            num_band2: reader.next_whole(),
+        };
+        let num_weights = at_most(reader.next_count(), MOST);
+        let num_flags = at_most(reader.next_count(), MOST);
+        let size = reader.next_count();
+        let listing = reader.next_bytes(size);
+        let _newline = reader.next_bytes(1);
+        let mut weights = vec![in alloc; WEIGHT_BEFORE; num_weights]?;
+        let mut flags = vec![in alloc; FLAG_BEFORE; num_flags]?;
+        let agrees = match read_listing(listing, tp_type, counts, &mut weights, &mut flags) {
+            Ok(()) => refusal == 0 && are_stored(reader, &weights, &flags),
+            Err(why) => why.number() == refusal && are_kept(&weights, &flags),
+        };
+        Ok(Judged { refusal, agrees })
     }
 }
 

@@ -19,28 +19,23 @@ fn next_buffer(reader: &mut Reader<'_>, alloc: Global) -> Result<Vec<f64>, Alloc
     vec![in alloc; NO_FREQUENCY; reader.next_count() as usize]
 }
 
-fn load_case(reader: &mut Reader<'_>, alloc: Global) -> Result<Judged, AllocError> {
-    let start = (reader.next_count() % 0x1_0000_0000) as u32;
-    let mut frequencies1 = next_buffer(reader, alloc)?;
-    let mut frequencies2 = next_buffer(reader, alloc)?;
-    let mut points = next_buffer(reader, alloc)?;
-    test_load::fill_frequencies(start, &mut frequencies1, &mut frequencies2, &mut points);
-    let first = reader.agrees_with(&frequencies1);
-    let second = reader.agrees_with(&frequencies2);
-    let third = reader.agrees_with(&points);
-    Ok(Judged {
-        refusal: 0,
-        agrees: first && second && third,
-    })
-}
-
-// Test frequencies.
 #[derive(Debug, Default, Drop)]
 struct TestFrequencies;
 
 impl Case for TestFrequencies {
     fn next_case(reader: &mut Reader<'_>, alloc: Global) -> Result<Judged, AllocError> {
-        load_case(reader, alloc)
+        let start = (reader.next_count() % 0x1_0000_0000) as u32;
+        let mut frequencies1 = next_buffer(reader, alloc)?;
+        let mut frequencies2 = next_buffer(reader, alloc)?;
+        let mut points = next_buffer(reader, alloc)?;
+        test_load::fill_frequencies(start, &mut frequencies1, &mut frequencies2, &mut points);
+        let first = reader.agrees_with(&frequencies1);
+        let second = reader.agrees_with(&frequencies2);
+        let third = reader.agrees_with(&points);
+        Ok(Judged {
+            refusal: 0,
+            agrees: first && second && third,
+        })
     }
 }
 
