@@ -2,6 +2,8 @@
 ghost use Rattle.std.specs.Prelude.{◌≡◌};
 ghost use Rattle.study_counts.specs.Counts.{few_weights};
 
+use triplet_types::TpType;
+
 // Question 1, the count of weights.
 #[tactic(auto, using(list_laws::proofs::BoolLaws::yes_of, list_laws::proofs::BoolLaws::no_of, crate::proofs::CountLaws::small_laws), unfolding(crate::specs::Counts::few_weights, crate::specs::Counts::weight_count))]
 pub fn weight_count_ok(
@@ -13,13 +15,13 @@ pub fn weight_count_ok(
 ) -> bool
     ensures { result ≡ few_weights tp_type num_band1 num_band2 points triplets }
 {
-    if !question_values::kernel::tp_type::tp_type_ok(tp_type) {
+    let Ok(tp) = TpType::try_from(tp_type) else {
         return true;
-    }
+    };
     if !question_values::kernel::counts::counts_ok(num_band1, num_band2, points, triplets) {
         return true;
     }
-    let channels = question_values::kernel::tp_type::channels_of(tp_type);
+    let channels = tp.num_channels();
     let bands = numbers::kernel::magnitude(num_band1) * numbers::kernel::magnitude(num_band2);
     channels * triplets * points * bands <= 4096
 }

@@ -3,29 +3,29 @@ ghost use Rattle.std.specs.Prelude.{◌≡◌, true, ◌*◌, length};
 ghost use Rattle.ask.specs.Ask.{first_no};
 ghost use Rattle.ask.specs.Refusals.{answer_of};
 ghost use Rattle.question_grids.specs.Grids.{are_triples};
+ghost use Rattle.triplet_types.specs.Types.{tp_type_of};
 ghost use Rattle.triplet_corners.specs.Corners.{copy_of};
 ghost use Rattle.triplet_addresses.specs.Copies.{copies_of, copy_questions};
 
 use ask::Refusal;
+use triplet_types::TpType;
 
-// Questions 7, 8 and 12. out_len counts what is not read here: a list in its place would ask more of the caller.
+// Questions 7, 8 and 12. Gives the type. out_len counts what is not read here: a list in its place would ask more of the caller.
 pub fn ask_copies(
     relative_grid_address: &[i64],
     tp_type: i64,
     out_len: usize,
-) -> Result<(), Refusal>
-    ensures { result ≡ answer_of (first_no (copy_questions relative_grid_address.now tp_type out_len)) tt }
+) -> Result<TpType, Refusal>
+    ensures { result ≡ answer_of (first_no (copy_questions relative_grid_address.now tp_type out_len)) (tp_type_of tp_type) }
 {
     if !question_grids::kernel::tables::table_ok(relative_grid_address) {
         return Err(Refusal::Table);
     }
-    if !question_values::kernel::tp_type::tp_type_ok(tp_type) {
-        return Err(Refusal::TpType);
-    }
+    let tp = TpType::try_from(tp_type)?;
     if !question_values::kernel::counts::length_ok(2, relative_grid_address.len(), out_len) {
         return Err(Refusal::Lengths);
     }
-    Ok(())
+    Ok(tp)
 }
 
 // The second copy of the table, negated or as it is: `copy_from_slice` could not negate.

@@ -41,8 +41,7 @@ pub fn set_relative_grid_address(
         (both_copies tp_type relative_grid_address.now)
         out.old }
 {
-    copies::ask_copies(relative_grid_address, tp_type, out.len())?;
-    let tp = triplet_types::kernel::tp_type_of(tp_type);
+    let tp = copies::ask_copies(relative_grid_address, tp_type, out.len())?;
     copies::fill_copies(
         out,
         relative_grid_address,

@@ -19,6 +19,6 @@ asked s = copy_questions s.args.relative_grid_address.now s.args.tp_type (length
 pub fill_copies-requires : goal.fill_copies-requires
 fill_copies-requires c =
     let s : _ = (goal.at.fill_copies-requires c).Start in
-    let n : _ = rw (to_z-of_z w64 c.args.tp_type c.ranges.tp_type, c.in_ok-ask_copies.was) at c.ask_copies.ensures in
-    let y : AllYes (asked s) = all_yes (asked s) (omega arith, (omega arith, (omega arith, tt))) (given-is _ _ tt n).0 in
+    let n : _ = rw (to_z-of_z w64 c.args.tp_type c.ranges.tp_type, c.in_ok-tp.was) at c.ask_copies.ensures in
+    let y : AllYes (asked s) = all_yes (asked s) (omega arith, (omega arith, (omega arith, tt))) (given-is _ _ _ n).0 in
     (table-triples c.args.relative_grid_address.now y.0, product-yes 2 (length c.args.relative_grid_address.now) (length c.args.out.now) y.1.1.0)
