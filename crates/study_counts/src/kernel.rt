@@ -5,7 +5,6 @@ ghost use Rattle.study_counts.specs.Counts.{few_weights};
 use triplet_types::TpType;
 
 // Question 1, the count of weights.
-#[tactic(auto, using(list_laws::proofs::BoolLaws::yes_of, list_laws::proofs::BoolLaws::no_of, crate::proofs::CountLaws::small_laws), unfolding(crate::specs::Counts::few_weights, crate::specs::Counts::weight_count))]
 pub fn weight_count_ok(
     tp_type: i64,
     num_band1: i64,

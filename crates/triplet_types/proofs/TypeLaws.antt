@@ -7,7 +7,8 @@ use lib.IntN.{ℤ, pos, negsuc}
 use Rattle.std.proofs.Common.{Ok, Err}
 use Rattle.ask.specs.Ask.{first_no}
 use Rattle.ask.proofs.AskLaws.{all_yes}
-use Rattle.ask.proofs.RefusalLaws.{given-is}
+use Rattle.ask.proofs.RefusalLaws.{given-is, refused-not}
+use Rattle.ask.specs.declared.refusal.Refusal.{Refusal}
 use Rattle.ask.specs.declared.refusal.Refusal.TheVariants as refusal
 use Rattle.list_laws.specs.Signed.{is_nat, is_between}
 use Rattle.list_laws.proofs.EqualLaws.{nat-pos}
@@ -76,6 +77,15 @@ pub type-given : (z : ℤ) (tp : TpType) → Ok tp ≡ tp_type_answer z → (is_
 type-given z tp e =
     let g = given-is (first_no (type_questions z)) tp (tp_type_of z) e in
     ((all_yes (type_questions z) (omega arith, tt) g.0).0, g.1)
+
+-- one that was answered with a refusal has not
+pub type-refused : (z : ℤ) (why : Refusal) → Err why ≡ tp_type_answer z → is_tp_type z ≡ false
+unfolding first_no
+type-refused z why e = go (is_tp_type z) refl
+  where
+    go : (b : Bool) → is_tp_type z ≡ b → b ≡ false
+    go true p = absurd (refused-not (first_no (type_questions z)) why (tp_type_of z) e (rw p refl))
+    go false p = refl
 
 -- ---- its output channels
 

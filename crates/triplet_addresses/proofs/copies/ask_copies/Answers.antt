@@ -7,7 +7,10 @@ use native.Mathlib.Omega.{arith}
 use Rattle.list_laws.proofs.BoolLaws.{no_of, yes_of}
 use Rattle.question_grids.proofs.TableLaws.{rows_whole, table-some}
 use Rattle.std.proofs.lemmas.Result.{err_from_is_err_and}
-use Rattle.ask.specs.Ask.{first_no}
+use mathlib.Core.List.{◌∷◌, []}
+use lib.ListN.{length}
+use Rattle.question_values.specs.Counts.{is_product}
+use Rattle.ask.specs.Ask.{asks, first_no}
 use Rattle.ask.proofs.AskLaws.{group-no}
 use Rattle.ask.proofs.RefusalLaws.{refused-is, refused-not}
 use Rattle.question_values.specs.TpTypes.{is_tp_type}
@@ -30,7 +33,7 @@ returns-in_err-tp c =
     let told : _ = rw (to_z-of_z w64 c.args.tp_type c.ranges.tp_type, c.in_err-tp.was) at c.try_from.ensures in
     let p = err_from_is_err_and c.from_residual.result c.from_residual.ensures.1 in
     let yes : _ = yes_of c.table_ok.ensures c.if-not-table_ok.false in
-    rw (p.1, p.2) (refused-is _ _ _ _ (tp_type_of c.args.tp_type) told (rw yes (group-no (type_questions c.args.tp_type) _ (refused-not _ _ (tp_type_of c.args.tp_type) told))))
+    rw (p.1, p.2) (refused-is _ _ _ _ (tp_type_of c.args.tp_type) told (rw yes (group-no (type_questions c.args.tp_type) (asks 12 (is_product 2 (length c.args.relative_grid_address.now) c.args.out_len) ∷ []) (refused-not _ _ (tp_type_of c.args.tp_type) told))))
 
 pub length_ok-requires : goal.length_ok-requires
 length_ok-requires c =
