@@ -6,44 +6,14 @@ use mathlib.Core.Path.{◌∙◌}
 use native.Mathlib.Omega.{arith}
 use Rattle.list_laws.proofs.GroupLaws.{groups_none}
 use Rattle.averaging_blocks.specs.Weights.{averaged}
-use Rattle.sheet_step.proofs.CountLaws.{channel-place, entries-few, size_few, triplet-place}
-use Rattle.sheet_average.proofs.AverageLaws.{channel-back, channel-turn, channels-all, part-square}
+use Rattle.sheet_step.proofs.CountLaws.{channel-place, entries-few}
+use Rattle.sheet_average.proofs.AverageLaws.{channel-back, channel-turn, channels-all}
 use Rattle.sheet_average.proofs.kernel.average_weights.Goals as goal
-
-pub overflow_mul-size : goal.overflow_mul-size
-overflow_mul-size c = omega (arith, size_few c.args.z c.requires.counted)
-
-pub overflow_mul-start-in-loop-c : goal.overflow_mul-start-in-loop-c
-overflow_mul-start-in-loop-c c =
-    let h = c.requires.counted in
-    omega (arith, triplet-place c.args.z h c.args.t c.requires.on_sheet.0, h.cells-few)
-
-pub overflow_add-start : goal.overflow_add-start
-overflow_add-start c =
-    let h = c.requires.counted in
-    omega (arith, channel-place c.args.z h c.args.t c.loop-c.c c.requires.on_sheet.0 (omega arith), entries-few c.args.z h)
-
-pub overflow_add-end : goal.overflow_add-end
-overflow_add-end c =
-    let h = c.requires.counted in
-    omega (arith, channel-place c.args.z h c.args.t c.loop-c.c c.requires.on_sheet.0 (omega arith), entries-few c.args.z h)
-
-pub offset_bounds-weights-start : goal.offset_bounds-weights-start
-offset_bounds-weights-start c =
-    let h = c.requires.counted in
-    omega (arith, channel-place c.args.z h c.args.t c.loop-c.c c.requires.on_sheet.0 (omega arith), entries-few c.args.z h)
 
 pub slice_bounds-average_points-end : goal.slice_bounds-average_points-end
 slice_bounds-average_points-end c =
     let h = c.requires.counted in
     omega (arith, channel-place c.args.z h c.args.t c.loop-c.c c.requires.on_sheet.0 (omega arith), entries-few c.args.z h, c.requires.lengths.0)
-
-pub average_points-requires-clause-m_len : goal.average_points-requires-clause-m_len
-average_points-requires-clause-m_len c =
-    let z = c.args.z in
-    let h = c.requires.counted in
-    let p : _ = channel-place z h c.args.t c.loop-c.c c.requires.on_sheet.0 (omega arith) in
-    part-square z h c.args.degenerate_ids1.now c.args.degenerate_ids2.now c.requires.on_sheet.1 (c.loop-c.c * z.cells + c.args.t * (z.points * z.pairs)) c.loop-c.weights (omega (arith, p, c.requires.lengths.0))
 
 pub loop-c-init : goal.loop-c-init
 loop-c-init c =

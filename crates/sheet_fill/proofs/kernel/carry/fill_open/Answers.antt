@@ -1,30 +1,16 @@
 -- `sheet_fill::kernel::carry::fill_open` meets its contract.
 use borrow.Author.Tests.{eq-eqb, ne_eqb}
-use lib.ListN.{length}
 use mathlib.Core.Bool.{false, true}
-use mathlib.Core.List.{List}
-use mathlib.Core.Path.{◌∙◌, ◌≡◌, ap, refl, sym}
-use Prim.Native.Nat.{ℕ, ◌+◌}
-use Rattle.marks.proofs.BytesLaws.{holds_same}
-use Rattle.marks.proofs.MarkLaws.{length-carried}
-use Rattle.marks.specs.Bytes.{Holds}
-use Rattle.marks.specs.Marks.{is_open_mark, is_open_at, carried_marks}
+use mathlib.Core.Path.{◌∙◌, ◌≡◌, refl, sym}
+use Prim.Native.Nat.{◌+◌}
+use Rattle.marks.specs.Marks.{is_open_mark, is_open_at}
 use Rattle.sheet_fill.proofs.OpenLaws.{open_none, open_more, open-one, shut_one, closed_none, closed-one, closed-more, kept-one}
 use Rattle.sheet_fill.specs.Piece.{is_open_piece}
-use Rattle.sheet_step.specs.Steps.{pieces_of}
 use Rattle.triplet_piece.proofs.WeightLaws.{computed-alike, computed-join, computed-none}
 use Rattle.triplet_piece.specs.Weights.{AreComputed}
 use Rattle.sheet_fill.specs.Kept.{study_in}
 use Rattle.sheet_fill.proofs.kernel.carry.fill_open.Goals.{Start}
 use Rattle.sheet_fill.proofs.kernel.carry.fill_open.Goals as goal
-
--- the marks of a turn are as many as at the start
-marks-long : (s : Start) (q : ℕ) (m : List ℕ) → m ≡ carried_marks q s.args.marks.now → length m ≡ length s.args.marks.now
-marks-long s q m e = ap length e ∙ length-carried q s.args.marks.now
-
--- the marks of a turn are enough
-marks-hold : (s : Start) (q : ℕ) (m : List ℕ) → m ≡ carried_marks q s.args.marks.now → Holds (pieces_of s.args.work.now.prepared.tested.sizes) m
-marks-hold s q m e = holds_same (pieces_of s.args.work.now.prepared.tested.sizes) s.args.marks.now m (marks-long s q m e) s.requires.held
 
 pub loop-q-init : goal.loop-q-init
 loop-q-init c =

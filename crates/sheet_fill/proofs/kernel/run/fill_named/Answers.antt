@@ -10,9 +10,3 @@ fill_piece-requires-clause-held c =
 pub returns-clause-computes : goal.returns-clause-computes
 returns-clause-computes c = corners-computed c.args.work.now.prepared.tested _ c.args.piece c.keep_corners.ensures.corners c.requires.on_sheet
     (rw (c.counted-counted.ensures.sizes, c.counted-counted.ensures.values.0, c.counted-counted.ensures.values.1.0, c.counted-counted.ensures.values.1.1, c.keep_corners.ensures.study) at c.fill_piece.ensures)
-
-pub fill_piece-requires-clause-fits : goal.fill_piece-requires-clause-fits
-fill_piece-requires-clause-fits c = rw (c.counted-counted.ensures.sizes, c.counted-counted.ensures.values.1.1, c.keep_corners.ensures.study) c.requires.fits
-
-pub fill_piece-requires-clause-on_study : goal.fill_piece-requires-clause-on_study
-fill_piece-requires-clause-on_study c = rw (c.counted-counted.ensures.sizes, c.keep_corners.ensures.study) c.requires.on_sheet
