@@ -166,4 +166,5 @@ module _ (place : Place) (channels : ℕ) {u v : Reader} (p : Passes (numbers_of
 
 -- what `grind` is given at a function
 pub ruleset printed_laws = (low-printed, high-printed)
+
 pub ruleset flag_laws = (flag-zero, flag_one)

@@ -241,5 +241,7 @@ module _ (points bands1 bands2 channels : ℕ) where
 
 -- what `grind` is given at a function
 pub ruleset judged_laws = (judged-some, judged-none)
+
 pub ruleset count_laws = (counts-low, all-cells-le, weights-le, both-yes)
+
 pub ruleset place_laws = (first-place, header-room, line-room, next_place_lem, numbers-passed, place-bounds, place-low, start_first, start-next)

@@ -20,6 +20,14 @@ use reading::kernel::Reader;
 use sheet_counts::Counts;
 use sheet_counts::kernel::{ask_counts, cells_of};
 
+// Where the first entry belongs.
+pub(crate) const FIRST: Place = Place {
+    triplet: 0,
+    point: 0,
+    b1: 0,
+    b2: 0,
+};
+
 // The form of the listing of a type and counts.
 pub fn form_of(tp_type: i64, counts: Counts) -> Form
     ensures { result ≡ form_of tp_type counts }
@@ -75,12 +83,7 @@ fn pass_listing(reader: &mut Reader<'_>, tested: TestedForm, cells: usize) -> Op
 {
     let form = tested.form;
     reader.pass_slice(b"triplet\tpoint\tb1\tb2\tflag\tw\n")?;
-    let mut place = Place {
-        triplet: 0,
-        point: 0,
-        b1: 0,
-        b2: 0,
-    };
+    let mut place = FIRST;
     for _entry in 0..cells {
         pass_line(reader, place, form.channels)?;
         place = next_place(place, form);

@@ -97,5 +97,7 @@ module _ (text : List ℕ) where
 
 -- what `grind` is given at a function
 pub ruleset grid_laws = (no-addresses, no-map, grid-read)
+
 pub ruleset floats_laws = (no-f1, no-f2, no-points, floats-read)
+
 pub ruleset study_laws = (too_long, not-ended, no-head, no-grid-part, no-floats-part, no-triplets, more-lines, study-read)

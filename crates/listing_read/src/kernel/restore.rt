@@ -6,9 +6,8 @@ ghost use Rattle.list_laws.specs.Matrix.{Replaced};
 ghost use Rattle.listing_line.specs.Lines.{weight_here};
 ghost use Rattle.listing_read.specs.Restored.{is_listing, weights_in, flags_in};
 
-use crate::kernel::next_place;
 use crate::kernel::tested::TestedForm;
-use listing_line::Place;
+use crate::kernel::{FIRST, next_place};
 use listing_line::kernel::{flag_at, pass_numbers, weight_at};
 use reading::kernel::Reader;
 
@@ -43,12 +42,7 @@ pub fn restore(text: &[u8], tested: TestedForm, weights: &mut [f64], flags: &mut
     let cells = flags.len();
     let mut reader = Reader::new(text);
     reader.skip(27);
-    let mut place = Place {
-        triplet: 0,
-        point: 0,
-        b1: 0,
-        b2: 0,
-    };
+    let mut place = FIRST;
     for e in 0..cells {
         // they stand there, as the text passed question 22
         pass_numbers(&mut reader, place);
