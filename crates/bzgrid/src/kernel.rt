@@ -37,7 +37,7 @@ pub fn fill_many(out: &mut [i64], grid_points: &[i64], steps: Triples, grid: Tes
     }
 }
 
-// The questions of the calls, after those on the grid. p and out_len are the lengths of lists that are not read here.
+// The questions of the calls, after those on the grid. p and out_len count what is not read here: a list in their place would ask more of the caller.
 #[tactic(auto, using(list_laws::proofs::BoolLaws::yes_of, list_laws::proofs::BoolLaws::no_of, question_grids::proofs::StepLaws::step_laws), unfolding(ask::specs::Ask::first_no))]
 pub fn ask_points(
     grid_points: &[i64],

@@ -13,7 +13,6 @@ const LEAST_POINT: f64 = 2.0902722826084166e-199;
 const GREATEST_POINT: f64 = 2147483648.0;
 
 // Zero, or of a magnitude from low to high.
-#[tactic(auto, unfolding(crate::specs::Frequencies::in_range))]
 pub fn in_range(low: f64, high: f64, x: f64) -> bool
     ensures { result ≡ in_range low high x }
 {
