@@ -34,7 +34,7 @@ pub fn grid_of(bz_grid_type: i64, d_diag: [i64; 3]) -> BzGrid
     }
 }
 
-// Whether address number j is the wanted one. A derived equality would first need an `Address` made of the three numbers, and tests them by branches.
+// Whether address number j is the wanted one. A derived equality would be no plainer: it needs an `Address` made of the three numbers first.
 #[tactic(auto, unfolding(crate::specs::Neighbours::is_address))]
 fn same_address(addresses: &[i64], j: usize, w: Address) -> bool
     requires { 3 * j + 2 < length addresses.now }

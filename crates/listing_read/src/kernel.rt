@@ -4,6 +4,7 @@ pub mod tested;
 
 ghost use Rattle.std.specs.Prelude.{◌+◌, ◌<◌, ◌≡◌};
 ghost use Rattle.ask.specs.Refusals.{answer_of};
+ghost use Rattle.triplet_types.specs.Types.{tp_type_of};
 ghost use Rattle.reading.specs.Passes.{Passes};
 ghost use Rattle.listing_read.specs.Forms.{form_of};
 ghost use Rattle.listing_read.specs.Restored.{next_place, is_listing, listing_in};
@@ -15,10 +16,10 @@ use ask::Refusal;
 use listing_line::Place;
 use listing_line::kernel::pass_line;
 use numbers::kernel::magnitude;
-use question_values::kernel::tp_type::channels_of;
 use reading::kernel::Reader;
 use sheet_counts::Counts;
 use sheet_counts::kernel::{ask_counts, cells_of};
+use triplet_types::TpType;
 
 // Where the first entry belongs.
 pub(crate) const FIRST: Place = Place {
@@ -29,14 +30,14 @@ pub(crate) const FIRST: Place = Place {
 };
 
 // The form of the listing of a type and counts.
-pub fn form_of(tp_type: i64, counts: Counts) -> Form
-    ensures { result ≡ form_of tp_type counts }
+pub fn form_of(tp: TpType, counts: Counts) -> Form
+    ensures { result ≡ form_of tp counts }
 {
     Form {
         points: magnitude(counts.num_band0),
         bands1: magnitude(counts.num_band1),
         bands2: magnitude(counts.num_band2),
-        channels: channels_of(tp_type),
+        channels: tp.num_channels(),
     }
 }
 
@@ -102,7 +103,7 @@ fn is_listing(text: &[u8], tested: TestedForm, cells: usize) -> bool
     passed.is_some() && reader.at == text.len()
 }
 
-// Questions 8, 9, 12 and 22 of a listing and two buffers for its record.
+// Questions 8, 9, 12 and 22 of a listing and two buffers for its record. Gives the type.
 #[tactic(auto, using(list_laws::proofs::BoolLaws::yes_of, list_laws::proofs::BoolLaws::no_of, crate::proofs::RestoredLaws::count_laws), unfolding(ask::specs::Ask::first_no, crate::specs::Reading::is_listed))]
 pub fn ask_listing(
     listing: &[u8],
@@ -110,12 +111,12 @@ pub fn ask_listing(
     counts: Counts,
     num_weights: usize,
     num_flags: usize,
-) -> Result<(), Refusal>
-    ensures { result ≡ answer_of (read_no listing.now tp_type counts num_weights num_flags) tt }
+) -> Result<TpType, Refusal>
+    ensures { result ≡ answer_of (read_no listing.now tp_type counts num_weights num_flags) (tp_type_of tp_type) }
 {
-    ask_counts(tp_type, counts)?;
+    let tp = ask_counts(tp_type, counts)?;
     let tested = TestedForm {
-        form: form_of(tp_type, counts),
+        form: form_of(tp, counts),
     };
     let cells = cells_of(counts);
     if num_weights != tested.form.channels * cells {
@@ -127,5 +128,5 @@ pub fn ask_listing(
     if !is_listing(listing, tested, cells) {
         return Err(Refusal::Listing);
     }
-    Ok(())
+    Ok(tp)
 }
