@@ -1,16 +1,11 @@
 -- `sheet_carry::carry_on` meets its contract.
-use lib.ListN.{length}
-use mathlib.Core.Path.{◌≡◌, sym, ap, ◌∙◌}
-use mir.Syntax.{w64}
-use mir.ValLaws.{to_z-of_z}
-use native.Mathlib.Omega.{arith}
+use mathlib.Core.Path.{◌≡◌}
 use Rattle.std.proofs.lemmas.Result.{err_from_is_err_and}
 use Rattle.ask.proofs.RefusalLaws.{given-is}
-use Rattle.sheet_step.proofs.EntryLaws.{tested-did, tested-steps, tested-yes}
+use Rattle.sheet_step.proofs.EntryLaws.{tested-yes}
 use Rattle.sheet_step.proofs.StepLaws.{common-refused}
 use Rattle.triplet_study.specs.Lent.{study_of}
 use Rattle.sheet_step.specs.Steps.{Sheet, sheet, carry}
-use Rattle.triplet_corners.proofs.CornerLaws.{second-length, second-lent}
 use Rattle.sheet_carry.proofs.carry_on.Goals.{Start}
 use Rattle.sheet_carry.proofs.carry_on.Goals as goal
 
@@ -30,9 +25,3 @@ carry_asked-requires c =
     let told : _ = rw (c.marks.ensures, c.in_ok-tested.was) at c.ask_common.ensures.asked in
     let yes : _ = tested-yes c.in_ok-tested.tested same (start (goal.at.carry_asked-requires c).Start) (given-is _ _ tt told).0 in
     record { common = rw (c.new-work.ensures, c.new-prepared.ensures) yes }
-
-pub returns-clause-did : goal.returns-clause-did
-returns-clause-did c =
-    let same : c.in_ok-tested.tested.study ≡ c.args.study = rw c.in_ok-tested.was at c.ask_common.ensures.same in
-    let did : _ = rw (to_z-of_z w64 c.args.worker c.ranges.worker, c.new-work.ensures, c.new-prepared.ensures) at c.carry_asked.ensures.did in
-    tested-did c.in_ok-tested.tested same (start (goal.at.returns-clause-did c).Start) did

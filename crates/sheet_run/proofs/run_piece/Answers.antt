@@ -1,17 +1,14 @@
 -- `sheet_run::run_piece` meets its contract.
-use lib.ListN.{length}
-use mathlib.Core.Path.{◌≡◌, sym, ap, ◌∙◌}
+use mathlib.Core.Path.{◌≡◌}
 use mir.Syntax.{w64}
 use mir.ValLaws.{to_z-of_z}
-use native.Mathlib.Omega.{arith}
 use Rattle.std.proofs.lemmas.Result.{err_from_is_err_and}
 use Rattle.ask.proofs.RefusalLaws.{given-is}
-use Rattle.sheet_step.proofs.EntryLaws.{tested-did, tested-steps, tested-yes}
-use Rattle.sheet_step.proofs.StepLaws.{common-refused, done-did}
+use Rattle.sheet_step.proofs.EntryLaws.{tested-did, tested-yes}
+use Rattle.sheet_step.proofs.StepLaws.{common-refused}
 use Rattle.triplet_study.specs.Lent.{study_of}
 use Rattle.sheet_step.specs.Steps.{Sheet, sheet, run}
 use Rattle.sheet_turn.proofs.TurnLaws.{long-yes, run-no}
-use Rattle.triplet_corners.proofs.CornerLaws.{second-length, second-lent}
 use Rattle.sheet_run.proofs.run_piece.Goals.{Start}
 use Rattle.sheet_run.proofs.run_piece.Goals as goal
 
@@ -52,9 +49,3 @@ pub run_accepted-requires-clause-own : goal.run_accepted-requires-clause-own
 run_accepted-requires-clause-own c =
     let own : _ = rw (c.marks-2.ensures, c.in_ok-ask_run.was) at c.ask_run.ensures in
     rw (c.new-work.ensures, c.new-prepared.ensures) (given-is _ _ tt own).0
-
-pub returns-clause-did : goal.returns-clause-did
-returns-clause-did c =
-    let same : c.in_ok-tested.tested.study ≡ c.args.study = rw c.in_ok-tested.was at c.ask_common.ensures.same in
-    let called : _ = rw (to_z-of_z w64 c.args.worker c.ranges.worker, c.new-work.ensures, c.new-prepared.ensures) at c.run_accepted.ensures.called in
-    tested-did c.in_ok-tested.tested same (start (goal.at.returns-clause-did c).Start) (done-did (study_of c.in_ok-tested.tested.study) (start (goal.at.returns-clause-did c).Start) (run c.args.worker c.args.piece.triplet c.args.piece.b1 c.args.piece.b2) c.run_accepted.result _ _ _ called)
