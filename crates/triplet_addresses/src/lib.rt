@@ -42,10 +42,9 @@ pub fn set_relative_grid_address(
         out.old }
 {
     let tp = copies::ask_copies(relative_grid_address, tp_type, out.len())?;
-    copies::fill_copies(
-        out,
-        relative_grid_address,
-        triplet_corners::kernel::is_negated(tp),
-    );
+    let table = Triples {
+        numbers: relative_grid_address,
+    };
+    copies::fill_copies(out, table, triplet_corners::kernel::is_negated(tp));
     Ok(())
 }
