@@ -11,12 +11,12 @@ pub struct Work<'a> {
     pub prepared: PreparedStudy<'a>,
     pub areas: WorkAreas,
     pub corners: Corners,
-    pub held: usize,
-    pub ghost kept: { Kept (study_in prepared) prepared.tested.sizes.triplets held corners },
+    pub held: Option<usize>,
+    pub ghost kept: { Kept (study_in prepared) held corners },
 }
 
 impl<'a> Work<'a> {
-    // Areas that keep the corners of no triplet: `held` is beyond the last.
+    // Areas that keep the corners of no triplet.
     pub fn new(prepared: PreparedStudy<'a>) -> Work<'a>
         ensures { result.prepared ≡ prepared.entry }
     {
@@ -27,7 +27,7 @@ impl<'a> Work<'a> {
                 first: [0; 384],
                 second: [0; 384],
             },
-            held: prepared.tested.sizes.triplets,
+            held: None,
         }
     }
 }

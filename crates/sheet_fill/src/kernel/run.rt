@@ -15,12 +15,12 @@ fn keep_corners(work: &mut Work, t: usize)
     ensures study { work.new.prepared ≡ work.old.prepared }
     ensures corners { AreCornersOf (study_in work.old.prepared) t work.new.corners }
 {
-    if work.held == t {
+    if work.held == Some(t) {
         return;
     }
     let prepared = work.prepared;
     fill_corners(&mut work.corners, &prepared.tested, prepared.second, t);
-    work.held = t;
+    work.held = Some(t);
 }
 
 // Writes a piece at every point and in every channel. The corners kept are then those of its triplet.
