@@ -1,5 +1,5 @@
 -- A list of calls as a contract names it: what it is answered in, at a call's entry and at its exit.
-use Rattle.std.specs.Prelude.{◌≡◌, List, ℕ}
+use Rattle.std.specs.Prelude.{◌≡◌, List}
 use Rattle.sheet_calls.specs.Calls.{calls_of}
 use Rattle.sheet_step.specs.Steps.{Call, Sheet}
 use Rattle.sheet_play.specs.Outcomes.{Outcome, outcome}
