@@ -256,9 +256,6 @@ pub fn length_within<T>(n: u64, buf: &[T]) -> usize
 
 // The next block of the input, read into a buffer; none where no block is left.
 pub fn next_block(buf: &mut [u8]) -> Option<&[u8]> {
-    let n = read_block(buf);
-    if n == 0 {
-        return None;
-    }
+    let n = read_block(buf)?;
     Some(&buf[..n])
 }
