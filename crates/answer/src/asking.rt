@@ -37,7 +37,7 @@ fn ask(study: Study) -> Result<(), Refusal>
     triplet_study::kernel::ask_study(study)
 }
 
-// The shape of a head.
+// The shape of a head. No `From`: both types are of other crates.
 pub fn shape_of(head: Head) -> Shape
     ensures { result ≡ shape_of head }
 {

@@ -17,7 +17,7 @@ use sheet::{NamedPiece, Refusal, SheetMut, Study, Tally};
 use sheet_list::Calls;
 use std::alloc::{AllocError, Global};
 
-// A call, what it names, and the lists that it lends. A list of calls has its numbers, the lists of ids, and how many answers it has.
+// A call, what it names, and the lists that it lends; a kind more than the calls of a list have, and lists that can be its own. A list of calls has its numbers, the lists of ids, and how many answers it has.
 #[derive(Drop)]
 pub enum Call<L> {
     RunPiece { worker: i64, piece: NamedPiece },

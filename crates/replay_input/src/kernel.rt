@@ -1,4 +1,4 @@
-// What the readers stand on: signs, counts, flags and blocks.
+// What the readers stand on: signs, counts, flags and blocks. `flag_of` and `byte_of` give some number for a field that is none, as the readers do.
 pub mod stamps;
 
 ghost use Rattle.std.specs.Prelude.{◌≤◌, min, ◌≡◌, length, take, IfSome};

@@ -8,7 +8,8 @@ ghost use Rattle.list_laws.specs.Lists.{tabulate};
 use crate::kernel::{at_most, byte_of, flag_of, negative, positive, read_block};
 use replay_compare::kernel::Compared;
 
-// A text, and where its next field starts.
+// A text, and where its next field starts; past the end too, so it is neither the reader of `sections` nor that of `reading`. Functions that read say
+// that the text stays: a fact of two moments, which no ghost field can hold. Those that take memory are handed the allocator, which shows that they can fail.
 #[derive(Clone, Copy)]
 pub struct Reader<'a> {
     pub text: &'a [u8],
@@ -165,7 +166,7 @@ impl<'a> Reader<'a> {
     }
 }
 
-// A number that a field spells.
+// A number that a field spells. An impl for each type, since the notations differ.
 pub trait Field: Compared {
     ghost use Rattle.std.specs.Prelude.{ℕ, List};
 

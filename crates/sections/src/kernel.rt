@@ -37,7 +37,7 @@ impl<'a> Fields<'a> {
     }
 }
 
-// The lines of a text that are left from index next on.
+// The lines of a text that are left from index next on. That the text stays is a fact of two moments, which no ghost field can hold: the clauses say it.
 #[derive(Drop)]
 pub struct Lines<'a> {
     pub text: &'a [u8],

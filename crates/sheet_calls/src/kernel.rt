@@ -1,4 +1,4 @@
-// One call of a list, by its kind.
+// One call of a list, by its kind. That the sheet passed questions 3 to 13 is a clause, for the reason that stands in sheet_turn.
 ghost use Rattle.std.specs.Prelude.{◌≡◌, ◌+◌, ◌*◌, ◌≤◌, length};
 ghost use Rattle.sheet_tally.specs.Tallies.{runs_after};
 ghost use Rattle.sheet_step.specs.Lent.{sheet_of, SameBuffers};

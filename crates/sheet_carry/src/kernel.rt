@@ -1,4 +1,4 @@
-// For the crates above, on a sheet whose questions 3 to 13 say yes.
+// For the crates above, on a sheet whose questions 3 to 13 say yes: a clause, for the reason that stands in sheet_turn.
 ghost use Rattle.std.specs.Prelude.{◌≡◌};
 ghost use Rattle.sheet_tally.specs.Tallies.{runs_after};
 ghost use Rattle.sheet_step.specs.Lent.{sheet_of, SameBuffers};

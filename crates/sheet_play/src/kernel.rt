@@ -21,7 +21,8 @@ pub fn store_counts(row: &mut [u64], tally: Tally)
     row.copy_from_slice(&tally.runs);
 }
 
-// Runs the calls, and gives the tally after the last. The corners of a triplet are looked up once for runs that follow each other.
+// Runs the calls, and gives the tally after the last. The corners of a triplet are looked up once for runs that follow each other. Parts by their
+// index: behind a chunk that is lent, a proof knows its length alone.
 pub fn play_prepared(
     sheet: &mut SheetMut,
     prepared: &PreparedStudy,

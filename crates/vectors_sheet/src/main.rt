@@ -109,7 +109,9 @@ impl<'a> Run<'a> {
             marks: &mut self.sheet.marks,
         };
         let tally = self.sheet.tally;
-        let answer = call.lent().make(study, &mut lent, tally, &mut answers, &mut tallies);
+        let answer = call
+            .lent()
+            .make(study, &mut lent, tally, &mut answers, &mut tallies);
         let number = answered(&mut self.sheet, answer);
         // none where the answers of a list of calls and the tallies after them are not those stored next
         let are_stored = self.record.agrees_with(&answers) & self.record.agrees_with(&tallies);

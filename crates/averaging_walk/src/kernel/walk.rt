@@ -76,7 +76,8 @@ fn average_matrix<E: Averaged>(m: &mut [E], ids1: &[i64], ids2: &[i64])
     }
 }
 
-// Averages each of `points` matrices of bands by bands, over the blocks of two id lists.
+// Averages each of `points` matrices of bands by bands, over the blocks of two id lists. Parts by their index: behind a chunk that is lent, a proof
+// knows its length alone.
 pub fn average_points<E: Averaged>(
     m: &mut [E],
     ids1: &[i64],

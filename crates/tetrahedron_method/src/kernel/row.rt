@@ -1,4 +1,5 @@
-// What one row of four vertex values adds to a weight. The hints put it into the loops over rows (tetrahedron_formulas says why).
+// What one row of four vertex values adds to a weight. The hints put it into the loops over rows (tetrahedron_formulas says why). A row's place and its
+// values lie in two work areas: a struct of both would be made anew for each row.
 ghost use Rattle.std.specs.Prelude.{◌≡◌};
 ghost use Rattle.tetrahedron_method.specs.Weight.{or_zero, share_of, sorted_row_weight, row_weight};
 
