@@ -21,6 +21,7 @@ use replay_input::reader::Reader;
 use replay_report::blocks::{Replay, replay_blocks};
 use replay_report::cases::{Cases, Judged, after_call, stored};
 use replay_report::kinds::record_of;
+use replay_study::function::function_of;
 use replay_study::owned::{OwnGrid, next_grid, next_list};
 use std::alloc::{AllocError, Global};
 use std::fmt;
@@ -106,13 +107,6 @@ struct Asked {
     grid_points: Vec<i64>,
     length: usize,
     stored: Result<Vec<f64>, u64>,
-}
-
-fn function_of(number: u64) -> WeightFunction {
-    match number {
-        0 => WeightFunction::I,
-        _ => WeightFunction::J,
-    }
 }
 
 // The number of the call's refusal, 0 where the weights are in the buffer.
