@@ -19,7 +19,7 @@ use replay_compare::kernel::agree;
 use replay_input::kernel::stamps::{mark, stamp};
 use replay_input::reader::Reader;
 use replay_report::blocks::{Replay, replay_blocks};
-use replay_report::cases::{Cases, Judged, after_call, stored};
+use replay_report::cases::{Cases, Judged, after_call, stored, told_of};
 use replay_report::kinds::record_of;
 use replay_study::function::function_of;
 use replay_study::owned::{OwnGrid, next_grid, next_list};
@@ -138,10 +138,7 @@ fn weights_judged(
     mark(iw.as_mut_slice());
     let before = iw.clone()?;
     let number = weights_called(iw.as_mut_slice(), grid, study, asked);
-    let (refusal, weights) = match &asked.stored {
-        Ok(weights) => (0, weights.as_slice()),
-        Err(refusal) => (*refusal, before.as_slice()),
-    };
+    let (refusal, weights) = told_of(&asked.stored, &before);
     let agrees = number == refusal && agree(&iw, weights);
     Ok(Judged { refusal, agrees })
 }
