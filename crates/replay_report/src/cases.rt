@@ -1,5 +1,5 @@
 // What a replay counts and prints: a line for each kind of case, and a line for each case that differs.
-ghost use Rattle.std.specs.Prelude.{◌≡◌, ◌<◌, cond, replicate};
+ghost use Rattle.std.specs.Prelude.{◌≡◌, ◌<◌, cond, replicate, IfOk, IfErr};
 ghost use Rattle.replay_report.specs.Report.{one_more, refused_more, stored_answer, stored_content};
 
 use std::fmt;
@@ -146,4 +146,15 @@ pub fn after_call<'a, T>(refusal: u64, given: &'a [T], before: &'a [T]) -> &'a [
     ensures { result.now ≡ stored_content refusal given.now before.now }
 {
     if refusal == 0 { given } else { before }
+}
+
+// The refusal of a stored answer, 0 for none, and what a buffer is to hold after its call.
+pub fn told_of<'a, T: Drop>(answer: &'a Result<Vec<T>, u64>, before: &'a [T]) -> (u64, &'a [T])
+    ensures accepted { IfOk answer.now (λ given. (result.0 ≡ 0) × (result.1.now ≡ given.items)) }
+    ensures refused { IfErr answer.now (λ number. (result.0 ≡ number) × (result.1.now ≡ before.now)) }
+{
+    match answer {
+        Ok(given) => (0, given.as_slice()),
+        Err(number) => (*number, before),
+    }
 }

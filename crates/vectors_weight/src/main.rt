@@ -24,6 +24,7 @@ use replay_input::reader::Reader;
 use replay_report::blocks::{Replay, replay_blocks};
 use replay_report::cases::{Cases, Judged, stored};
 use replay_report::kinds::record_of;
+use replay_study::function::function_of;
 use replay_study::owned::next_list;
 use std::alloc::{AllocError, Global};
 use std::fmt;
@@ -100,13 +101,6 @@ impl fmt::Display for Counts {
 // A case that cannot be refused.
 fn accepted(agrees: bool) -> Judged {
     Judged { refusal: 0, agrees }
-}
-
-fn function_of(number: u64) -> WeightFunction {
-    match number {
-        0 => WeightFunction::I,
-        _ => WeightFunction::J,
-    }
 }
 
 fn next_reals<const N: usize>(reader: &mut Reader<'_>) -> [f64; N] {
