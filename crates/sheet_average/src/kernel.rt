@@ -1,33 +1,30 @@
-// For the crates above, on a tested study and sheet: the averages of one triplet. Of the study the counts alone are read: a counted study would
-// ask for its frequencies and points too.
+// For the crates above, on a tested study and sheet: the averages of one triplet.
 ghost use Rattle.std.specs.Prelude.{◌≡◌, ◌*◌, ◌<◌, ◌≤◌, length};
-ghost use Rattle.triplet_study.specs.Tested.{Counted};
 ghost use Rattle.sheet_step.specs.Steps.{triplet_averaged, triplet_flags_averaged};
 ghost use Rattle.sheet_average.specs.Triplets.{triplet_by};
 
 use averaging_walk::kernel::block::Averaged;
 use averaging_walk::kernel::walk::average_points;
-use triplet_study::Sizes;
+use triplet_study::CountedSizes;
 
 // The entries of triplet `t`, channel by channel.
 fn average_entries<E: Averaged>(
-    z: Sizes,
+    counts: CountedSizes,
     entries: &mut [E],
     channels: usize,
     t: usize,
     degenerate_ids1: &[i64],
     degenerate_ids2: &[i64],
 )
-    requires counted { Counted z }
     requires few { channels ≤ 3 }
-    requires on_sheet { (t < z.triplets) × (z.bands1 ≡ z.bands2) }
-    requires lengths { (length entries.old ≡ channels * z.cells) × ((length degenerate_ids1.now ≡ z.bands1) × (length degenerate_ids2.now ≡ z.bands1)) }
-    ensures { entries.new ≡ triplet_by E.past_end E.rule z t degenerate_ids1.now degenerate_ids2.now entries.old }
+    requires on_sheet { (t < counts.sizes.triplets) × (counts.sizes.bands1 ≡ counts.sizes.bands2) }
+    requires lengths { (length entries.old ≡ channels * counts.sizes.cells) × ((length degenerate_ids1.now ≡ counts.sizes.bands1) × (length degenerate_ids2.now ≡ counts.sizes.bands1)) }
+    ensures { entries.new ≡ triplet_by E.past_end E.rule counts.sizes t degenerate_ids1.now degenerate_ids2.now entries.old }
 {
-    let points = z.points;
-    let bands = z.bands1;
-    let cells = z.cells;
-    let size = points * z.pairs;
+    let points = counts.sizes.points;
+    let bands = counts.sizes.bands1;
+    let cells = counts.sizes.cells;
+    let size = points * counts.sizes.pairs;
     for c in 0..channels {
         let start = c * cells + t * size;
         let end = start + size;
@@ -43,32 +40,30 @@ fn average_entries<E: Averaged>(
 
 // The weights of triplet `t`, channel by channel.
 pub fn average_weights(
-    z: Sizes,
+    counts: CountedSizes,
     weights: &mut [f64],
     t: usize,
     degenerate_ids1: &[i64],
     degenerate_ids2: &[i64],
 )
-    requires counted { Counted z }
-    requires on_sheet { (t < z.triplets) × (z.bands1 ≡ z.bands2) }
-    requires lengths { (length weights.old ≡ z.channels * z.cells) × ((length degenerate_ids1.now ≡ z.bands1) × (length degenerate_ids2.now ≡ z.bands1)) }
-    ensures { weights.new ≡ triplet_averaged z t degenerate_ids1.now degenerate_ids2.now weights.old }
+    requires on_sheet { (t < counts.sizes.triplets) × (counts.sizes.bands1 ≡ counts.sizes.bands2) }
+    requires lengths { (length weights.old ≡ counts.sizes.channels * counts.sizes.cells) × ((length degenerate_ids1.now ≡ counts.sizes.bands1) × (length degenerate_ids2.now ≡ counts.sizes.bands1)) }
+    ensures { weights.new ≡ triplet_averaged counts.sizes t degenerate_ids1.now degenerate_ids2.now weights.old }
 {
-    average_entries(z, weights, z.channels, t, degenerate_ids1, degenerate_ids2);
+    average_entries(counts, weights, counts.sizes.channels, t, degenerate_ids1, degenerate_ids2);
 }
 
 // The flags of triplet `t`.
 pub fn average_flags(
-    z: Sizes,
+    counts: CountedSizes,
     flags: &mut [i8],
     t: usize,
     degenerate_ids1: &[i64],
     degenerate_ids2: &[i64],
 )
-    requires counted { Counted z }
-    requires on_sheet { (t < z.triplets) × (z.bands1 ≡ z.bands2) }
-    requires lengths { (length flags.old ≡ z.cells) × ((length degenerate_ids1.now ≡ z.bands1) × (length degenerate_ids2.now ≡ z.bands1)) }
-    ensures { flags.new ≡ triplet_flags_averaged z t degenerate_ids1.now degenerate_ids2.now flags.old }
+    requires on_sheet { (t < counts.sizes.triplets) × (counts.sizes.bands1 ≡ counts.sizes.bands2) }
+    requires lengths { (length flags.old ≡ counts.sizes.cells) × ((length degenerate_ids1.now ≡ counts.sizes.bands1) × (length degenerate_ids2.now ≡ counts.sizes.bands1)) }
+    ensures { flags.new ≡ triplet_flags_averaged counts.sizes t degenerate_ids1.now degenerate_ids2.now flags.old }
 {
-    average_entries(z, flags, 1, t, degenerate_ids1, degenerate_ids2);
+    average_entries(counts, flags, 1, t, degenerate_ids1, degenerate_ids2);
 }

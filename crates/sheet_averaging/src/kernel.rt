@@ -27,10 +27,11 @@ pub fn average_asked(
     ensures did { Did (study_of tested.now.study) (sheet_of sheet.old tally.runs) (average triplet ids1.now ids2.now) result (sheet_of sheet.new (runs_after result tally.runs)) }
     ensures same { SameBuffers sheet.old sheet.new }
 {
-    asks::ask_average(tested, sheet.weights(), sheet.marks(), triplet, ids1, ids2)?;
+    let counts = tested.counted_sizes();
+    asks::ask_average(counts, sheet.weights(), sheet.marks(), triplet, ids1, ids2)?;
     let t = numbers::kernel::magnitude(triplet);
-    sheet_average::kernel::average_weights(tested.sizes, sheet.weights, t, ids1, ids2);
-    sheet_average::kernel::average_flags(tested.sizes, sheet.flags, t, ids1, ids2);
+    sheet_average::kernel::average_weights(counts, sheet.weights, t, ids1, ids2);
+    sheet_average::kernel::average_flags(counts, sheet.flags, t, ids1, ids2);
     mark::average_marks(tested.sizes.pairs, sheet.marks, t);
     Ok(tally)
 }

@@ -28,7 +28,7 @@ pub fn run_piece(
     ensures same { SameBuffers sheet.old sheet.new }
 {
     let tested = asks::ask_common(study, sheet.weights.len(), sheet.flags.len(), sheet.marks())?;
-    asks::ask_run(&tested, sheet.marks(), tally, worker, piece)?;
+    asks::ask_run(tested.counted_sizes(), sheet.marks(), tally, worker, piece)?;
     let second = triplet_corners::kernel::second_steps(tested.sizes.tp, tested.steps());
     let prepared = PreparedStudy::new(tested, &second);
     let mut work = Work::new(prepared);

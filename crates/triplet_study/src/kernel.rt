@@ -21,7 +21,7 @@ pub fn ask_study(study: Study) -> Result<(), Refusal>
     if !question_grids::kernel::tables::table_ok(study.relative_grid_address) {
         return Err(Refusal::Table);
     }
-    asks::ask_values(study)
+    asks::ask_values(study, study.addresses.len() / 3)
 }
 
 // The counts of a tested study, by the rows of its table, its points and its triplets.

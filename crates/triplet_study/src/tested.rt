@@ -26,6 +26,24 @@ pub struct TestedStudy<'a> {
     pub ghost counts: { sizes ≡ sizes_of (study_of study) },
 }
 
+// Counts that a study can have: within the limits of question 9, each as many as the others have it.
+#[derive(Clone, Copy)]
+pub struct CountedSizes {
+    pub sizes: Sizes,
+    pub ghost counted: { Counted sizes },
+}
+
+impl CountedSizes {
+    // Question 12, of weights and flags.
+    pub fn lengths_ok(self, weights: usize, flags: usize) -> bool
+        ensures { result ≡ are_lengths self.sizes weights flags }
+    {
+        let cells = self.sizes.cells;
+        let entries = self.sizes.channels * cells;
+        (weights == entries) & (flags == cells)
+    }
+}
+
 // What a piece reads of a study beside its corners: its counts, and its values.
 #[derive(Clone, Copy)]
 pub struct CountedStudy<'a> {
@@ -72,12 +90,17 @@ impl<'a> TestedStudy<'a> {
         TestedSteps { triples }
     }
 
+    // Its counts.
+    pub fn counted_sizes(&self) -> CountedSizes
+        ensures { result.sizes ≡ self.now.sizes }
+    {
+        CountedSizes { sizes: self.sizes }
+    }
+
     // Question 12, of weights and flags.
     pub fn lengths_ok(&self, weights: usize, flags: usize) -> bool
         ensures { result ≡ are_lengths self.now.sizes weights flags }
     {
-        let cells = self.sizes.cells;
-        let entries = self.sizes.channels * cells;
-        (weights == entries) & (flags == cells)
+        self.counted_sizes().lengths_ok(weights, flags)
     }
 }

@@ -1,5 +1,5 @@
 // A named piece: everything that it works with is lent, and the corners of its triplet are looked up where they are not kept.
-ghost use Rattle.std.specs.Prelude.{◌≡◌, ◌<◌, eqb, length};
+ghost use Rattle.std.specs.Prelude.{◌≡◌, ◌<◌, eqb, length, Some};
 ghost use Rattle.triplet_study.specs.Tested.{Fitting};
 ghost use Rattle.triplet_piece.specs.Pieces.{AreCornersOf, IsPiece, number_of};
 ghost use Rattle.triplet_piece.specs.Weights.{Computes};
@@ -13,6 +13,7 @@ use triplet_piece::kernel::{fill_corners, fill_piece};
 fn keep_corners(work: &mut Work, t: usize)
     requires { t < work.old.prepared.tested.sizes.triplets }
     ensures study { work.new.prepared ≡ work.old.prepared }
+    ensures held { work.new.held ≡ Some t }
     ensures corners { AreCornersOf (study_in work.old.prepared) t work.new.corners }
 {
     if work.held == Some(t) {
@@ -28,6 +29,7 @@ pub fn fill_named(work: &mut Work, weights: &mut [f64], flags: &mut [i8], piece:
     requires fits { Fitting work.old.prepared.tested.sizes (length work.old.prepared.tested.study.frequency_points.now) (length weights.old) (length flags.old) }
     requires on_sheet { IsPiece work.old.prepared.tested.sizes piece }
     ensures study { work.new.prepared ≡ work.old.prepared }
+    ensures held { work.new.held ≡ Some piece.triplet }
     ensures computes { Computes (study_in work.old.prepared) (λ n. eqb n (number_of work.old.prepared.tested.sizes piece)) weights flags }
 {
     keep_corners(work, piece.triplet);

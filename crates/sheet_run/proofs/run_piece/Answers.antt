@@ -27,14 +27,14 @@ ask_run-requires c =
     let same : c.in_ok-tested.tested.study ≡ c.args.study = rw c.in_ok-tested.was at c.ask_common.ensures.same in
     let told : _ = rw (c.marks.ensures, c.in_ok-tested.was) at c.ask_common.ensures.asked in
     let yes : _ = tested-yes c.in_ok-tested.tested same (start (goal.at.ask_run-requires c).Start) (given-is _ _ tt told).0 in
-    rw c.marks-2.ensures (long-yes (study_of c.in_ok-tested.tested.study) (start (goal.at.ask_run-requires c).Start) yes c.in_ok-tested.tested.counts).1.1
+    rw (c.marks-2.ensures, c.counted_sizes.ensures) (long-yes (study_of c.in_ok-tested.tested.study) (start (goal.at.ask_run-requires c).Start) yes c.in_ok-tested.tested.counts).1.1
 
 pub returns-in_err-ask_run-clause-did : goal.returns-in_err-ask_run-clause-did
 returns-in_err-ask_run-clause-did c =
     let same : c.in_ok-tested.tested.study ≡ c.args.study = rw c.in_ok-tested.was at c.ask_common.ensures.same in
     let told : _ = rw (c.marks.ensures, c.in_ok-tested.was) at c.ask_common.ensures.asked in
     let yes : _ = tested-yes c.in_ok-tested.tested same (start (goal.at.returns-in_err-ask_run-clause-did c).Start) (given-is _ _ tt told).0 in
-    let own : _ = rw (to_z-of_z w64 c.args.worker c.ranges.worker, c.marks-2.ensures, c.in_err-ask_run.was) at c.ask_run.ensures in
+    let own : _ = rw (to_z-of_z w64 c.args.worker c.ranges.worker, c.marks-2.ensures, c.counted_sizes.ensures, c.in_err-ask_run.was) at c.ask_run.ensures in
     let p = err_from_is_err_and c.from_residual-in_err-ask_run.result c.from_residual-in_err-ask_run.ensures.1 in
     rw (p.1, p.2) (tested-did c.in_ok-tested.tested same (start (goal.at.returns-in_err-ask_run-clause-did c).Start) (run-no (study_of c.in_ok-tested.tested.study) (start (goal.at.returns-in_err-ask_run-clause-did c).Start) yes c.in_ok-tested.tested.counts c.args.worker c.args.piece.triplet c.args.piece.b1 c.args.piece.b2 _ own))
 
@@ -47,5 +47,5 @@ run_accepted-requires-clause-common c =
 
 pub run_accepted-requires-clause-own : goal.run_accepted-requires-clause-own
 run_accepted-requires-clause-own c =
-    let own : _ = rw (c.marks-2.ensures, c.in_ok-ask_run.was) at c.ask_run.ensures in
+    let own : _ = rw (c.marks-2.ensures, c.counted_sizes.ensures, c.in_ok-ask_run.was) at c.ask_run.ensures in
     rw (c.new-work.ensures, c.new-prepared.ensures) (given-is _ _ tt own).0

@@ -23,7 +23,7 @@ start s = sheet s.args.sheet.now.weights.now s.args.sheet.now.flags.now s.args.s
 -- 14 to 19 say yes
 yes : (c : After-magnitude-t) → first_no (average_questions c.args.tested.now.sizes c.args.sheet.now.weights.now c.args.sheet.now.marks.now c.args.triplet c.args.ids1.now c.args.ids2.now) ≡ 0
 yes c =
-    let told : _ = rw (to_z-of_z w64 c.args.triplet c.ranges.triplet, c.weights.ensures, c.marks.ensures, c.in_ok-ask_average.was) at c.ask_average.ensures in
+    let told : _ = rw (to_z-of_z w64 c.args.triplet c.ranges.triplet, c.weights.ensures, c.marks.ensures, c.counted_sizes-counts.ensures, c.in_ok-ask_average.was) at c.ask_average.ensures in
     (given-is _ _ tt told).0
 
 -- the triplet by its number
@@ -37,35 +37,29 @@ on c = average-on (study_of c.args.tested.now.study) (sheet c.args.sheet.now.wei
 pub ask_average-requires : goal.ask_average-requires
 ask_average-requires c =
     let l = long-yes (study_of c.args.tested.now.study) (start (goal.at.ask_average-requires c).Start) c.requires c.args.tested.now.counts in
-    rw (c.weights.ensures, c.marks.ensures) (l.0, l.1.1)
+    rw (c.weights.ensures, c.marks.ensures, c.counted_sizes-counts.ensures) (l.0, l.1.1)
 
 pub returns-in_err-ask_average-clause-did : goal.returns-in_err-ask_average-clause-did
 returns-in_err-ask_average-clause-did c =
-    let told : _ = rw (to_z-of_z w64 c.args.triplet c.ranges.triplet, c.weights.ensures, c.marks.ensures, c.in_err-ask_average.was) at c.ask_average.ensures in
+    let told : _ = rw (to_z-of_z w64 c.args.triplet c.ranges.triplet, c.weights.ensures, c.marks.ensures, c.counted_sizes-counts.ensures, c.in_err-ask_average.was) at c.ask_average.ensures in
     let p = err_from_is_err_and c.from_residual.result c.from_residual.ensures.1 in
     rw (p.1, p.2) (average-refused (study_of c.args.tested.now.study) (start (goal.at.returns-in_err-ask_average-clause-did c).Start) c.requires c.args.tested.now.counts c.args.triplet c.args.ids1.now c.args.ids2.now _ told)
 
-pub average_weights-requires-clause-counted : goal.average_weights-requires-clause-counted
-average_weights-requires-clause-counted c = tested-counted c.args.tested.now
-
-pub average_flags-requires-clause-counted : goal.average_flags-requires-clause-counted
-average_flags-requires-clause-counted c = tested-counted c.args.tested.now
-
 pub average_weights-requires-clause-on_sheet : goal.average_weights-requires-clause-on_sheet
-average_weights-requires-clause-on_sheet c = (on (goal.at.average_weights-requires-clause-on_sheet c).After-magnitude-t).0
+average_weights-requires-clause-on_sheet c = rw c.counted_sizes-counts.ensures (on (goal.at.average_weights-requires-clause-on_sheet c).After-magnitude-t).0
 
 pub average_weights-requires-clause-lengths : goal.average_weights-requires-clause-lengths
 average_weights-requires-clause-lengths c =
     let l = long-yes (study_of c.args.tested.now.study) (start (goal.at.average_weights-requires-clause-lengths c).Start) c.requires c.args.tested.now.counts in
-    (l.0, (on (goal.at.average_weights-requires-clause-lengths c).After-magnitude-t).1)
+    rw c.counted_sizes-counts.ensures (l.0, (on (goal.at.average_weights-requires-clause-lengths c).After-magnitude-t).1)
 
 pub average_flags-requires-clause-on_sheet : goal.average_flags-requires-clause-on_sheet
-average_flags-requires-clause-on_sheet c = (on (goal.at.average_flags-requires-clause-on_sheet c).After-magnitude-t).0
+average_flags-requires-clause-on_sheet c = rw c.counted_sizes-counts.ensures (on (goal.at.average_flags-requires-clause-on_sheet c).After-magnitude-t).0
 
 pub average_flags-requires-clause-lengths : goal.average_flags-requires-clause-lengths
 average_flags-requires-clause-lengths c =
     let l = long-yes (study_of c.args.tested.now.study) (start (goal.at.average_flags-requires-clause-lengths c).Start) c.requires c.args.tested.now.counts in
-    (l.1.0, (on (goal.at.average_flags-requires-clause-lengths c).After-magnitude-t).1)
+    rw c.counted_sizes-counts.ensures (l.1.0, (on (goal.at.average_flags-requires-clause-lengths c).After-magnitude-t).1)
 
 pub average_marks-requires : goal.average_marks-requires
 average_marks-requires c =
@@ -76,4 +70,4 @@ pub returns-clause-did : goal.returns-clause-did
 returns-clause-did c =
     let t = (goal.at.returns-clause-did c).After-magnitude-t in
     done-did (study_of c.args.tested.now.study) (start (goal.at.returns-clause-did c).Start) (average c.args.triplet c.args.ids1.now c.args.ids2.now) c.args.tally _ _ _
-    (average-done (study_of c.args.tested.now.study) (start (goal.at.returns-clause-did c).Start) c.requires c.args.tested.now.counts c.args.triplet c.args.ids1.now c.args.ids2.now (yes t) c.magnitude-t.result (number t) c.average_weights.ensures c.average_flags.ensures c.average_marks.ensures)
+    (average-done (study_of c.args.tested.now.study) (start (goal.at.returns-clause-did c).Start) c.requires c.args.tested.now.counts c.args.triplet c.args.ids1.now c.args.ids2.now (yes t) c.magnitude-t.result (number t) (rw c.counted_sizes-counts.ensures at c.average_weights.ensures) (rw c.counted_sizes-counts.ensures at c.average_flags.ensures) c.average_marks.ensures)

@@ -14,10 +14,10 @@ start s = sheet s.args.sheet.now.weights.now s.args.sheet.now.flags.now s.args.s
 
 pub ask_run-requires : goal.ask_run-requires
 ask_run-requires c =
-    rw c.marks.ensures (long-yes (study_in c.args.work.now.prepared) (start (goal.at.ask_run-requires c).Start) c.requires.common c.args.work.now.prepared.tested.counts).1.1
+    rw (c.marks.ensures, c.counted_sizes.ensures) (long-yes (study_in c.args.work.now.prepared) (start (goal.at.ask_run-requires c).Start) c.requires.common c.args.work.now.prepared.tested.counts).1.1
 
 pub returns-in_err-ask_run-clause-did : goal.returns-in_err-ask_run-clause-did
 returns-in_err-ask_run-clause-did c =
-    let told : _ = rw (to_z-of_z w64 c.args.worker c.ranges.worker, c.marks.ensures, c.in_err-ask_run.was) at c.ask_run.ensures in
+    let told : _ = rw (to_z-of_z w64 c.args.worker c.ranges.worker, c.marks.ensures, c.counted_sizes.ensures, c.in_err-ask_run.was) at c.ask_run.ensures in
     let p = err_from_is_err_and c.from_residual.result c.from_residual.ensures.1 in
     rw (p.1, p.2) (run-no (study_in c.args.work.now.prepared) (start (goal.at.returns-in_err-ask_run-clause-did c).Start) c.requires.common c.args.work.now.prepared.tested.counts c.args.worker c.args.piece.triplet c.args.piece.b1 c.args.piece.b2 _ told)

@@ -20,7 +20,6 @@ use mathlib.Core.Bool.{Bool, true}
 use lib.Signed.{mag}
 use lib.IntN.{pos}
 use lib.ListN.{length}
-use Rattle.question_grids.specs.Grids.{triples_in}
 use Rattle.triplet_study.proofs.kernel.asks.ask_values.Goals.{In_ok-try_from, Start}
 use Rattle.triplet_study.proofs.kernel.asks.ask_values.Goals as goal
 
@@ -68,7 +67,7 @@ study_frequencies_ok-requires c =
 
 -- 11, of the bands as they are
 abbrev asked : Start → Bool
-asked s = are_study_frequencies (triples_in s.args.study.addresses.now) (mag s.args.study.shape.num_band1) (mag s.args.study.shape.num_band2) s.args.study.frequencies1.now s.args.study.frequencies2.now s.args.study.frequency_points.now
+asked s = are_study_frequencies s.args.p (mag s.args.study.shape.num_band1) (mag s.args.study.shape.num_band2) s.args.study.frequencies1.now s.args.study.frequencies2.now s.args.study.frequency_points.now
 
 pub returns-then-not-study_frequencies_ok : goal.returns-then-not-study_frequencies_ok
 unfolding first_no
