@@ -37,7 +37,7 @@ pub fn parse_floats<'b>(lines: &mut Lines, buffers: FloatsBuffers<'b>) -> Option
 
 // The study that a text holds.
 #[tactic(auto, using(crate::proofs::StudyLaws::study_laws, list_laws::proofs::BoolLaws::yes_of, list_laws::proofs::BoolLaws::no_of))]
-pub fn read_study<'b>(text: &[u8], buffers: &'b mut StudyBuffers) -> Option<HeldStudy<'b>>
+pub fn read_study<'b>(text: &[u8], buffers: StudyBuffers<'b>) -> Option<HeldStudy<'b>>
     ensures { study_in text.now ≡ told_study result }
 {
     if 16384 < text.len() || !ends_line(text) {
@@ -45,17 +45,9 @@ pub fn read_study<'b>(text: &[u8], buffers: &'b mut StudyBuffers) -> Option<Held
     }
     let mut lines = Lines::new(text);
     let head = parse_head(&mut lines)?;
-    let StudyBuffers {
-        addresses,
-        gp_map,
-        f1,
-        f2,
-        points,
-        triplets,
-    } = buffers;
-    let grid = parse_grid(&mut lines, GridBuffers { addresses, gp_map })?;
-    let floats = parse_floats(&mut lines, FloatsBuffers { f1, f2, points })?;
-    let triplets = lines.rows(b"triplet", 3, triplets)?;
+    let grid = parse_grid(&mut lines, buffers.grid)?;
+    let floats = parse_floats(&mut lines, buffers.floats)?;
+    let triplets = lines.rows(b"triplet", 3, buffers.triplets)?;
     if !lines.is_empty() {
         return None;
     }
