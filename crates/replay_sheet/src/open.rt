@@ -7,7 +7,8 @@ ghost use Rattle.replay_sheet.specs.Open.{entries_of, open_agrees, after_open};
 use crate::counts::{AnswerCounts, CallKind};
 use replay_input::kernel::at_most;
 use replay_input::reader::Reader;
-use sheet::{Counts, Refusal};
+use replay_study::counts::next_counts;
+use sheet::Refusal;
 
 // The number of an answer, 0 where the call is done, and the entries that it counts, 0 where it is refused.
 fn told(answer: Result<u64, Refusal>) -> (u64, u64)
@@ -26,16 +27,7 @@ pub fn open_case(reader: &mut Reader<'_>, answered: &mut AnswerCounts)
     ensures counted { answered.new.differences ≡ cond (open_agrees reader.old.text.now reader.old.at) answered.old.differences (one_more answered.old.differences) }
 {
     let tp_type = reader.next_whole();
-    let num_triplets = reader.next_whole();
-    let num_band0 = reader.next_whole();
-    let num_band1 = reader.next_whole();
-    let num_band2 = reader.next_whole();
-    let open = Counts {
-        num_triplets,
-        num_band0,
-        num_band1,
-        num_band2,
-    };
+    let open = next_counts(reader);
     // fixed room, more than any open count of the input has weights: reading it cannot fail
     let mut room = [0.0; 256];
     let places = at_most(reader.next_count(), 256);

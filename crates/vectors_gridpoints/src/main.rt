@@ -121,11 +121,7 @@ fn weights_called(iw: &mut [f64], grid: &OwnGrid, study: &Study, asked: &Asked) 
         frequency_points: &study.points,
         function: asked.function,
     };
-    status_of(grid_point_weights::integration_weights_at_grid_points(
-        lent,
-        &asked.grid_points,
-        iw,
-    ))
+    status_of(grid_point_weights::integration_weights_at_grid_points(lent, &asked.grid_points, iw))
 }
 
 // An accepted call is to fill a buffer of the length with the stored weights, a refused one to leave it.

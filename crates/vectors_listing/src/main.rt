@@ -13,7 +13,7 @@ use replay_input::kernel::at_most;
 use replay_input::reader::Reader;
 use replay_report::blocks::{Case, Only, replay_blocks};
 use replay_report::cases::{Cases, Judged};
-use sheet_counts::Counts;
+use replay_study::counts::next_counts;
 use std::alloc::{AllocError, Global};
 
 // What the weights hold before a call: no record stored has such a weight.
@@ -43,12 +43,7 @@ impl Case for Listings {
     fn next_case(reader: &mut Reader<'_>, alloc: Global) -> Result<Judged, AllocError> {
         let refusal = reader.next_count();
         let tp_type = reader.next_whole();
-        let counts = Counts {
-            num_triplets: reader.next_whole(),
-            num_band0: reader.next_whole(),
-            num_band1: reader.next_whole(),
-            num_band2: reader.next_whole(),
-        };
+        let counts = next_counts(reader);
         let num_weights = at_most(reader.next_count(), MOST);
         let num_flags = at_most(reader.next_count(), MOST);
         let size = reader.next_count();
