@@ -134,6 +134,7 @@ pub fn next_call(
     ensures same_text { reader.new.text ≡ reader.old.text }
     ensures call { IfOk result (λ call. IsCall (λ list. list.items) (λ ids. ids.items) (length reader.old.text.now) (length reader.old.text.now) kind reader.old.text.now reader.old.at call reader.new.at) }
 {
+    // kind is an enum here too
     match kind {
         CallKind::RunPiece => Ok(next_run(reader)),
         CallKind::CarryOn => Ok(Call::CarryOn {

@@ -255,8 +255,12 @@ pub fn length_within<T>(n: u64, buf: &[T]) -> usize
     at_most(n, buf.len())
 }
 
-// The next block of the input, read into a buffer; none where no block is left.
+// The next block of the input, read into a buffer; none where no block is left. What the input holds is not a proof's to say: no contract.
 pub fn next_block(buf: &mut [u8]) -> Option<&[u8]> {
     let n = read_block(buf)?;
+    // an empty block ends the input too
+    if n == 0 {
+        return None;
+    }
     Some(&buf[..n])
 }

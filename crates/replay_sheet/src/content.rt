@@ -29,7 +29,7 @@ pub fn read_sheet(reader: &mut Reader<'_>, weights: &mut [f64], flags: &mut [i8]
     reader.fill(marks);
 }
 
-// Whether weights, flags and marks are those that come next. All of that is read.
+// Whether weights, flags and marks are those that come next: three lists against a text, which no derive compares. All of that is read.
 pub fn same_sheet(reader: &mut Reader<'_>, weights: &[f64], flags: &[i8], marks: &[u8]) -> bool
     ensures agrees { result ≡ same_sheet reader.old.text.now reader.old.at weights.now flags.now marks.now }
     ensures next { reader.new ≡ record reader.old { at = after_sheet reader.old.text.now reader.old.at (length weights.now) (length flags.now) (length marks.now) } }

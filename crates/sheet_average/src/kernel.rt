@@ -50,7 +50,14 @@ pub fn average_weights(
     requires lengths { (length weights.old ≡ counts.sizes.channels * counts.sizes.cells) × ((length degenerate_ids1.now ≡ counts.sizes.bands1) × (length degenerate_ids2.now ≡ counts.sizes.bands1)) }
     ensures { weights.new ≡ triplet_averaged counts.sizes t degenerate_ids1.now degenerate_ids2.now weights.old }
 {
-    average_entries(counts, weights, counts.sizes.channels, t, degenerate_ids1, degenerate_ids2);
+    average_entries(
+        counts,
+        weights,
+        counts.sizes.channels,
+        t,
+        degenerate_ids1,
+        degenerate_ids2,
+    );
 }
 
 // The flags of triplet `t`.

@@ -58,6 +58,12 @@ pub fn run_asked(
     ensures same { SameBuffers sheet.old sheet.new }
     ensures study { work.new.prepared ≡ work.old.prepared }
 {
-    asks::ask_run(work.prepared.tested.counted_sizes(), sheet.marks(), tally, worker, piece)?;
+    asks::ask_run(
+        work.prepared.tested.counted_sizes(),
+        sheet.marks(),
+        tally,
+        worker,
+        piece,
+    )?;
     Ok(run_accepted(work, sheet, tally, worker, piece))
 }

@@ -18,7 +18,7 @@ use triplet_study::{CountedStudy, TestedSteps, TestedStudy};
 use triplet_values::kernel::fill_frequencies;
 use triplet_values::{Band, Combination, CornerCount};
 
-// Looks up the corners of triplet `t`; `second` is the second copy of the steps.
+// Looks up the corners of triplet `t`, whose number is a clause (triplet_iw says why); `second` is the second copy of the steps.
 #[tactic(auto, using(crate::proofs::CornersLaws::point_in, crate::proofs::CornersLaws::copy_triples, crate::proofs::CornersLaws::copy_few))]
 pub fn fill_corners(corners: &mut Corners, tested: &TestedStudy, second: &[i64], t: usize)
     requires copied { second.now ≡ second_steps tested.now.sizes.tp tested.now.study.relative_grid_address.now }

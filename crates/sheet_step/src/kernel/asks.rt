@@ -81,7 +81,7 @@ pub fn ask_run(
     sheet_tally::kernel::ask_tally(tally, worker, 1)
 }
 
-// Question 19, of triplet `t`.
+// Question 19, of triplet `t`, whose number is a clause (triplet_iw says why).
 fn triplet_weights_ok(counts: CountedSizes, t: usize, weights: &[f64]) -> bool
     requires { (t < counts.sizes.triplets) × (length weights.now ≡ counts.sizes.channels * counts.sizes.cells) }
     ensures { result ≡ are_triplet_weights counts.sizes t weights.now }
