@@ -42,6 +42,7 @@ fn next_stored<T: Field + Default>(
 }
 
 // A list over and over, up to a length; zeros where it is empty.
+// Beside that of vectors_triplet, which gives nothing of an empty list: tried as one, and the proof of its contract did not close.
 fn repeated<T: Copy + Default>(list: &[T], room: u64, alloc: Global) -> Result<Vec<T>, AllocError> {
     let mut all = Vec::new(alloc);
     for _ in 0..room {

@@ -6,4 +6,4 @@ use Rattle.sheet_average.proofs.kernel.average_entries.Given as goal
 
 abbrev pub invariant-loop-c : goal.invariant-loop-c
 invariant-loop-c g l =
-    l.entries ≡ some_groups l.fn.counts.sizes.points l.fn.counts.sizes.pairs (averaged_by g.E.Averaged.rule l.fn.counts.sizes.bands1 l.degenerate_ids1 l.degenerate_ids2) g.E.Averaged.past_end l.fn.counts.sizes.triplets l.t l.c l.initial.entries
+    l.entries ≡ some_groups l.fn.by.counts.sizes.points l.fn.by.counts.sizes.pairs (averaged_by g.E.Averaged.rule l.fn.by.counts.sizes.bands1 l.fn.by.degenerate_ids1.now l.fn.by.degenerate_ids2.now) g.E.Averaged.past_end l.fn.by.counts.sizes.triplets l.fn.by.triplet l.c l.initial.entries

@@ -4,4 +4,4 @@ use Rattle.sheet_average.proofs.AverageLaws.{flags-by-rule}
 use Rattle.sheet_average.proofs.kernel.average_flags.Goals as goal
 
 pub returns : goal.returns
-returns c = c.average_entries.ensures ∙ flags-by-rule c.args.counts.sizes c.args.t c.args.degenerate_ids1.now c.args.degenerate_ids2.now c.args.flags.now c.requires.lengths.0
+returns c = c.average_entries.ensures ∙ flags-by-rule c.args.by.counts.sizes c.args.by.triplet c.args.by.degenerate_ids1.now c.args.by.degenerate_ids2.now c.args.flags.now c.requires

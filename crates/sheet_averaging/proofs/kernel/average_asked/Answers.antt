@@ -45,21 +45,18 @@ returns-in_err-ask_average-clause-did c =
     let p = err_from_is_err_and c.from_residual.result c.from_residual.ensures.1 in
     rw (p.1, p.2) (average-refused (study_of c.args.tested.now.study) (start (goal.at.returns-in_err-ask_average-clause-did c).Start) c.requires c.args.tested.now.counts c.args.triplet c.args.ids1.now c.args.ids2.now _ told)
 
-pub average_weights-requires-clause-on_sheet : goal.average_weights-requires-clause-on_sheet
-average_weights-requires-clause-on_sheet c = rw c.counted_sizes-counts.ensures (on (goal.at.average_weights-requires-clause-on_sheet c).After-magnitude-t).0
+pub invariant_of-by : goal.invariant_of-by
+invariant_of-by c =
+    let told = on (goal.at.invariant_of-by c).After-magnitude-t in
+    record { on_sheet = rw c.counted_sizes-counts.ensures told.0; listed = rw c.counted_sizes-counts.ensures told.1 }
 
-pub average_weights-requires-clause-lengths : goal.average_weights-requires-clause-lengths
-average_weights-requires-clause-lengths c =
-    let l = long-yes (study_of c.args.tested.now.study) (start (goal.at.average_weights-requires-clause-lengths c).Start) c.requires c.args.tested.now.counts in
-    rw c.counted_sizes-counts.ensures (l.0, (on (goal.at.average_weights-requires-clause-lengths c).After-magnitude-t).1)
+pub average_weights-requires : goal.average_weights-requires
+average_weights-requires c =
+    rw c.counted_sizes-counts.ensures (long-yes (study_of c.args.tested.now.study) (start (goal.at.average_weights-requires c).Start) c.requires c.args.tested.now.counts).0
 
-pub average_flags-requires-clause-on_sheet : goal.average_flags-requires-clause-on_sheet
-average_flags-requires-clause-on_sheet c = rw c.counted_sizes-counts.ensures (on (goal.at.average_flags-requires-clause-on_sheet c).After-magnitude-t).0
-
-pub average_flags-requires-clause-lengths : goal.average_flags-requires-clause-lengths
-average_flags-requires-clause-lengths c =
-    let l = long-yes (study_of c.args.tested.now.study) (start (goal.at.average_flags-requires-clause-lengths c).Start) c.requires c.args.tested.now.counts in
-    rw c.counted_sizes-counts.ensures (l.1.0, (on (goal.at.average_flags-requires-clause-lengths c).After-magnitude-t).1)
+pub average_flags-requires : goal.average_flags-requires
+average_flags-requires c =
+    rw c.counted_sizes-counts.ensures (long-yes (study_of c.args.tested.now.study) (start (goal.at.average_flags-requires c).Start) c.requires c.args.tested.now.counts).1.0
 
 pub average_marks-requires : goal.average_marks-requires
 average_marks-requires c =
