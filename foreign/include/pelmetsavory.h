@@ -16,7 +16,7 @@
  * A function letter 'I' names the weight of the density; any other byte names J, that of the number of states.
  * Call pelmetsavory_ready before anything else, in each thread. Floats: the thread must round to nearest, without flush-to-zero (FTZ) and
  * denormals-are-zero (DAZ). The library must be of the header's interface version.
- * A call needs less than 80 KiB of stack, pelmetsavory_answer less than 1.25 MiB; it allocates nothing, and keeps nothing: threads may call
+ * A call needs less than 64 KiB of stack, pelmetsavory_answer less than 1.25 MiB; it allocates nothing, and keeps nothing: threads may call
  * on different sheets at once. */
 #ifndef PELMETSAVORY_H
 #define PELMETSAVORY_H

@@ -40,3 +40,6 @@ module _ (s : Study) where
   pub answer-listed : (n : ℕ) → n ≡ first_no (questions_of s) → n ≡ 0 → listing_for s ≡ answer_to s
   unfolding answer_to
   answer-listed n e h = rw (← e, h)
+
+-- what `grind` is given at a function
+pub ruleset asking_laws = (diagonal-lt, refusal-room)

@@ -37,7 +37,7 @@ fn ask(study: Study) -> Result<(), Refusal>
     triplet_study::kernel::ask_study(study)
 }
 
-// The shape of a head.
+// The shape of a head. No `From`: both types are of other crates.
 pub fn shape_of(head: Head) -> Shape
     ensures { result ≡ shape_of head }
 {
@@ -51,6 +51,7 @@ pub fn shape_of(head: Head) -> Shape
 }
 
 // The built-in table of a head.
+#[tactic(auto, using(crate::proofs::AnswerLaws::asking_laws))]
 pub fn table_of(head: Head) -> [i64; 288]
     requires { is_between 0 3 head.diag ≡ true }
     ensures { result ≡ table_for head }
@@ -63,6 +64,7 @@ pub fn table_of(head: Head) -> [i64; 288]
 }
 
 // Writes the line of a refusal at the start of out, and tells how many bytes it has.
+#[tactic(auto, using(crate::proofs::AnswerLaws::asking_laws))]
 pub fn put_refused(out: &mut [u8; 118617], why: Refusal) -> usize
     ensures { Wrote (refusal_of (refusal_number why)) out result }
 {

@@ -6,7 +6,7 @@ ghost use Rattle.std.specs.Prelude.{◌≡◌, length};
 ghost use Rattle.answer.specs.Texts.{answer_of, answered};
 
 use ask::Refusal;
-use study::StudyBuffers;
+use study::{FloatsBuffers, GridBuffers, StudyBuffers};
 
 mod asking;
 mod floats;
@@ -18,8 +18,25 @@ pub fn answer(text: &[u8], out: &mut [u8; 118617]) -> usize
     ensures value { result ≡ length (answer_of text.now) }
     ensures out_after { out.new ≡ answered (answer_of text.now) out.old }
 {
-    let mut buffers = StudyBuffers::new();
-    match study::kernel::read_study(text, &mut buffers) {
+    let mut addresses = [0i64; 16387];
+    let mut gp_map = [0i64; 16385];
+    let mut f1 = [0u64; 16385];
+    let mut f2 = [0u64; 16385];
+    let mut points = [0u64; 16385];
+    let mut triplets = [0i64; 16387];
+    let buffers = StudyBuffers {
+        grid: GridBuffers {
+            addresses: &mut addresses,
+            gp_map: &mut gp_map,
+        },
+        floats: FloatsBuffers {
+            f1: &mut f1,
+            f2: &mut f2,
+            points: &mut points,
+        },
+        triplets: &mut triplets,
+    };
+    match study::kernel::read_study(text, buffers) {
         Some(study) => held::put_held(out, study),
         None => asking::put_refused(out, Refusal::Text),
     }

@@ -4,14 +4,16 @@
 
 ghost use Rattle.std.specs.Prelude.{◌≡◌};
 ghost use Rattle.averaging.specs.Answers.{averaging_answer, weights_after, flags_after};
-ghost use Rattle.averaging.specs.Lent.{answer_in, weights_in, flags_in};
+ghost use Rattle.ask.specs.Refusals.{answer_of};
+ghost use Rattle.triplet_types.specs.Types.{tp_type_of};
+ghost use Rattle.averaging.specs.Lent.{no_in, answer_in, weights_in, flags_in};
 
 pub use ask::Refusal;
 use averaging_walk::kernel::walk::average_points;
 use numbers::kernel::magnitude;
 use question_values::kernel::averages::{degenerate_ids_ok, weights_ok};
 use question_values::kernel::counts::signed_counts_ok;
-use question_values::kernel::tp_type::{channels_of, tp_type_ok};
+use triplet_types::TpType;
 
 // What one triplet is averaged by: the degenerate ids at q' and at q'', the counts of points and of bands, and the type.
 #[derive(Clone, Copy)]
@@ -23,13 +25,11 @@ pub struct Averaging<'a> {
     pub tp_type: i64,
 }
 
-// Questions 8, 9, 12, 17 and 19.
-fn ask_averaging(averaging: Averaging, iw: &[f64], iw_zero: &[i8]) -> Result<(), Refusal>
-    ensures { result ≡ answer_in iw.now iw_zero.now averaging.entry }
+// Questions 8, 9, 12, 17 and 19. Gives the type.
+fn ask_averaging(averaging: Averaging, iw: &[f64], iw_zero: &[i8]) -> Result<TpType, Refusal>
+    ensures { result ≡ answer_of (no_in iw.now iw_zero.now averaging.entry) (tp_type_of averaging.entry.tp_type) }
 {
-    if !tp_type_ok(averaging.tp_type) {
-        return Err(Refusal::TpType);
-    }
+    let tp = TpType::try_from(averaging.tp_type)?;
     if !signed_counts_ok(
         averaging.num_band,
         averaging.num_band,
@@ -40,7 +40,7 @@ fn ask_averaging(averaging: Averaging, iw: &[f64], iw_zero: &[i8]) -> Result<(),
     }
     let bands = magnitude(averaging.num_band);
     let size = magnitude(averaging.num_band0) * (bands * bands);
-    let all = channels_of(averaging.tp_type) * size;
+    let all = tp.num_channels() * size;
     if !((iw.len() == all) & (iw_zero.len() == size)) {
         return Err(Refusal::Lengths);
     }
@@ -52,7 +52,7 @@ fn ask_averaging(averaging: Averaging, iw: &[f64], iw_zero: &[i8]) -> Result<(),
     if !weights_ok(iw) {
         return Err(Refusal::Weights);
     }
-    Ok(())
+    Ok(tp)
 }
 
 // Averages the weights and the flags of one triplet in place. `iw` holds the channels one after another, each by point,
@@ -66,12 +66,12 @@ pub fn average_weights_over_degenerate_sets(
     ensures iw_after { iw.new ≡ weights_in iw.old iw_zero.old averaging.entry }
     ensures iw_zero_after { iw_zero.new ≡ flags_in iw.old iw_zero.old averaging.entry }
 {
-    ask_averaging(averaging, iw, iw_zero)?;
+    let tp = ask_averaging(averaging, iw, iw_zero)?;
     let ids1 = averaging.degenerate_ids1;
     let ids2 = averaging.degenerate_ids2;
     let bands = magnitude(averaging.num_band);
     let points = magnitude(averaging.num_band0);
-    let all_points = channels_of(averaging.tp_type) * points;
+    let all_points = tp.num_channels() * points;
     average_points(iw, ids1, ids2, bands, all_points);
     average_points(iw_zero, ids1, ids2, bands, points);
     Ok(())

@@ -22,7 +22,7 @@ use Rattle.triplet_study.specs.Study.{Study, sizes_of}
 use Rattle.marks.specs.Bytes.{mark_at, places_in}
 use Rattle.marks.proofs.BytesLaws.{all_in}
 use Rattle.marks.proofs.MarkLaws.{alike_same}
-use Rattle.marks.specs.Marks.{is_averaged_at, alike, is_mark, are_marks, is_not_averaged}
+use Rattle.marks.specs.Marks.{is_averaged_at, alike, is_mark, is_mark_beside, are_marks, is_not_averaged}
 use Rattle.book_claim.proofs.MarkWords.{mark-word}
 use Rattle.book_claim.proofs.RunLaws.{all-marked}
 use Rattle.sheet_step.specs.Steps.{pieces_of, Sheet, Call, run, carry, average, piece_of}
@@ -52,7 +52,7 @@ module _ (l : List Word) (start : List ℕ) (pieces : ℕ) (held : pieces ≤ pl
 
   -- a piece is averaged where the first of its triplet is
   triplet-alike : (b q : ℕ) → are_marks b pieces (marks_of pieces l start) ≡ true → q < pieces → is_averaged (get_or l q fresh) ≡ is_averaged_at (marks_of pieces l start) (q / b * b)
-  unfolding are_marks is_mark
+  unfolding are_marks is_mark is_mark_beside is_averaged_at
   triplet-alike b q e h =
       let m : List ℕ = marks_of pieces l start in
       let y : (ltb (mark_at m q) 3 && alike (is_averaged_at m q) (is_averaged_at m (q / b * b))) ≡ true = below_at pieces (is_mark b m) e q h in

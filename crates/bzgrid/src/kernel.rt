@@ -24,38 +24,21 @@ pub fn fill_neighbours(out: &mut [i64], g: usize, steps: Triples, grid: TestedGr
     }
 }
 
-// The neighbours of each of the points in turn.
+// The neighbours of each of the points in turn. The parts are cut by index: behind one that `chunks_mut` lends a proof knows its length alone.
 pub fn fill_many(out: &mut [i64], grid_points: &[i64], steps: Triples, grid: TestedGrid)
     requires { (are_grid_points (triples_in grid.addresses.now) grid_points.now ≡ true) × (length out.old ≡ length grid_points.now * triples_in steps.numbers.now) }
     ensures { out.new ≡ neighbours_of_all grid.entry.grid grid.entry.addresses.now grid.entry.gp_map.now steps.entry.numbers.now grid_points.now }
 {
     let size = steps.numbers.len() / 3;
-    let mut start = 0;
     for i in 0..grid_points.len() {
         let g = numbers::kernel::magnitude_at(grid_points, i);
-        let end = start + size;
-        fill_neighbours(&mut out[start..end], g, steps, grid);
-        start = end;
+        let start = i * size;
+        fill_neighbours(&mut out[start..start + size], g, steps, grid);
     }
 }
 
-// The questions of the call for one point, after those on the grid.
-pub fn ask_point(grid_point: i64, steps: &[i64], p: usize, out_len: usize) -> Result<(), Refusal>
-    ensures { result ≡ answer_of (first_no (step_questions steps.now grid_point p out_len)) tt }
-{
-    if !steps::steps_ok(steps) {
-        return Err(Refusal::Table);
-    }
-    if !numbers::kernel::is_below(grid_point, p) {
-        return Err(Refusal::GridPoints);
-    }
-    if out_len != steps.len() / 3 {
-        return Err(Refusal::Lengths);
-    }
-    Ok(())
-}
-
-// The questions of the call for many points, after those on the grid.
+// The questions of the calls, after those on the grid. p and out_len count what is not read here: a list in their place would ask more of the caller.
+#[tactic(auto, using(list_laws::proofs::BoolLaws::yes_of, list_laws::proofs::BoolLaws::no_of, question_grids::proofs::StepLaws::step_laws), unfolding(ask::specs::Ask::first_no))]
 pub fn ask_points(
     grid_points: &[i64],
     steps: &[i64],

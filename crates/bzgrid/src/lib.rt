@@ -11,7 +11,7 @@ use question_grids::{Grid, Triples};
 
 pub mod kernel;
 
-// The neighbours of one grid point along a list of relative grid addresses. Questions 3, 4, 5, 6, 7, 10, 12.
+// The neighbours of one grid point along a list of relative grid addresses: those of a list of one. Questions 3, 4, 5, 6, 7, 10, 12.
 pub fn fill_neighboring_grid_points(
     out: &mut [i64],
     grid_point: i64,
@@ -20,16 +20,7 @@ pub fn fill_neighboring_grid_points(
 ) -> Result<(), Refusal>
     ensures { DidFind (around_of grid.entry relative_grid_address) grid_point result out.old out.new }
 {
-    ask_grid(grid)?;
-    let p = grid.addresses.len() / 3;
-    kernel::ask_point(grid_point, relative_grid_address, p, out.len())?;
-    let tested = TestedGrid::new(grid);
-    let g = numbers::kernel::magnitude(grid_point);
-    let steps = Triples {
-        numbers: relative_grid_address,
-    };
-    kernel::fill_neighbours(out, g, steps, tested);
-    Ok(())
+    neighboring_grid_points_many(out, &[grid_point], relative_grid_address, grid)
 }
 
 // The neighbours of many grid points: those of each in turn. Questions 3, 4, 5, 6, 7, 9, 10, 12.

@@ -66,3 +66,6 @@ module _ (grid : BzGrid) (addresses gp-map : List ℤ) (s : SoundGrid grid addre
   -- P is at most 8 * 128 * 128 * 128
   pub addresses-small : triples_in addresses ≤ 16777216
   addresses-small = omega (arith, addresses-high (count_of grid.mesh) addresses s.addressed, count-le s.mesh)
+
+-- by one name, for the attributes of functions
+pub ruleset neighbour_laws = (doubled-below, neighbour-lt, addresses-small)

@@ -12,6 +12,7 @@ use question_grids::Triples;
 pub mod tested;
 
 // The kind that a tested number names; a `TryFrom` would add a refusal that cannot come.
+#[tactic(auto, unfolding(crate::specs::Neighbours::kind_of))]
 fn kind_of(bz_grid_type: i64) -> GridKind
     ensures { result ≡ kind_of bz_grid_type }
 {
@@ -23,6 +24,7 @@ fn kind_of(bz_grid_type: i64) -> GridKind
 }
 
 // The grid of numbers that have passed questions 3 and 4.
+#[tactic(auto, unfolding(crate::specs::Neighbours::grid_of))]
 pub fn grid_of(bz_grid_type: i64, d_diag: [i64; 3]) -> BzGrid
     ensures { result ≡ grid_of bz_grid_type d_diag }
 {
@@ -32,7 +34,8 @@ pub fn grid_of(bz_grid_type: i64, d_diag: [i64; 3]) -> BzGrid
     }
 }
 
-// Whether address number j is the wanted one.
+// Whether address number j is the wanted one. A derived equality would be no plainer: it needs an `Address` made of the three numbers first.
+#[tactic(auto, unfolding(crate::specs::Neighbours::is_address))]
 fn same_address(addresses: &[i64], j: usize, w: Address) -> bool
     requires { 3 * j + 2 < length addresses.now }
     ensures { result ≡ is_address addresses.now w j }
@@ -45,17 +48,13 @@ fn first_address(addresses: &[i64], lo: usize, hi: usize, w: Address) -> usize
     requires { 3 * hi ≤ length addresses.now }
     ensures { result ≡ first_at (is_address addresses.now w) lo (hi - lo) lo }
 {
-    let mut found = lo;
-    for k in lo..hi {
-        if same_address(addresses, k, w) {
-            found = k;
-            break;
-        }
-    }
-    found
+    (lo..hi)
+        .find(|&k| same_address(addresses, k, w))
+        .unwrap_or(lo)
 }
 
 // Kind 1: look up the address in the map on the doubled mesh; where it is missing, the grid index.
+#[tactic(auto, using(crate::proofs::NeighbourLaws::neighbour_laws), unfolding(crate::specs::Neighbours::sparse_neighbour, crate::specs::Neighbours::map_on_doubled))]
 fn sparse_neighbour(m: Mesh, gp_map: &[i64], w: Address) -> usize
     requires { MeshWithin 128 m × (8 * count_of m ≤ length gp_map.now) }
     ensures { result ≡ sparse_neighbour m gp_map.now w }
@@ -74,6 +73,7 @@ fn sparse_neighbour(m: Mesh, gp_map: &[i64], w: Address) -> usize
 }
 
 // Kind 2, of the group from lo up to hi.
+#[tactic(auto, unfolding(crate::specs::Neighbours::in_group))]
 fn in_group(addresses: &[i64], w: Address, lo: usize, hi: usize) -> usize
     requires { (lo ≤ hi) × (3 * hi ≤ length addresses.now) }
     ensures { result ≡ in_group addresses.now w lo hi }
@@ -86,6 +86,7 @@ fn in_group(addresses: &[i64], w: Address, lo: usize, hi: usize) -> usize
 }
 
 // Kind 2: the group of the grid index.
+#[tactic(auto, unfolding(crate::specs::Neighbours::dense_neighbour))]
 fn dense_neighbour(m: Mesh, addresses: &[i64], gp_map: &[i64], w: Address) -> usize
     requires { MeshWithin 128 m × (is_dense_map (count_of m) (triples_in addresses.now) gp_map.now ≡ true) }
     ensures { result ≡ dense_neighbour m addresses.now gp_map.now w }
@@ -105,6 +106,7 @@ fn moved_by(addresses: Triples, steps: Triples, g: usize, j: usize, i: usize) ->
 }
 
 // The address of point g, moved by step j.
+#[tactic(auto, unfolding(crate::specs::Neighbours::wanted_address))]
 fn wanted_address(addresses: Triples, steps: Triples, g: usize, j: usize) -> Address
     requires { (g < triples_in addresses.numbers.now) × (j < triples_in steps.numbers.now) }
     ensures { result ≡ wanted_address addresses.entry.numbers.now steps.entry.numbers.now g j }
@@ -116,6 +118,7 @@ fn wanted_address(addresses: Triples, steps: Triples, g: usize, j: usize) -> Add
 }
 
 // The number of the grid point with the wanted address.
+#[tactic(auto, using(question_grids::proofs::GridLaws::grid_laws), unfolding(crate::specs::Neighbours::neighbour_of))]
 fn find_neighbour(grid: BzGrid, addresses: &[i64], gp_map: &[i64], w: Address) -> usize
     requires { SoundGrid grid addresses.now gp_map.now }
     ensures { result ≡ neighbour_of grid addresses.now gp_map.now w }
@@ -128,6 +131,7 @@ fn find_neighbour(grid: BzGrid, addresses: &[i64], gp_map: &[i64], w: Address) -
 }
 
 // The number of the neighbour of point g at step j.
+#[tactic(auto, using(question_grids::proofs::GridLaws::grid_laws))]
 pub fn neighbour(
     grid: BzGrid,
     addresses: &[i64],

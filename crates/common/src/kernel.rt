@@ -31,6 +31,7 @@ pub fn lattice_ok(a: [[f64; 3]; 3]) -> bool
 }
 
 // Question 7, of a vector.
+#[tactic(auto, unfolding(crate::specs::Matrix::is_vector))]
 pub fn vector_ok(b: [i64; 3]) -> bool
     ensures { result ≡ is_vector b }
 {

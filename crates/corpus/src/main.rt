@@ -2,16 +2,8 @@
 
 #![tactic(auto)]
 
-ghost use Rattle.std.specs.Prelude.{◌≡◌, length};
-
 use replay_input::kernel as input;
 use replay_input::reader::Reader;
-
-fn answer_buffer() -> [u8; 118617]
-    ensures { 118617 ≡ length result }
-{
-    [0; 118617]
-}
 
 // Answers the next text; false where there is none.
 fn next_text() -> bool {
@@ -23,7 +15,8 @@ fn next_text() -> bool {
     let size = Reader::new(&head).next_count();
     let mut text = io::large_buffer();
     let n = input::read_part(&mut text, size as usize);
-    let mut out = answer_buffer();
+    // as long as the longest answer
+    let mut out = [0; 118617];
     let k = answer::answer(&text[..n], &mut out);
     io::write_all(1, &out[..k]);
     true

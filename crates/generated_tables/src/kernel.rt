@@ -1,6 +1,5 @@
 // The numbers of the tables, each from its tetrahedron: the way numbered tetrahedron % 6 along the diagonal numbered tetrahedron / 6.
 ghost use Rattle.std.specs.Prelude.{◌≡◌, [], ◌<◌, get_or, length};
-ghost use Rattle.cell_tetrahedra.specs.Rows.{generated_tables};
 ghost use Rattle.cell_tetrahedra.specs.Ways.{ways};
 ghost use Rattle.generated_tables.specs.Numbers.{edge_along, place_of, number_of};
 
@@ -26,14 +25,12 @@ fn place(tetrahedron: usize, n: usize, k: usize) -> i64
 {
     let changed = edge_along(tetrahedron % 6, k) < n;
     let falls = main_diagonal(tetrahedron / 6)[k] < 0;
-    if changed ^ falls {
-        return 1;
-    }
-    0
+    i64::from(changed ^ falls)
 }
 
 // Number i of the tables.
-fn number(i: usize) -> i64
+#[tactic(auto, using(crate::proofs::NumberLaws::number_fits), unfolding(crate::specs::Numbers::number_of))]
+pub fn number(i: usize) -> i64
     requires { i < 1152 }
     ensures { result ≡ number_of i }
 {
@@ -41,14 +38,4 @@ fn number(i: usize) -> i64
     let zero = i / 12 % 4;
     let corner = (zero + i / 3 % 4) % 4;
     place(tetrahedron, corner, i % 3) - place(tetrahedron, zero, i % 3)
-}
-
-// Writes the four tables, one after the other.
-pub fn fill_tables(out: &mut [i64])
-    requires { length out.old ≡ 1152 }
-    ensures { out.new ≡ generated_tables }
-{
-    for i in 0..1152 {
-        out[i] = number(i);
-    }
 }

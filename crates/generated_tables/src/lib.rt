@@ -11,7 +11,5 @@ mod kernel;
 pub fn generated_relative_grid_address() -> [i64; 1152]
     ensures { result ≡ generated_tables }
 {
-    let mut all = [0i64; 1152];
-    kernel::fill_tables(&mut all);
-    all
+    std::array::from_fn(|i| kernel::number(i))
 }

@@ -8,6 +8,7 @@ use Rattle.list_laws.proofs.SignedLaws.{rem_lt}
 use Rattle.numbers.specs.declared.Address.{Address}
 use Rattle.numbers.specs.declared.Mesh.{Mesh}
 use Rattle.numbers.specs.Mesh.{count_of, MeshWithin}
+use Rattle.numbers.proofs.MeshLaws.{count-le}
 use Rattle.grgrid.specs.Index.{grid_index}
 
 module _ {top : ℕ} {m : Mesh} (w : MeshWithin top m) (a : Address) where
@@ -27,3 +28,6 @@ module _ {top : ℕ} {m : Mesh} (w : MeshWithin top m) (a : Address) where
         arith,
         digit_lt (rem_euclid a.z m.d2) m.d2 (rem_euclid a.y m.d1 * m.d0 + rem_euclid a.x m.d0) (m.d0 * m.d1) (rem_lt a.z w.low2) index-low,
       )
+
+-- by one name, for the attributes of functions
+pub ruleset index_laws = (index-lt, count-le)

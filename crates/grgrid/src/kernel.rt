@@ -15,6 +15,7 @@ fn remainder(z: i64, d: usize) -> usize
 }
 
 // The grid index of an address.
+#[tactic(auto, using(crate::proofs::IndexLaws::index_laws), unfolding(crate::specs::Index::grid_index, numbers::specs::Mesh::count_of))]
 pub fn grid_index(a: Address, m: Mesh) -> usize
     requires { MeshWithin 256 m }
     ensures { result ≡ grid_index a m }

@@ -19,7 +19,7 @@ fn fill_point(study: &TestedStudy, gp: usize, iw: &mut [f64])
     }
 }
 
-// The weights of each of the grid points in turn.
+// The weights of each of the grid points in turn. Parts by their index: behind a chunk that is lent, a proof knows its length alone.
 pub fn fill_all(study: &TestedStudy, grid_points: &[i64], iw: &mut [f64])
     requires { (are_grid_points (triples_in study.now.lent.grid.addresses.now) grid_points.now ≡ true) × (length iw.old ≡ length grid_points.now * (length study.now.lent.frequency_points.now * study.now.bands)) }
     ensures { iw.new ≡ weights_of_all (tested_study study.now) grid_points.now }

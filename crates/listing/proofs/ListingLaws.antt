@@ -1,9 +1,9 @@
 -- Lines and weights written one after another. Assumes nothing.
-use Prim.Native.Nat.{ℕ, zero, suc, ◌+◌, ◌*◌, ◌/◌, ◌%◌, ◌≤◌, ◌<◌}
+use Prim.Native.Nat.{ℕ, zero, suc, ◌+◌, ◌/◌, ◌%◌, ◌≤◌, ◌<◌}
 use mathlib.Core.Path.{◌≡◌}
 use mathlib.Core.List.{List, ◌++◌}
 use mathlib.Core.Logic.{◌⊎◌, inl, inr}
-use native.Mathlib.Nat.{eq-or-lt_of_le, mul-le-mul_right, suc-mul}
+use native.Mathlib.Nat.{eq-or-lt_of_le}
 use native.Mathlib.Numerals.{add-one}
 use native.Mathlib.Omega.{arith}
 use lib.ListN.{length, length-append}
@@ -45,10 +45,6 @@ module _ (f : ℕ → List ℕ) (n : ℕ) (u : Writer) (room : HasRoom (rows n f
 -- and all of them
 pub pieces_all : (f : ℕ → List ℕ) {i n : ℕ} {u v : Writer} → i ≡ n → Wrote (rows i f) u v → Wrote (rows n f) u v
 pieces_all f {u} {v} e r = rw (← e) r
-
--- where an entry's weight lies
-pub weight-below : (c channels total e : ℕ) → c < channels → e < total → c * total + e < channels * total
-weight-below c channels total e h k = omega (arith, k, suc-mul c total, mul-le-mul_right {m = suc c} {n = channels} total h)
 
 -- five pieces, one behind the other
 module _ (a b c d e : List ℕ) (u : Writer) (room : HasRoom (a ++ b ++ c ++ d ++ e) u) where
@@ -103,3 +99,6 @@ listing-length points bands1 bands2 channels weights flags = omega arith
 pub line-length : (points bands1 bands2 channels : ℕ) (weights : List Float) (flags : List ℤ) (e : ℕ) → length (line_of points bands1 bands2 channels weights flags e) ≡ length (front_of (e / bands2 / bands1 / points) (e / bands2 / bands1 % points) (e / bands2 % bands1) (e % bands2) (flag_at flags e)) + length (weights_of weights (length flags) e channels)
 unfolding line_of
 line-length points bands1 bands2 channels weights flags e = length-append (front_of (e / bands2 / bands1 / points) (e / bands2 / bands1 % points) (e / bands2 % bands1) (e % bands2) (flag_at flags e)) (weights_of weights (length flags) e channels)
+
+-- what `grind` is given at a function
+pub ruleset five_rooms = (first-of-five, second-of-five, third-of-five, fourth-of-five, fifth-of-five)

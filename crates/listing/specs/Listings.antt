@@ -1,5 +1,5 @@
 -- The listing: its header, one line an entry in the order of the flags, and the line of a refusal.
-use Rattle.std.specs.Prelude.{cond, List, [], ◌∷◌, ◌++◌, ℕ, ◌+◌, ◌*◌, ◌/◌, ◌%◌, eqb, Float, ℤ, pos, length, get_or}
+use Rattle.std.specs.Prelude.{cond, List, [], ◌∷◌, ◌++◌, ℕ, ◌+◌, ◌*◌, ◌/◌, ◌%◌, eqb, ◌<◌, ◌≡◌, Float, ℤ, pos, length, get_or}
 use Rattle.std.specs.Float.{nan, binary64}
 use Rattle.std.specs.Float.Ieee.{to_bits}
 use Rattle.list_laws.specs.Lists.{at, rows}
@@ -9,6 +9,10 @@ use Rattle.text.specs.Spelled.{decimal, hexadecimal}
 -- "the header, the same for each type": "triplet", "point", "b1", "b2", "flag", "w", parted by tabs, and a newline
 unfoldable pub header : List ℕ
 header = 116 ∷ 114 ∷ 105 ∷ 112 ∷ 108 ∷ 101 ∷ 116 ∷ 9 ∷ 112 ∷ 111 ∷ 105 ∷ 110 ∷ 116 ∷ 9 ∷ 98 ∷ 49 ∷ 9 ∷ 98 ∷ 50 ∷ 9 ∷ 102 ∷ 108 ∷ 97 ∷ 103 ∷ 9 ∷ 119 ∷ 10 ∷ []
+
+-- no count of points or bands is 0, and each entry has a weight in each channel
+abbrev pub IsListable : ℕ → ℕ → ℕ → ℕ → List Float → List ℤ → Type 0
+IsListable points bands1 bands2 channels weights flags = (0 < points) × (0 < bands1) × (0 < bands2) × (length weights ≡ channels * length flags)
 
 -- a number, and a byte after it
 abbrev pub number : ℕ → ℕ → List ℕ

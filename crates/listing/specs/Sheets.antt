@@ -1,11 +1,7 @@
 -- A sheet as it is listed.
-use Rattle.std.specs.Prelude.{List, ℕ, ◌*◌, ◌<◌, ◌≡◌, length}
-use Rattle.listing.specs.declared.kernel.Sheet.{Sheet}
+use Rattle.std.specs.Prelude.{List, ℕ, length}
+use Rattle.listing.specs.declared.kernel.sheet.Sheet.{Sheet}
 use Rattle.listing.specs.Listings.{weights_of, line_of, lines_of, listing_of}
-
--- no count of points or bands is 0, and each entry has a weight in each channel
-abbrev pub IsListable : Sheet → Type 0
-IsListable s = (0 < s.points) × (0 < s.bands1) × (0 < s.bands2) × (length s.weights.now ≡ s.channels * length s.flags.now)
 
 -- the weights of an entry
 abbrev pub weights_in : Sheet → ℕ → List ℕ

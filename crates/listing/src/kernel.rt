@@ -1,23 +1,16 @@
 // The writers need room for exactly what they write, and keep every other byte.
+pub mod sheet;
+
 ghost use Rattle.std.specs.Prelude.{◌<◌, ◌≡◌, length};
 ghost use Rattle.listing.specs.Listings.{flag_at, front_of, refusal_of, weight_end};
-ghost use Rattle.listing.specs.Sheets.{IsListable, line_in, lines_in, sheet_listing, weights_in};
+ghost use Rattle.listing.specs.Sheets.{line_in, lines_in, sheet_listing, weights_in};
 ghost use Rattle.writing.specs.Written.{HasRoom, Wrote};
 
+pub use sheet::Sheet;
 use writing::kernel::Writer;
 
-// A sheet as it is listed: its counts, its weights, by channel and then as the flags, and its flags.
-#[derive(Clone, Copy)]
-pub struct Sheet<'a> {
-    pub points: usize,
-    pub bands1: usize,
-    pub bands2: usize,
-    pub channels: usize,
-    pub weights: &'a [f64],
-    pub flags: &'a [i8],
-}
-
 // A flag as the listing writes it: 0, or 1 for any other.
+#[tactic(auto, unfolding(crate::specs::Listings::flag_at))]
 fn flag_at(flags: &[i8], e: usize) -> u64
     requires { e < length flags.now }
     ensures { result ≡ flag_at flags.now e }
@@ -26,6 +19,7 @@ fn flag_at(flags: &[i8], e: usize) -> u64
 }
 
 // Writes the front of an entry's line: triplet, point, bands and flag, a tab after each.
+#[tactic(auto, using(crate::proofs::ListingLaws::five_rooms), unfolding(crate::specs::Listings::front_of))]
 fn put_front(writer: &mut Writer<'_>, t: u64, p: u64, b1: u64, b2: u64, flag: u64)
     requires { HasRoom (front_of t p b1 b2 flag) writer.old }
     ensures { Wrote (front_of t p b1 b2 flag) writer.old writer.new }
@@ -38,6 +32,7 @@ fn put_front(writer: &mut Writer<'_>, t: u64, p: u64, b1: u64, b2: u64, flag: u6
 }
 
 // The byte after the weight of channel c.
+#[tactic(auto, unfolding(crate::specs::Listings::weight_end))]
 pub fn weight_end(channels: usize, c: usize) -> u8
     requires { c < channels }
     ensures { result ≡ weight_end channels c }
@@ -47,7 +42,7 @@ pub fn weight_end(channels: usize, c: usize) -> u8
 
 // Writes the weights of entry number e, channel after channel: a tab after each but the last, a newline after that.
 fn put_weights(writer: &mut Writer<'_>, sheet: &Sheet<'_>, e: usize)
-    requires entry { IsListable sheet.now × (e < length sheet.now.flags.now) }
+    requires entry { e < length sheet.now.flags.now }
     requires room { HasRoom (weights_in sheet.now e) writer.old }
     ensures { Wrote (weights_in sheet.now e) writer.old writer.new }
 {
@@ -59,8 +54,9 @@ fn put_weights(writer: &mut Writer<'_>, sheet: &Sheet<'_>, e: usize)
 }
 
 // Writes the line of entry number e.
+#[tactic(auto, using(writing::proofs::WrittenLaws::room_laws), unfolding(crate::specs::Listings::line_of))]
 fn put_line(writer: &mut Writer<'_>, sheet: &Sheet<'_>, e: usize)
-    requires entry { IsListable sheet.now × (e < length sheet.now.flags.now) }
+    requires entry { e < length sheet.now.flags.now }
     requires room { HasRoom (line_in sheet.now e) writer.old }
     ensures { Wrote (line_in sheet.now e) writer.old writer.new }
 {
@@ -75,8 +71,7 @@ fn put_line(writer: &mut Writer<'_>, sheet: &Sheet<'_>, e: usize)
 
 // Writes the lines of all entries, in the order of the flags.
 fn put_lines(writer: &mut Writer<'_>, sheet: &Sheet<'_>)
-    requires counts { IsListable sheet.now }
-    requires room { HasRoom (lines_in sheet.now) writer.old }
+    requires { HasRoom (lines_in sheet.now) writer.old }
     ensures { Wrote (lines_in sheet.now) writer.old writer.new }
 {
     for e in 0..sheet.flags.len() {
@@ -86,8 +81,7 @@ fn put_lines(writer: &mut Writer<'_>, sheet: &Sheet<'_>)
 
 // Writes the listing of a sheet.
 pub fn put_listing(writer: &mut Writer<'_>, sheet: &Sheet<'_>)
-    requires counts { IsListable sheet.now }
-    requires room { HasRoom (sheet_listing sheet.now) writer.old }
+    requires { HasRoom (sheet_listing sheet.now) writer.old }
     ensures { Wrote (sheet_listing sheet.now) writer.old writer.new }
 {
     writer.put_slice(b"triplet\tpoint\tb1\tb2\tflag\tw\n");

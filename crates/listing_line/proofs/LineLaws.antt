@@ -163,3 +163,8 @@ module _ (place : Place) (channels : ℕ) {u v : Reader} (p : Passes (numbers_of
       let flag : List ℕ = number (flag_here u.text.now (u.at + length n)) 9 in
       let e : u.at + length (n ++ flag) ≡ u.at + length n + 2 = omega (arith, length-append n flag, two-bytes (eqb (get_or u.text.now (u.at + length n) 0) 48)) in
       rw e at (passes_then (n ++ flag) (weights_here channels) (flagged q) s)
+
+-- what `grind` is given at a function
+pub ruleset printed_laws = (low-printed, high-printed)
+
+pub ruleset flag_laws = (flag-zero, flag_one)

@@ -22,6 +22,7 @@ pub fn pass_numbers(reader: &mut Reader<'_>, place: Place) -> Option<()>
 }
 
 // The flag where a reader is.
+#[tactic(auto, using(crate::proofs::LineLaws::flag_laws))]
 pub fn flag_at(reader: &Reader<'_>) -> i8
     requires { reader.now.at < length reader.now.text.now }
     ensures { result ≡ pos (flag_here reader.now.text.now reader.now.at) }
@@ -43,6 +44,7 @@ fn pass_flag(reader: &mut Reader<'_>) -> Option<()>
 }
 
 // Whether the writer prints a bit pattern: of the NaNs it prints one.
+#[tactic(auto, using(crate::proofs::LineLaws::printed_laws))]
 fn is_printed(pattern: u64) -> bool
     ensures { result ≡ eqb (to_bits binary64 (of_bits binary64 pattern)) pattern }
 {

@@ -28,6 +28,7 @@ use Rattle.reading.specs.Passes.{Passes, reached}
 use Rattle.reading.specs.declared.kernel.Reader.{Reader}
 use Rattle.reading.proofs.ReaderLaws.{passes-as, pieces-lost, pieces-next}
 use Rattle.reading.proofs.RowLaws.{rows_ext, rows_long, one_more_lem, front-stands, piece-stands}
+use Rattle.sheet_counts.proofs.SheetCountLaws.{counts-low, all-cells-le, weights-le, both-yes}
 use Rattle.listing_line.specs.Lines.{numbers_of, flag_here, weight_here, weights_here, line_here}
 use Rattle.listing_line.proofs.LineLaws.{two-bytes, weight-length}
 use Rattle.listing_read.specs.Restored.{place_of, next_place, line_start, flag_place, weight_place, flags_in, weights_in, is_listing, listing_in}
@@ -237,3 +238,10 @@ module _ (points bands1 bands2 channels : ℕ) where
           go : (length (header ++ rows (e + 1) lines_in) ≡ 0) ⊎ (0 + length (header ++ rows (e + 1) lines_in) ≤ length text) → flag_place points bands1 bands2 channels e + 2 + 17 * channels ≤ length text
           go (inl z) = absurd (omega (arith, z, n))
           go (inr r) = omega (arith, r, n)
+
+-- what `grind` is given at a function
+pub ruleset judged_laws = (judged-some, judged-none)
+
+pub ruleset count_laws = (counts-low, all-cells-le, weights-le, both-yes)
+
+pub ruleset place_laws = (first-place, header-room, line-room, next_place_lem, numbers-passed, place-bounds, place-low, start_first, start-next)

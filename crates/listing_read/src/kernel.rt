@@ -1,36 +1,48 @@
 // Question 22, and the order of the questions.
 pub mod restore;
+pub mod tested;
 
 ghost use Rattle.std.specs.Prelude.{◌+◌, ◌<◌, ◌≡◌};
 ghost use Rattle.ask.specs.Refusals.{answer_of};
+ghost use Rattle.triplet_types.specs.Types.{tp_type_of};
 ghost use Rattle.reading.specs.Passes.{Passes};
-ghost use Rattle.listing_read.specs.Forms.{IsForm, form_of};
+ghost use Rattle.listing_read.specs.Forms.{form_of};
 ghost use Rattle.listing_read.specs.Restored.{next_place, is_listing, listing_in};
 ghost use Rattle.listing_read.specs.Reading.{read_no};
 
 use crate::Form;
+use crate::kernel::tested::TestedForm;
 use ask::Refusal;
 use listing_line::Place;
 use listing_line::kernel::pass_line;
 use numbers::kernel::magnitude;
-use question_values::kernel::tp_type::channels_of;
 use reading::kernel::Reader;
 use sheet_counts::Counts;
 use sheet_counts::kernel::{ask_counts, cells_of};
+use triplet_types::TpType;
+
+// Where the first entry belongs.
+pub(crate) const FIRST: Place = Place {
+    triplet: 0,
+    point: 0,
+    b1: 0,
+    b2: 0,
+};
 
 // The form of the listing of a type and counts.
-pub fn form_of(tp_type: i64, counts: Counts) -> Form
-    ensures { result ≡ form_of tp_type counts }
+pub fn form_of(tp: TpType, counts: Counts) -> Form
+    ensures { result ≡ form_of tp counts }
 {
     Form {
         points: magnitude(counts.num_band0),
         bands1: magnitude(counts.num_band1),
         bands2: magnitude(counts.num_band2),
-        channels: channels_of(tp_type),
+        channels: tp.num_channels(),
     }
 }
 
 // The place after a place: b2 goes first, then b1, the point, the triplet.
+#[tactic(auto, unfolding(crate::specs::Restored::next_place))]
 pub fn next_place(place: Place, form: Form) -> Place
     requires { (place.triplet < 1099511627776) × (place.point < form.points) × (place.b1 < form.bands1) × (place.b2 < form.bands2) }
     ensures { result ≡ next_place form.points form.bands1 form.bands2 place }
@@ -65,17 +77,14 @@ pub fn next_place(place: Place, form: Form) -> Place
 }
 
 // Passes over the listing of `cells` entries from the front of a text on: its header, and the line of each.
-fn pass_listing(reader: &mut Reader<'_>, form: Form, cells: usize) -> Option<()>
-    requires { (reader.old.at ≡ 0) × IsForm form × (cells < 1099511627776) }
-    ensures { Passes (listing_in form.points form.bands1 form.bands2 form.channels cells reader.old.text.now) reader.old reader.new result }
+#[tactic(auto, using(crate::proofs::RestoredLaws::place_laws))]
+fn pass_listing(reader: &mut Reader<'_>, tested: TestedForm, cells: usize) -> Option<()>
+    requires { (reader.old.at ≡ 0) × (cells < 1099511627776) }
+    ensures { Passes (listing_in tested.form.points tested.form.bands1 tested.form.bands2 tested.form.channels cells reader.old.text.now) reader.old reader.new result }
 {
+    let form = tested.form;
     reader.pass_slice(b"triplet\tpoint\tb1\tb2\tflag\tw\n")?;
-    let mut place = Place {
-        triplet: 0,
-        point: 0,
-        b1: 0,
-        b2: 0,
-    };
+    let mut place = FIRST;
     for _entry in 0..cells {
         pass_line(reader, place, form.channels)?;
         place = next_place(place, form);
@@ -84,36 +93,40 @@ fn pass_listing(reader: &mut Reader<'_>, form: Form, cells: usize) -> Option<()>
 }
 
 // Question 22: whether the text is the listing of `cells` entries.
-fn is_listing(text: &[u8], form: Form, cells: usize) -> bool
-    requires { IsForm form × (cells < 1099511627776) }
-    ensures { result ≡ is_listing form.points form.bands1 form.bands2 form.channels cells text.now }
+#[tactic(auto, using(crate::proofs::RestoredLaws::judged_laws))]
+fn is_listing(text: &[u8], tested: TestedForm, cells: usize) -> bool
+    requires { cells < 1099511627776 }
+    ensures { result ≡ is_listing tested.form.points tested.form.bands1 tested.form.bands2 tested.form.channels cells text.now }
 {
     let mut reader = Reader::new(text);
-    let passed = pass_listing(&mut reader, form, cells);
+    let passed = pass_listing(&mut reader, tested, cells);
     passed.is_some() && reader.at == text.len()
 }
 
-// Questions 8, 9, 12 and 22 of a listing and two buffers for its record.
+// Questions 8, 9, 12 and 22 of a listing and two buffers for its record. Gives the type.
+#[tactic(auto, using(list_laws::proofs::BoolLaws::yes_of, list_laws::proofs::BoolLaws::no_of, crate::proofs::RestoredLaws::count_laws), unfolding(ask::specs::Ask::first_no, crate::specs::Reading::is_listed))]
 pub fn ask_listing(
     listing: &[u8],
     tp_type: i64,
     counts: Counts,
     num_weights: usize,
     num_flags: usize,
-) -> Result<(), Refusal>
-    ensures { result ≡ answer_of (read_no listing.now tp_type counts num_weights num_flags) tt }
+) -> Result<TpType, Refusal>
+    ensures { result ≡ answer_of (read_no listing.now tp_type counts num_weights num_flags) (tp_type_of tp_type) }
 {
-    ask_counts(tp_type, counts)?;
-    let form = form_of(tp_type, counts);
+    let tp = ask_counts(tp_type, counts)?;
+    let tested = TestedForm {
+        form: form_of(tp, counts),
+    };
     let cells = cells_of(counts);
-    if num_weights != form.channels * cells {
+    if num_weights != tested.form.channels * cells {
         return Err(Refusal::Lengths);
     }
     if num_flags != cells {
         return Err(Refusal::Lengths);
     }
-    if !is_listing(listing, form, cells) {
+    if !is_listing(listing, tested, cells) {
         return Err(Refusal::Listing);
     }
-    Ok(())
+    Ok(tp)
 }

@@ -8,6 +8,7 @@ ghost use Rattle.ask.specs.Refusals.{answer_of};
 ghost use Rattle.listing_read.specs.Reading.{read_no, listed_weights, listed_flags};
 
 use ask::Refusal;
+use kernel::tested::TestedForm;
 use sheet_counts::Counts;
 
 pub mod kernel;
@@ -35,8 +36,10 @@ pub fn read_listing(
     ensures leaves_2 { Leaves (read_no listing.now tp_type counts (length weights.old) (length flags.old))
         (listed_flags listing.now tp_type counts) flags }
 {
-    kernel::ask_listing(listing, tp_type, counts, weights.len(), flags.len())?;
-    let form = kernel::form_of(tp_type, counts);
-    kernel::restore::restore(listing, form, weights, flags);
+    let tp = kernel::ask_listing(listing, tp_type, counts, weights.len(), flags.len())?;
+    let tested = TestedForm {
+        form: kernel::form_of(tp, counts),
+    };
+    kernel::restore::restore(listing, tested, weights, flags);
     Ok(())
 }

@@ -29,7 +29,8 @@ is_mark_beside mark first = ltb mark 3 && alike (eqb mark 2) (eqb first 2)
 
 -- Question 13 of piece q: its mark is 0, 1 or 2, and 2 exactly where the first of its triplet's is
 unfoldable pub is_mark : ℕ → List ℕ → ℕ → Bool
-is_mark pairs marks q = ltb (mark_at marks q) 3 && alike (is_averaged_at marks q) (is_averaged_at marks (q / pairs * pairs))
+unfolding is_mark_beside is_averaged_at
+is_mark pairs marks q = is_mark_beside (mark_at marks q) (mark_at marks (q / pairs * pairs))
 
 -- Question 13, of so many pieces: "Are marks 0, 1, 2, and a triplet's all 2 or none 2?"
 unfoldable pub are_marks : ℕ → ℕ → List ℕ → Bool

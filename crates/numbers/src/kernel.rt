@@ -1,7 +1,7 @@
 // Helpers for the crates above.
 ghost use Rattle.std.specs.Prelude.{◌≡◌, ◌<◌, length};
 ghost use Rattle.std.specs.Int.Signed.{mag};
-ghost use Rattle.list_laws.specs.Lists.{at, one_if};
+ghost use Rattle.list_laws.specs.Lists.{at};
 ghost use Rattle.list_laws.specs.Signed.{eq_z, is_nat, is_below, is_between, within};
 ghost use Rattle.ieee_laws.specs.Magnitude.{absolute};
 ghost use Rattle.numbers.specs.Mesh.{mesh_of, count_of, MeshWithin};
@@ -10,7 +10,7 @@ use crate::Mesh;
 
 // ---- signed numbers
 
-// The magnitude of `z` where it is not negative, and one less than its magnitude where it is: what the definitions call `mag`, so not std's `unsigned_abs`.
+// The magnitude of `z` where it is not negative, and one less than its magnitude where it is, as `mag` of the definitions: std's `unsigned_abs` gives one more at each negative number.
 pub fn magnitude(z: i64) -> usize
     ensures { result ≡ mag z }
 {
@@ -46,15 +46,6 @@ pub fn is_within(n: usize, z: i64) -> bool
     ensures { result ≡ within n z }
 {
     z.unsigned_abs() <= n as u64
-}
-
-// ---- a test
-
-// 1 where the test holds, otherwise 0: std's, with a contract in the words of the definitions.
-pub fn one_if(yes: bool) -> u64
-    ensures { result ≡ one_if yes }
-{
-    u64::from(yes)
 }
 
 // ---- an element of a slice
@@ -98,7 +89,7 @@ pub fn mesh_count(m: Mesh) -> usize
 
 // ---- floats
 
-// The magnitude of x: std's, with a contract in the words of the definitions.
+// The magnitude of x. std's promises a float with its sign cleared: that this is `absolute` of the definitions is proved once here, and not by each caller.
 pub fn abs(x: f64) -> f64
     ensures { result ≡ absolute x }
 {

@@ -2,31 +2,32 @@
 ghost use Rattle.std.specs.Prelude.{◌≡◌, ◌+◌, ◌*◌, ◌≤◌, ◌<◌, length};
 ghost use Rattle.ask.specs.Ask.{first_no};
 ghost use Rattle.ask.specs.Refusals.{answer_of};
+ghost use Rattle.triplet_types.specs.Types.{tp_type_of};
 ghost use Rattle.open_count.specs.OpenCount.{open_questions, is_nonzero, is_open, open_from};
 
 use ask::Refusal;
-use numbers::kernel::{is_below, magnitude, one_if};
-use question_values::kernel::tp_type::channels_of;
+use numbers::kernel::{is_below, magnitude};
 use sheet_counts::Counts;
 use sheet_counts::kernel::{ask_counts, cells_of};
+use triplet_types::TpType;
 
-// Questions 8, 9, 12 and 14.
+// Questions 8, 9, 12 and 14. Gives the type.
 pub fn ask_open(
     tp_type: i64,
     counts: Counts,
     num_weights: usize,
     triplet: i64,
-) -> Result<(), Refusal>
-    ensures { result ≡ answer_of (first_no (open_questions tp_type counts num_weights triplet)) tt }
+) -> Result<TpType, Refusal>
+    ensures { result ≡ answer_of (first_no (open_questions tp_type counts num_weights triplet)) (tp_type_of tp_type) }
 {
-    ask_counts(tp_type, counts)?;
-    if num_weights != channels_of(tp_type) * cells_of(counts) {
+    let tp = ask_counts(tp_type, counts)?;
+    if num_weights != tp.num_channels() * cells_of(counts) {
         return Err(Refusal::Lengths);
     }
     if !is_below(triplet, magnitude(counts.num_triplets)) {
         return Err(Refusal::NotOnSheet);
     }
-    Ok(())
+    Ok(tp)
 }
 
 // Whether a weight is other than zero: either zero is zero, a NaN is not.
@@ -67,7 +68,7 @@ impl<'a> Channels<'a> {
     {
         let mut count: u64 = 0;
         for i in 0..n {
-            count = count + one_if(self.is_open(start + i));
+            count = count + u64::from(self.is_open(start + i));
         }
         count
     }

@@ -8,7 +8,6 @@ ghost use Rattle.open_count.specs.OpenCount.{open_count_answer};
 use ask::Refusal;
 use kernel::Channels;
 use numbers::kernel::magnitude;
-use question_values::kernel::tp_type::channels_of;
 use sheet_counts::Counts;
 use sheet_counts::kernel::{cells_of, cells_per_triplet};
 
@@ -24,10 +23,10 @@ pub fn open_count(
 ) -> Result<u64, Refusal>
     ensures { result ≡ open_count_answer tp_type counts weights.now triplet }
 {
-    kernel::ask_open(tp_type, counts, weights.len(), triplet)?;
+    let tp = kernel::ask_open(tp_type, counts, weights.len(), triplet)?;
     let sheet = Channels {
         weights,
-        channels: channels_of(tp_type),
+        channels: tp.num_channels(),
         cells: cells_of(counts),
     };
     let size = cells_per_triplet(counts);

@@ -11,8 +11,12 @@ ghost use Rattle.pelmetsavory.specs.Calls.{lent_grid, CalledFind, CalledFindAll}
 use crate::{Grid, Triple};
 use ask::kernel::status_of;
 
-// A grid as the calls below take it.
-fn lent<'a>(grid: Grid, addresses: &'a [i64], gp_map: &'a [i64]) -> question_grids::Grid<'a>
+// A grid as the calls of a grid take it.
+pub(crate) fn lent<'a>(
+    grid: Grid,
+    addresses: &'a [i64],
+    gp_map: &'a [i64],
+) -> question_grids::Grid<'a>
     ensures { result ≡ lent_grid grid addresses.entry gp_map.entry }
 {
     let d_diag = grid.d_diag;

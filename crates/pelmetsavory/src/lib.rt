@@ -1,8 +1,13 @@
 // What programs in other languages call: each public entry under its C name. A status is 0, or the number of the first question
 // that is answered no; a refused call leaves every buffer as it was. `pelmetsavory_answer` alone has no status: its refusal is text.
-// Parameters lie side by side and answers are numbers, as C has them.
+// Parameters lie side by side and answers are numbers, as C has them. Each call makes its study and its sheet from them: a function for that
+// would take the same parameters in the same order.
 
 #![tactic(auto)]
+
+ghost use Rattle.std.specs.Prelude.{◌≡◌};
+
+use sheet::NamedPiece;
 
 pub mod answering;
 pub mod grids;
@@ -21,6 +26,18 @@ pub struct Piece {
     pub triplet: i64,
     pub b1: i64,
     pub b2: i64,
+}
+
+impl From<Piece> for NamedPiece {
+    ghost from_gives = { λ piece named. (named.triplet ≡ piece.triplet) × ((named.b1 ≡ piece.b1) × (named.b2 ≡ piece.b2)) };
+
+    fn from(piece: Piece) -> Self {
+        NamedPiece {
+            triplet: piece.triplet,
+            b1: piece.b1,
+            b2: piece.b2,
+        }
+    }
 }
 
 // Three whole numbers: a triplet, an address, a mesh or a vector.

@@ -3,6 +3,7 @@ ghost use Rattle.std.specs.Prelude.{◌≡◌, length};
 ghost use Rattle.ask.specs.Lent.{Leaves};
 ghost use Rattle.listing_read.specs.Reading.{read_no, listed_weights, listed_flags};
 
+use ask::kernel::status_of;
 use sheet_counts::Counts;
 
 // Restores the weights and flags that the writer printed, of a type and counts. Accepted is exactly what it prints for the restored record.
@@ -21,8 +22,5 @@ pub extern "C" fn pelmetsavory_read_listing(
     ensures leaves_2 { Leaves (read_no listing.now tp_type counts (length weights.old) (length flags.old))
         (listed_flags listing.now tp_type counts) flags }
 {
-    match listing_read::read_listing(listing, tp_type, counts, weights, flags) {
-        Ok(()) => 0,
-        Err(why) => why.number(),
-    }
+    status_of(listing_read::read_listing(listing, tp_type, counts, weights, flags))
 }

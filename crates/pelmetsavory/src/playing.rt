@@ -7,6 +7,7 @@ ghost use Rattle.sheet_play.specs.Outcomes.{outcome};
 ghost use Rattle.sheet_list.specs.Play.{list_no};
 ghost use Rattle.pelmetsavory.specs.Sheets.{CalledPlay};
 
+use crate::sheets::settle;
 use sheet_list::{Calls, Shape, SheetMut, Study, Tally};
 
 // The parameters of the next function are the C interface: a struct in their place would be another version of it.
@@ -37,8 +38,7 @@ pub extern "C" fn pelmetsavory_play(
         (list_no (length list.now) (length answers.old) (length tallies.old))
         answers.old tallies.old result (outcome (sheet_out weights flags marks tally.new) answers.new tallies.new) }
 {
-    let runs = *tally;
-    let mut counted = Tally { runs };
+    let counted = Tally { runs: *tally };
     let study = Study {
         shape,
         addresses,
@@ -56,8 +56,5 @@ pub extern "C" fn pelmetsavory_play(
     };
     let calls = Calls { list, ids };
     let done = sheet_list::play(study, &mut lent, counted, calls, answers, tallies);
-    let status = counted.settle(done);
-    let counts = counted.runs;
-    *tally = counts;
-    status
+    settle(tally, done)
 }

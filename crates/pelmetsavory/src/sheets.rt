@@ -1,14 +1,28 @@
 // The run sheet: its calls, the open count, the tally.
 ghost use Rattle.std.specs.Prelude.{◌≡◌};
 ghost use Rattle.ask.specs.Ask.{first_no, after_call};
+ghost use Rattle.ask.specs.Refusals.{number_of};
 ghost use Rattle.triplet_study.specs.Lent.{study_in};
 ghost use Rattle.sheet_step.specs.Lent.{sheet_in, sheet_out};
 ghost use Rattle.sheet_step.specs.Steps.{run, carry, average, Called};
-ghost use Rattle.sheet_tally.specs.Tallies.{tally_questions, with_runs};
+ghost use Rattle.sheet_tally.specs.Tallies.{tally_questions, with_runs, runs_after};
 ghost use Rattle.open_count.specs.OpenCount.{open_no, open_entries};
 
 use crate::Piece;
+use ask::Refusal;
 use sheet::{Counts, NamedPiece, Shape, SheetMut, Study, Tally};
+
+// The status of an answer to a call that took the tally: 0, and its counts are stored behind `tally`; or the number of its refusal, which
+// leaves them as they were.
+pub(crate) fn settle(tally: &mut [u64; 16], answer: Result<Tally, Refusal>) -> u64
+    ensures status { result ≡ number_of answer }
+    ensures tally_after { tally.new ≡ runs_after answer tally.old }
+{
+    let mut counted = Tally { runs: *tally };
+    let status = counted.settle(answer);
+    *tally = counted.runs;
+    status
+}
 
 // The parameters of the next function are the C interface: a struct in their place would be another version of it.
 
@@ -33,13 +47,8 @@ pub extern "C" fn pelmetsavory_run_piece(
     ensures { Called (study_in shape addresses gp_map relative_grid_address frequencies1 frequencies2 frequency_points triplets)
         (sheet_in weights flags marks tally.old) (run worker piece.triplet piece.b1 piece.b2) result (sheet_out weights flags marks tally.new) }
 {
-    let runs = *tally;
-    let mut counted = Tally { runs };
-    let named = NamedPiece {
-        triplet: piece.triplet,
-        b1: piece.b1,
-        b2: piece.b2,
-    };
+    let counted = Tally { runs: *tally };
+    let named = NamedPiece::from(piece);
     let study = Study {
         shape,
         addresses,
@@ -56,10 +65,7 @@ pub extern "C" fn pelmetsavory_run_piece(
         marks,
     };
     let done = sheet::run_piece(study, &mut lent, counted, worker, named);
-    let status = counted.settle(done);
-    let counts = counted.runs;
-    *tally = counts;
-    status
+    settle(tally, done)
 }
 
 // The parameters of the next function are the C interface: a struct in their place would be another version of it.
@@ -85,8 +91,7 @@ pub extern "C" fn pelmetsavory_carry_on(
     ensures { Called (study_in shape addresses gp_map relative_grid_address frequencies1 frequencies2 frequency_points triplets)
         (sheet_in weights flags marks tally.old) (carry worker) result (sheet_out weights flags marks tally.new) }
 {
-    let runs = *tally;
-    let mut counted = Tally { runs };
+    let counted = Tally { runs: *tally };
     let study = Study {
         shape,
         addresses,
@@ -103,10 +108,7 @@ pub extern "C" fn pelmetsavory_carry_on(
         marks,
     };
     let done = sheet::carry_on(study, &mut lent, counted, worker);
-    let status = counted.settle(done);
-    let counts = counted.runs;
-    *tally = counts;
-    status
+    settle(tally, done)
 }
 
 // The parameters of the next function are the C interface: a struct in their place would be another version of it.
@@ -133,8 +135,7 @@ pub extern "C" fn pelmetsavory_average_triplet(
     ensures { Called (study_in shape addresses gp_map relative_grid_address frequencies1 frequencies2 frequency_points triplets)
         (sheet_in weights flags marks tally.old) (average triplet degenerate_ids1.now degenerate_ids2.now) result (sheet_out weights flags marks tally.new) }
 {
-    let runs = *tally;
-    let mut counted = Tally { runs };
+    let counted = Tally { runs: *tally };
     let study = Study {
         shape,
         addresses,
@@ -158,10 +159,7 @@ pub extern "C" fn pelmetsavory_average_triplet(
         degenerate_ids1,
         degenerate_ids2,
     );
-    let status = counted.settle(done);
-    let counts = counted.runs;
-    *tally = counts;
-    status
+    settle(tally, done)
 }
 
 // The open count of a triplet, behind `count`: its entries (point, b1, b2) with a weight other than zero in some output of the type. Either

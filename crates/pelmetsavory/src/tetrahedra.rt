@@ -11,8 +11,9 @@ ghost use Rattle.statuses.specs.Statuses.{function_of};
 ghost use Rattle.pelmetsavory.specs.Calls.{CalledWeigh};
 
 use crate::Grid;
+use crate::grids::lent;
+use ask::kernel::status_of;
 use grid_point_weights::GridPointStudy;
-use question_grids::Grid as LentGrid;
 
 // The parameters of the next function are the C interface: a struct in their place would be another version of it.
 
@@ -36,15 +37,8 @@ pub extern "C" fn pelmetsavory_integration_weights_at_grid_points(
     ensures { CalledWeigh (call_in frequency_points relative_grid_address grid_points frequencies num_band num_ir
         grid.bz_grid_type grid.d_diag addresses gp_map gp2irgp_map (function_of letter)) result iw.old iw.new }
 {
-    let d_diag = grid.d_diag;
-    let lent = LentGrid {
-        bz_grid_type: grid.bz_grid_type,
-        d_diag,
-        addresses,
-        gp_map,
-    };
     let study = GridPointStudy {
-        grid: lent,
+        grid: lent(grid, addresses, gp_map),
         relative_grid_address,
         gp2irgp_map,
         num_ir,
@@ -53,10 +47,7 @@ pub extern "C" fn pelmetsavory_integration_weights_at_grid_points(
         frequency_points,
         function: statuses::choice::function_of(letter),
     };
-    match grid_point_weights::integration_weights_at_grid_points(study, grid_points, iw) {
-        Ok(()) => 0,
-        Err(why) => why.number(),
-    }
+    status_of(grid_point_weights::integration_weights_at_grid_points(study, grid_points, iw))
 }
 
 // The table whose main diagonal is shortest, the first on a tie, and its number behind `index`. The columns of `rec_lattice` are the edges of

@@ -122,3 +122,6 @@ module _ (n p : ℕ) (gp-map : List ℤ) (e : is_dense_map n p gp-map ≡ true) 
   dense-top k h =
       let s : k + (n - k) ≡ n = omega arith in
       omega (arith, top, rw s at (climb (n - k) k (omega arith)))
+
+-- by one name, for the attributes of functions
+pub ruleset grid_laws = (mesh-within, triples-at, addresses-triples, addresses-low, addresses-high, sparse-length, sparse-at, dense-length, dense-step, dense-top)

@@ -32,3 +32,6 @@ grid-points-at p points e k h = below-lt (at points k) p (below_at (length point
 pub product-yes : (rows size n : ℕ) → is_product rows size n ≡ true → n ≡ rows * size
 unfolding is_product
 product-yes rows size n e = eqb-true n (rows * size) e
+
+-- by one name, for the attributes of functions
+pub ruleset step_laws = (steps-triples, steps-some, grid-points-at, product-yes)

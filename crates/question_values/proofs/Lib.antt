@@ -3,3 +3,4 @@ pub mod AverageLaws
 pub mod CountLaws
 pub mod RowsLaws
 pub mod TypeLaws
+pub mod FrequencyLaws

@@ -3,4 +3,3 @@ pub mod averages;
 pub mod counts;
 pub mod frequencies;
 pub mod rows;
-pub mod tp_type;

@@ -66,3 +66,6 @@ module _ (n k m i at : ℕ) (text : List ℕ) (e : last_digits 10 k n ≡ last_d
       ∙ (ap (λ (x : List ℕ). get_or x (i - 1) 0) (s ∙ parted (i - 1) p)
       ∙ get_or_at (last_digits 10 (i - 1) (m / 10)) (48 + m % 10) (take (k - i) (drop (at + i) text)) 0 (i - 1) (length_digits 10 (i - 1) (m / 10))))
       )
+
+-- what `grind` is given at a function
+pub ruleset places_laws = (places-last, places_power)

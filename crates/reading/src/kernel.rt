@@ -13,6 +13,7 @@ pub struct Reader<'a> {
 }
 
 // How many decimal digits a number has.
+#[tactic(auto, using(crate::proofs::DigitLaws::places_laws))]
 fn places_of(n: u64) -> usize
     ensures { result ≡ places 19 n }
 {

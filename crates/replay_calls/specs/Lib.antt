@@ -1,2 +1,3 @@
 -- The definitions.
 pub mod Studies
+pub mod Calls

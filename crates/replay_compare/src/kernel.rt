@@ -2,7 +2,7 @@
 ghost use Rattle.std.specs.Prelude.{◌≡◌};
 ghost use Rattle.replay_compare.specs.Sameness.{entries_agree, agree, all_are};
 
-// A value that is held to the stored one.
+// A value that is held to the stored one. An impl for each type: one for all integers would stand in the way of f64's, and a macro may write none.
 pub trait Compared: Copy {
     ghost use Rattle.std.specs.Prelude.{Bool};
 

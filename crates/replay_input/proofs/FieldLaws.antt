@@ -3,17 +3,16 @@ use Prim.Native.Nat.{ℕ, zero, suc, ◌+◌, ◌-◌, ◌*◌, ◌%◌, ◌^◌
 use mathlib.Core.Path.{◌≡◌, refl, ap, ◌∙◌}
 use mathlib.Core.List.{List, [], ◌∷◌, ◌++◌}
 use native.Mathlib.Numerals.{add-one}
-use native.Mathlib.Nat.{mul-le-mul_right, suc-mul}
 use native.Mathlib.Omega.{arith}
 use lib.IntN.{ℤ, pos, negsuc, ◌-ℤ◌}
-use lib.Ieee.{Float, binary64, of_bits}
+use lib.Ieee.{Float}
 use lib.ListN.{length, get_or, take, drop, set, length-drop}
 use lib.Seq.{drop-cons, length-take-le}
 use borrow.Author.Tests.{lt-ltb, le-ltb, eq-eqb, ne_eqb}
 use mir.Syntax.{w64}
 use mir.Val.{to_z, of_z, SFits}
 use mir.Facts.{to_z_pos, to_z-of_z}
-use Rattle.replay_input.specs.Fields.{spelled, passed, count_at, after_count, bits_at, after_bits, negated, plain, whole_at, after_whole, field_place, whole_from, real_at, real_from, value_from, ListRead, WholesRead, RealsRead}
+use Rattle.replay_input.specs.Fields.{spelled, passed, count_at, after_count, after_bits, negated, plain, whole_at, after_whole, field_place, whole_from, real_at, real_from, value_from, ListRead, WholesRead, RealsRead}
 use Rattle.list_laws.specs.Lists.{fronted, tabulate}
 use Rattle.text.specs.Fields.{digit_of}
 use Rattle.list_laws.proofs.FillLaws.{front-next}

@@ -1,7 +1,7 @@
-// What the readers stand on: signs, counts, flags and blocks.
+// What the readers stand on: signs, counts, flags and blocks. `flag_of` and `byte_of` give some number for a field that is none, as the readers do.
 pub mod stamps;
 
-ghost use Rattle.std.specs.Prelude.{◌≤◌, min, ◌≡◌, length, take};
+ghost use Rattle.std.specs.Prelude.{◌≤◌, min, ◌≡◌, length, take, IfSome};
 ghost use Rattle.replay_input.specs.Fields.{negated, plain, flag_of};
 
 use crate::reader::{Reader, length_within};
@@ -55,17 +55,17 @@ pub fn at_most(n: u64, most: usize) -> usize
     if n < most as u64 { n as usize } else { most }
 }
 
-// Reads the next block to the start of buf, and answers how many bytes it has; 0 where no block is left.
-pub fn read_block(buf: &mut [u8]) -> usize
-    ensures { (result ≤ length buf.new) × (result ≡ length (take result buf.new)) }
+// Reads the next block to the start of buf, and answers how many bytes it has; none where no block is left.
+pub fn read_block(buf: &mut [u8]) -> Option<usize>
+    ensures { IfSome result (λ n. (n ≤ length buf.new) × (n ≡ length (take n buf.new))) }
 {
     let mut head = [0u8; 7];
     let got = io::read_full(0, &mut head);
     if got < 7 {
-        return 0;
+        return None;
     }
     let n = length_within(Reader::new(&head).next_count(), buf);
-    read_part(buf, n)
+    Some(read_part(buf, n))
 }
 
 // Reads n bytes to the start of buf and answers how many there were; none where buf is shorter.

@@ -8,7 +8,8 @@ ghost use Rattle.list_laws.specs.Lists.{tabulate};
 use crate::kernel::{at_most, byte_of, flag_of, negative, positive, read_block};
 use replay_compare::kernel::Compared;
 
-// A text, and where its next field starts.
+// A text, and where its next field starts; past the end too, so it is neither the reader of `sections` nor that of `reading`. Functions that read say
+// that the text stays: a fact of two moments, which no ghost field can hold. Those that take memory are handed the allocator, which shows that they can fail.
 #[derive(Clone, Copy)]
 pub struct Reader<'a> {
     pub text: &'a [u8],
@@ -165,7 +166,7 @@ impl<'a> Reader<'a> {
     }
 }
 
-// A number that a field spells.
+// A number that a field spells. An impl for each type, since the notations differ.
 pub trait Field: Compared {
     ghost use Rattle.std.specs.Prelude.{ℕ, List};
 
@@ -254,9 +255,10 @@ pub fn length_within<T>(n: u64, buf: &[T]) -> usize
     at_most(n, buf.len())
 }
 
-// The next block of the input, read into a buffer; none where no block is left.
+// The next block of the input, read into a buffer; none where no block is left. What the input holds is not a proof's to say: no contract.
 pub fn next_block(buf: &mut [u8]) -> Option<&[u8]> {
-    let n = read_block(buf);
+    let n = read_block(buf)?;
+    // an empty block ends the input too
     if n == 0 {
         return None;
     }

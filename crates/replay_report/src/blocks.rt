@@ -1,7 +1,8 @@
 // The blocks of the input, replayed record by record.
+use crate::cases::{Cases, Judged};
 use anyhow::Result;
 use replay_input::reader::{Reader, next_block};
-use std::alloc::Global;
+use std::alloc::{AllocError, Global};
 use std::fmt::Display;
 
 // What a program keeps of a block's records for those after them; nothing at first.
@@ -17,6 +18,33 @@ pub trait Replay: Default + Drop {
         reader: &mut Reader<'_>,
         counts: &mut Self::Counts,
     ) -> Result<()>;
+}
+
+// A case that a record is.
+pub trait Case: Default + Drop {
+    // Reads the next record, makes its call, and holds the answer to the stored one.
+    fn next_case(reader: &mut Reader<'_>, alloc: Global) -> Result<Judged, AllocError>;
+}
+
+// Records that are all cases of one kind; none is kept for those after it.
+#[derive(Default, Drop)]
+pub struct Only<C> {
+    case: C,
+}
+
+impl<C: Case> Replay for Only<C> {
+    type Counts = Cases;
+
+    fn next_record(
+        &mut self,
+        rt: &impl Print,
+        alloc: Global,
+        reader: &mut Reader<'_>,
+        cases: &mut Cases,
+    ) -> Result<()> {
+        cases.add(rt, C::next_case(reader, alloc)?);
+        Ok(())
+    }
 }
 
 fn replay_block<R: Replay>(
@@ -37,7 +65,8 @@ fn replay_block<R: Replay>(
     Ok(())
 }
 
-// Replays the blocks of the input, a thousand at most, and prints what is counted.
+// Replays the blocks of the input, a thousand at most, and prints what is counted. No contract: it reads the input and prints, of which a
+// contract can say nothing; each program's stdout is compared.
 pub fn replay_blocks<R: Replay>(
     rt: &impl Print,
     alloc: Global,

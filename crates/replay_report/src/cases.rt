@@ -1,8 +1,8 @@
 // What a replay counts and prints: a line for each kind of case, and a line for each case that differs.
-ghost use Rattle.std.specs.Prelude.{◌≡◌, ◌<◌, cond, replicate};
+ghost use Rattle.std.specs.Prelude.{◌≡◌, ◌<◌, cond, replicate, IfOk, IfErr};
 ghost use Rattle.replay_report.specs.Report.{one_more, refused_more, stored_answer, stored_content};
 
-use std::{fmt, io};
+use std::fmt;
 
 // A case: the number it was to be refused with, 0 where it was to be accepted, and whether the answer agrees with the stored one.
 // Not an Option or a Result: a case has both, and the refusals of cases that differ are counted too.
@@ -33,7 +33,7 @@ pub struct Count {
 }
 
 // One more, up to the largest number.
-fn one_more(n: u64) -> u64
+pub fn one_more(n: u64) -> u64
     ensures { result ≡ one_more n }
 {
     n.saturating_add(1)
@@ -119,17 +119,17 @@ impl Cases {
         }
     }
 
-    // One case more, also where it cannot be printed; one that differs is printed by its name and its place, from 1.
-    pub fn add(&mut self, rt: &impl Print, judged: Judged) -> io::Result<()>
+    // One case more; one that differs is printed by its name and its place, from 1. Where that line cannot be written the counts still tell.
+    pub fn add(&mut self, rt: &impl Print, judged: Judged)
         ensures cases_value { (self.new.count.cases ≡ one_more self.old.count.cases) × (self.new.count.refused ≡ refused_more self.old.count.refused judged.refusal) }
         ensures agree_value { (self.new.count.agree ≡ cond judged.agrees (one_more self.old.count.agree) self.old.count.agree) × (self.new.count.differ ≡ cond judged.agrees self.old.count.differ (one_more self.old.count.differ)) }
     {
         self.count.add(judged);
         if judged.agrees {
-            return Ok(());
+            return;
         }
         let (name, cases) = (self.name, self.count.cases);
-        println!(rt; "{name}\tdiffers in case\t{cases}")
+        let _ = println!(rt; "{name}\tdiffers in case\t{cases}");
     }
 }
 
@@ -146,4 +146,15 @@ pub fn after_call<'a, T>(refusal: u64, given: &'a [T], before: &'a [T]) -> &'a [
     ensures { result.now ≡ stored_content refusal given.now before.now }
 {
     if refusal == 0 { given } else { before }
+}
+
+// The refusal of a stored answer, 0 for none, and what a buffer is to hold after its call.
+pub fn told_of<'a, T: Drop>(answer: &'a Result<Vec<T>, u64>, before: &'a [T]) -> (u64, &'a [T])
+    ensures accepted { IfOk answer.now (λ given. (result.0 ≡ 0) × (result.1.now ≡ given.items)) }
+    ensures refused { IfErr answer.now (λ number. (result.0 ≡ number) × (result.1.now ≡ before.now)) }
+{
+    match answer {
+        Ok(given) => (0, given.as_slice()),
+        Err(number) => (*number, before),
+    }
 }

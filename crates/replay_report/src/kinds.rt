@@ -1,4 +1,5 @@
-// The numbers of kinds in the input.
+// The numbers of kinds in the input. Each program has an enum of its records, their numbers as a table, and counts by name: an array of counts would be
+// named by numbers.
 ghost use Rattle.std.specs.Prelude.{◌≡◌, Some, None, IfOk, IfErr};
 ghost use Rattle.replay_report.specs.Report.{kind_of};
 

@@ -7,7 +7,6 @@ use lib.Dec.{eqb}
 use lib.IntN.{ℤ, pos}
 use lib.Ieee.{Float, nan}
 use lib.ListN.{length}
-use Rattle.list_laws.specs.Lists.{tabulate}
 use Rattle.list_laws.specs.Signed.{eq_z}
 use Rattle.replay_compare.specs.Sameness.{same_bits}
 use Rattle.replay_compare.proofs.AgreeLaws.{entries-below}

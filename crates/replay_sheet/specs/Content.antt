@@ -1,5 +1,5 @@
 -- A sheet's content in a record: weights, flags and marks, one number a field.
-use Rattle.std.specs.Prelude.{ℕ, min, ◌≡◌, Bool, cond, ◌&&◌, ◌||◌, List, ℤ, pos, negsuc, eqb, Float, get_or, length}
+use Rattle.std.specs.Prelude.{ℕ, min, ◌≡◌, Bool, ◌&&◌, List, ℤ, pos, eqb, Float, get_or, length}
 use Rattle.std.specs.Float.{binary64, nan}
 use Rattle.std.specs.Float.Ieee.{to_bits}
 use Rattle.list_laws.specs.Lists.{tabulate, all_below}
@@ -17,6 +17,14 @@ mark_from text at k = min (count_at text (field_place (after_count text) at k)) 
 -- number k of the hexadecimal ones from a place on
 unfoldable pub bits_from : List ℕ → ℕ → ℕ → ℕ
 bits_from text at k = bits_at text (field_place (after_bits text) at k)
+
+-- a sheet read: weights, then flags, then marks fill their buffers, whose content before and after is given; and the place after them
+unfoldable pub SheetRead : List ℕ → ℕ → List Float → List Float → List ℤ → List ℤ → List ℕ → List ℕ → ℕ → Type 0
+SheetRead text at weights weights' flags flags' marks marks' next =
+    let second = field_place (after_bits text) at (length weights) in
+    let third = field_place (after_whole text) second (length flags) in
+    (weights' ≡ tabulate (length weights) (real_from text at)) × (flags' ≡ tabulate (length flags) (flag_from text second))
+    × (marks' ≡ tabulate (length marks) (mark_from text third)) × (next ≡ field_place (after_count text) third (length marks))
 
 -- the sheet at a place of the text: so many weights, flags and marks, and the sixteen counts of its tally; and the place after them
 unfoldable pub IsSheet : List ℕ → ℕ → ℕ → ℕ → ℕ → List Float → List ℤ → List ℕ → List ℕ → ℕ → Type 0

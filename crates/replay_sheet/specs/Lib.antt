@@ -1,2 +1,3 @@
 -- The definitions.
 pub mod Content
+pub mod Open

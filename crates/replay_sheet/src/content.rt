@@ -2,7 +2,7 @@
 ghost use Rattle.std.specs.Prelude.{◌≡◌, length, IfOk};
 ghost use Rattle.list_laws.specs.Lists.{tabulate};
 ghost use Rattle.replay_input.specs.Fields.{after_bits, field_place};
-ghost use Rattle.replay_sheet.specs.Content.{bits_from, IsSheet, same_sheet, after_sheet};
+ghost use Rattle.replay_sheet.specs.Content.{bits_from, IsSheet, SheetRead, same_sheet, after_sheet};
 
 use replay_input::reader::Reader;
 use replay_study::owned::next_numbers;
@@ -18,16 +18,40 @@ pub struct Sheet {
     pub tally: Tally,
 }
 
+// Reads weights, flags and marks into lent buffers.
+#[tactic(auto, unfolding(crate::specs::Content::SheetRead, crate::specs::Content::flag_from, crate::specs::Content::mark_from, replay_input::specs::Fields::value_from, replay_input::specs::Fields::real_at, replay_input::specs::Fields::real_from, replay_input::specs::Fields::flag_at, replay_input::specs::Fields::whole_from, replay_input::specs::Fields::mark_at))]
+pub fn read_sheet(reader: &mut Reader<'_>, weights: &mut [f64], flags: &mut [i8], marks: &mut [u8])
+    ensures text { reader.new ≡ record reader.old { at = reader.new.at } }
+    ensures read { SheetRead reader.old.text.now reader.old.at weights.old weights.new flags.old flags.new marks.old marks.new reader.new.at }
+{
+    reader.fill(weights);
+    reader.fill(flags);
+    reader.fill(marks);
+}
+
+// Whether weights, flags and marks are those that come next: three lists against a text, which no derive compares. All of that is read.
+pub fn same_sheet(reader: &mut Reader<'_>, weights: &[f64], flags: &[i8], marks: &[u8]) -> bool
+    ensures agrees { result ≡ same_sheet reader.old.text.now reader.old.at weights.now flags.now marks.now }
+    ensures next { reader.new ≡ record reader.old { at = after_sheet reader.old.text.now reader.old.at (length weights.now) (length flags.now) (length marks.now) } }
+{
+    let weights = reader.agrees_with(weights);
+    let flags = reader.agrees_with(flags);
+    let marks = reader.agrees_with(marks);
+    weights & flags & marks
+}
+
 impl Sheet {
     // Whether the content is the one that comes next. All of that is read.
     pub fn is_stored(&self, reader: &mut Reader<'_>) -> bool
         ensures agrees { result ≡ same_sheet reader.old.text.now reader.old.at self.now.weights.items self.now.flags.items self.now.marks.items }
         ensures next { reader.new ≡ record reader.old { at = after_sheet reader.old.text.now reader.old.at (length self.now.weights.items) (length self.now.flags.items) (length self.now.marks.items) } }
     {
-        let weights = reader.agrees_with(self.weights.as_slice());
-        let flags = reader.agrees_with(self.flags.as_slice());
-        let marks = reader.agrees_with(self.marks.as_slice());
-        weights & flags & marks
+        same_sheet(
+            reader,
+            self.weights.as_slice(),
+            self.flags.as_slice(),
+            self.marks.as_slice(),
+        )
     }
 }
 

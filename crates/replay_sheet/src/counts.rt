@@ -1,4 +1,8 @@
 // What is counted and printed: the answers by kind of call, and the differences.
+ghost use Rattle.std.specs.Prelude.{◌≡◌, cond};
+ghost use Rattle.replay_report.specs.Report.{one_more};
+
+use replay_report::cases::one_more;
 use replay_report::kinds::kind_of;
 use std::fmt;
 use thiserror::Error;
@@ -58,26 +62,31 @@ impl fmt::Display for CallKind {
 #[derive(Clone, Copy, Debug)]
 pub struct AnswerCounts {
     by_kind: [[u64; 30]; 5],
-    differences: u64,
+    pub differences: u64,
 }
 
 impl AnswerCounts {
-    pub fn new() -> AnswerCounts {
+    pub fn new() -> AnswerCounts
+        ensures { result.differences ≡ 0 }
+    {
         AnswerCounts {
             by_kind: [[0; 30]; 5],
             differences: 0,
         }
     }
 
-    // One answer more; none where its own answers are not the stored ones, so that it differs.
-    pub fn add(&mut self, kind: CallKind, number: Option<u64>, agrees: bool) {
+    // One answer more; none where its own answers are not the stored ones, so that it differs. What becomes of by_kind the contract
+    // does not say: an element that get_mut lent is not known to a proof afterwards.
+    pub fn add(&mut self, kind: CallKind, number: Option<u64>, agrees: bool)
+        ensures { self.new.differences ≡ cond agrees self.old.differences (one_more self.old.differences) }
+    {
         if let Some(number) = number {
             if let Some(count) = self.by_kind[kind as usize].get_mut(number as usize) {
-                *count = count.saturating_add(1);
+                *count = one_more(*count);
             }
         }
         if !agrees {
-            self.differences = self.differences.saturating_add(1);
+            self.differences = one_more(self.differences);
         }
     }
 }

@@ -1,6 +1,7 @@
 -- The records of a grid and of a study's values: what each list holds, and where the next one starts.
 use Rattle.std.specs.Prelude.{ℕ, min, ◌≡◌, List, ℤ, length, Float}
 use Rattle.list_laws.specs.Lists.{tabulate}
+use Rattle.sheet_counts.specs.declared.Counts.{Counts}
 use Rattle.replay_input.specs.Fields.{count_at, after_count, after_bits, whole_at, real_at, after_whole, field_place, whole_from, value_from, WholesRead, RealsRead}
 
 -- the place after a list at a place of the text, cut to a buffer's length, where `after` gives the place after a number
@@ -46,3 +47,20 @@ AreValues text at one two points next =
     let third = after_list (after_bits text) text second (length text) in
     (one ≡ list_at real_at after_bits text at) × (two ≡ list_at real_at after_bits text second) × (points ≡ list_at real_at after_bits text third)
     × (next ≡ after_list (after_bits text) text third (length text))
+
+-- the counts of a sheet at a place of the text: triplets, points, both band counts
+abbrev pub counts_at : List ℕ → ℕ → Counts
+counts_at text at =
+    let points = after_whole text at in
+    let bands1 = after_whole text points in
+    let bands2 = after_whole text bands1 in
+    record {
+      num_triplets = whole_at text at;
+      num_band0 = whole_at text points;
+      num_band1 = whole_at text bands1;
+      num_band2 = whole_at text bands2;
+    }
+
+-- the place after them
+abbrev pub after_counts : List ℕ → ℕ → ℕ
+after_counts text at = after_whole text (after_whole text (after_whole text (after_whole text at)))

@@ -1,4 +1,4 @@
-// The records of a grid and of a study's values, each read into lent buffers.
+// The records of a grid and of a study's values, each read into lent buffers: these readers cannot fail, those of `owned` take memory.
 ghost use Rattle.std.specs.Prelude.{◌≤◌, ◌≡◌, length, take};
 ghost use Rattle.replay_study.specs.Records.{GridRead, ValuesRead};
 

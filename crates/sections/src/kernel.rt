@@ -16,6 +16,7 @@ struct Fields<'a> {
 
 impl<'a> Fields<'a> {
     // Whether they are as many values as row has places. These are then in row.
+    #[tactic(auto, using(crate::proofs::RowLaws::row_laws))]
     fn read<T: Field>(self, row: &mut [T]) -> Option<()>
         ensures { values T.spelled (length row.new) (parts self.entry) ≡ told result row.new }
     {
@@ -36,7 +37,7 @@ impl<'a> Fields<'a> {
     }
 }
 
-// The lines of a text that are left from index next on.
+// The lines of a text that are left from index next on. That the text stays is a fact of two moments, which no ghost field can hold: the clauses say it.
 #[derive(Drop)]
 pub struct Lines<'a> {
     pub text: &'a [u8],
@@ -52,6 +53,7 @@ impl<'a> Lines<'a> {
     }
 
     // Whether no line is left.
+    #[tactic(auto, using(crate::proofs::LineLaws::left_laws))]
     pub fn is_empty(&self) -> bool
         ensures { result ≡ eqb (length (left self.now)) 0 }
     {
@@ -84,6 +86,7 @@ impl<'a> Lines<'a> {
     }
 
     // The next line, which bears the tag and as many values as row has places. They are then in row.
+    #[tactic(auto, using(crate::proofs::LineLaws::once_laws))]
     pub fn one<T: Field>(&mut self, tag: &[u8], row: &mut [T]) -> Option<()>
         ensures line { once T.spelled tag.now (length row.new) (left self.old) ≡ told_one result row.new (left self.new) }
         ensures same { self.new.text ≡ self.old.text }

@@ -1,65 +1,45 @@
 // For the crates above, on a tested study and sheet: the averages of one triplet.
-ghost use Rattle.std.specs.Prelude.{◌≡◌, ◌*◌, ◌<◌, length};
-ghost use Rattle.triplet_study.specs.Tested.{Counted};
+ghost use Rattle.std.specs.Prelude.{◌≡◌, ◌*◌, ◌≤◌, length};
 ghost use Rattle.sheet_step.specs.Steps.{triplet_averaged, triplet_flags_averaged};
+ghost use Rattle.sheet_average.specs.Triplets.{triplet_by};
 
+use crate::TripletAverage;
+use averaging_walk::kernel::block::Averaged;
 use averaging_walk::kernel::walk::average_points;
-use triplet_study::Sizes;
 
-// The weights of triplet `t`, channel by channel.
-pub fn average_weights(
-    z: Sizes,
-    weights: &mut [f64],
-    t: usize,
-    degenerate_ids1: &[i64],
-    degenerate_ids2: &[i64],
-)
-    requires counted { Counted z }
-    requires on_sheet { (t < z.triplets) × (z.bands1 ≡ z.bands2) }
-    requires lengths { (length weights.old ≡ z.channels * z.cells) × ((length degenerate_ids1.now ≡ z.bands1) × (length degenerate_ids2.now ≡ z.bands1)) }
-    ensures { weights.new ≡ triplet_averaged z t degenerate_ids1.now degenerate_ids2.now weights.old }
+// The entries of the triplet, channel by channel.
+fn average_entries<E: Averaged>(by: TripletAverage, entries: &mut [E], channels: usize)
+    requires few { channels ≤ 3 }
+    requires lengths { length entries.old ≡ channels * by.counts.sizes.cells }
+    ensures { entries.new ≡ triplet_by E.past_end E.rule by.entry.counts.sizes by.entry.triplet by.entry.degenerate_ids1.now by.entry.degenerate_ids2.now entries.old }
 {
-    let points = z.points;
-    let bands = z.bands1;
-    let channels = z.channels;
-    let cells = z.cells;
-    let size = points * z.pairs;
+    let z = by.counts.sizes;
+    let size = z.points * z.pairs;
     for c in 0..channels {
-        let start = c * cells + t * size;
+        let start = c * z.cells + by.triplet * size;
         let end = start + size;
         average_points(
-            &mut weights[start..end],
-            degenerate_ids1,
-            degenerate_ids2,
-            bands,
-            points,
+            &mut entries[start..end],
+            by.degenerate_ids1,
+            by.degenerate_ids2,
+            z.bands1,
+            z.points,
         );
     }
 }
 
-// The flags of triplet `t`.
-pub fn average_flags(
-    z: Sizes,
-    flags: &mut [i8],
-    t: usize,
-    degenerate_ids1: &[i64],
-    degenerate_ids2: &[i64],
-)
-    requires counted { Counted z }
-    requires on_sheet { (t < z.triplets) × (z.bands1 ≡ z.bands2) }
-    requires lengths { (length flags.old ≡ z.cells) × ((length degenerate_ids1.now ≡ z.bands1) × (length degenerate_ids2.now ≡ z.bands1)) }
-    ensures { flags.new ≡ triplet_flags_averaged z t degenerate_ids1.now degenerate_ids2.now flags.old }
+// The weights of the triplet, channel by channel.
+pub fn average_weights(by: TripletAverage, weights: &mut [f64])
+    requires { length weights.old ≡ by.counts.sizes.channels * by.counts.sizes.cells }
+    ensures { weights.new ≡ triplet_averaged by.entry.counts.sizes by.entry.triplet by.entry.degenerate_ids1.now by.entry.degenerate_ids2.now weights.old }
 {
-    let points = z.points;
-    let bands = z.bands1;
-    let size = points * z.pairs;
-    let start = t * size;
-    let end = start + size;
-    average_points(
-        &mut flags[start..end],
-        degenerate_ids1,
-        degenerate_ids2,
-        bands,
-        points,
-    );
+    average_entries(by, weights, by.counts.sizes.channels);
+}
+
+// The flags of the triplet.
+pub fn average_flags(by: TripletAverage, flags: &mut [i8])
+    requires { length flags.old ≡ by.counts.sizes.cells }
+    ensures { flags.new ≡ triplet_flags_averaged by.entry.counts.sizes by.entry.triplet by.entry.degenerate_ids1.now by.entry.degenerate_ids2.now flags.old }
+{
+    average_entries(by, flags, 1);
 }

@@ -3,3 +3,6 @@
 #![tactic(auto)]
 
 pub mod kernel;
+mod triplet;
+
+pub use triplet::TripletAverage;

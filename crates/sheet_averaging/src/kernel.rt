@@ -8,6 +8,7 @@ ghost use Rattle.sheet_turn.specs.Turns.{common_no};
 
 use ask::Refusal;
 use marks::kernel as mark;
+use sheet_average::TripletAverage;
 use sheet_step::SheetMut;
 use sheet_step::kernel::asks;
 use sheet_tally::Tally;
@@ -27,10 +28,17 @@ pub fn average_asked(
     ensures did { Did (study_of tested.now.study) (sheet_of sheet.old tally.runs) (average triplet ids1.now ids2.now) result (sheet_of sheet.new (runs_after result tally.runs)) }
     ensures same { SameBuffers sheet.old sheet.new }
 {
-    asks::ask_average(tested, sheet, triplet, ids1, ids2)?;
+    let counts = tested.counted_sizes();
+    asks::ask_average(counts, sheet.weights(), sheet.marks(), triplet, ids1, ids2)?;
     let t = numbers::kernel::magnitude(triplet);
-    sheet_average::kernel::average_weights(tested.sizes, sheet.weights, t, ids1, ids2);
-    sheet_average::kernel::average_flags(tested.sizes, sheet.flags, t, ids1, ids2);
+    let by = TripletAverage {
+        counts,
+        triplet: t,
+        degenerate_ids1: ids1,
+        degenerate_ids2: ids2,
+    };
+    sheet_average::kernel::average_weights(by, sheet.weights);
+    sheet_average::kernel::average_flags(by, sheet.flags);
     mark::average_marks(tested.sizes.pairs, sheet.marks, t);
     Ok(tally)
 }

@@ -28,7 +28,12 @@ pub fn average_triplet(
         (sheet_of sheet.new (runs_after result tally.runs)) }
     ensures same { SameBuffers sheet.old sheet.new }
 {
-    let tested = sheet_step::kernel::asks::ask_common(study, sheet)?;
+    let tested = sheet_step::kernel::asks::ask_common(
+        study,
+        sheet.weights.len(),
+        sheet.flags.len(),
+        sheet.marks(),
+    )?;
     kernel::average_asked(
         sheet,
         &tested,

@@ -26,13 +26,14 @@ pub fn carry_on(
     ensures did { Did (study_of study.entry) (sheet_of sheet.old tally.runs) (carry worker) result (sheet_of sheet.new (runs_after result tally.runs)) }
     ensures same { SameBuffers sheet.old sheet.new }
 {
-    let tested = sheet_step::kernel::asks::ask_common(study, sheet)?;
-    let steps = tested.study.relative_grid_address;
+    let tested = sheet_step::kernel::asks::ask_common(
+        study,
+        sheet.weights.len(),
+        sheet.flags.len(),
+        sheet.marks(),
+    )?;
     let second = triplet_corners::kernel::second_steps(tested.sizes.tp, tested.steps());
-    let prepared = PreparedStudy {
-        tested,
-        second: &second[..steps.len()],
-    };
-    let mut work = Work::new(tested.sizes.triplets);
-    kernel::carry_asked(&mut work, sheet, &prepared, tally, worker)
+    let prepared = PreparedStudy::new(tested, &second);
+    let mut work = Work::new(prepared);
+    kernel::carry_asked(&mut work, sheet, tally, worker)
 }

@@ -2,13 +2,14 @@
 ghost use Rattle.std.specs.Prelude.{◌≡◌, true};
 ghost use Rattle.ask.specs.Ask.{first_no};
 ghost use Rattle.ask.specs.Refusals.{answer_of};
+ghost use Rattle.triplet_types.specs.Types.{tp_type_of};
 ghost use Rattle.sheet_counts.specs.SheetCounts.{are_sheet_counts, count_questions, cells_per_triplet, cells_of};
 
 use crate::Counts;
 use ask::Refusal;
 use numbers::kernel::magnitude;
 use question_values::kernel::counts::signed_counts_ok;
-use question_values::kernel::tp_type::tp_type_ok;
+use triplet_types::TpType;
 
 // Question 9, of all four counts.
 fn counts_ok(counts: Counts) -> bool
@@ -22,17 +23,15 @@ fn counts_ok(counts: Counts) -> bool
     )
 }
 
-// Questions 8 and 9.
-pub fn ask_counts(tp_type: i64, counts: Counts) -> Result<(), Refusal>
-    ensures { result ≡ answer_of (first_no (count_questions tp_type counts)) tt }
+// Questions 8 and 9. Gives the type.
+pub fn ask_counts(tp_type: i64, counts: Counts) -> Result<TpType, Refusal>
+    ensures { result ≡ answer_of (first_no (count_questions tp_type counts)) (tp_type_of tp_type) }
 {
-    if !tp_type_ok(tp_type) {
-        return Err(Refusal::TpType);
-    }
+    let tp = TpType::try_from(tp_type)?;
     if !counts_ok(counts) {
         return Err(Refusal::Counts);
     }
-    Ok(())
+    Ok(tp)
 }
 
 // How many entries one triplet has.

@@ -1,19 +1,15 @@
 -- The corners that the work areas of runs keep from one piece to the next.
-use Rattle.std.specs.Prelude.{ℕ, ◌<◌}
+use Rattle.std.specs.Prelude.{◌≡◌, ℕ, Some}
+use Rattle.std.specs.declared.option.Option.{Option}
 use Rattle.triplet_study.specs.Study.{Study}
 use Rattle.triplet_study.specs.Lent.{study_of}
 use Rattle.triplet_piece.specs.declared.Corners.{Corners}
 use Rattle.triplet_piece.specs.Pieces.{AreCornersOf}
-use Rattle.sheet_fill.specs.declared.areas.Work.{Work}
 use Rattle.sheet_fill.specs.declared.prepared.PreparedStudy.{PreparedStudy}
 
--- the corners are those of triplet `held`, where it is one of so many; no triplet's at first
-pub record Kept (s : Study) (triplets held : ℕ) (corners : Corners) : Type 0 where
-  pub kept : held < triplets → AreCornersOf s held corners
-
--- the same, of work areas
-abbrev pub Keeps : Study → ℕ → Work → Type 0
-Keeps s triplets w = Kept s triplets w.held w.corners
+-- the corners are those of the triplet that is held; no triplet's at first
+pub record Kept (s : Study) (held : Option ℕ) (corners : Corners) : Type 0 where
+  pub kept : (t : ℕ) → held ≡ Some t → AreCornersOf s t corners
 
 -- the study that a prepared one holds
 abbrev pub study_in : PreparedStudy → Study

@@ -1,30 +1,33 @@
 // What runs work in.
-ghost use Rattle.std.specs.Prelude.{◌≤◌};
-ghost use Rattle.sheet_fill.specs.Kept.{Keeps};
+ghost use Rattle.std.specs.Prelude.{◌≡◌};
+ghost use Rattle.sheet_fill.specs.Kept.{Kept, study_in};
 
+use crate::PreparedStudy;
 use triplet_piece::{Corners, WorkAreas};
 
-// The work areas of runs, and the triplet whose corners are kept in them.
+// The study of runs, their work areas, and the triplet whose corners are kept in them.
 #[derive(Drop)]
-pub struct Work {
+pub struct Work<'a> {
+    pub prepared: PreparedStudy<'a>,
     pub areas: WorkAreas,
     pub corners: Corners,
-    pub held: usize,
+    pub held: Option<usize>,
+    pub ghost kept: { Kept (study_in prepared) held corners },
 }
 
-impl Work {
-    // Areas that keep the corners of no triplet: `none` is beyond the last.
-    pub fn new(none: usize) -> Work
-        ensures { (s : _) (triplets : _) → triplets ≤ none → Keeps s triplets result }
+impl<'a> Work<'a> {
+    // Areas that keep the corners of no triplet.
+    pub fn new(prepared: PreparedStudy<'a>) -> Work<'a>
+        ensures { result.prepared ≡ prepared.entry }
     {
-        let numbers = [0usize; 384];
         Work {
+            prepared,
             areas: WorkAreas::new(),
             corners: Corners {
-                first: numbers,
-                second: numbers,
+                first: [0; 384],
+                second: [0; 384],
             },
-            held: none,
+            held: None,
         }
     }
 }

@@ -102,9 +102,10 @@ module _ (g : Study) (s : Sheet) (calls : List Call) (number : ℕ) (answers tal
     leaves = after-refused number (outcome_of g s calls) (outcome s answers tallies) (refused-not number why tt e);
   }
 
+  -- the buffers end as the list's buffers do
   pub play-done : (t : Tally) (w : List Float) (f : List ℤ) (m a ts : List ℕ) → number ≡ 0 → outcome (sheet w f m t.runs) a ts ≡ outcome_of g s calls
-      → DidPlay g s calls number answers tallies (Ok t) (outcome (sheet w f m t.runs) a ts)
-  play-done t w f m a ts e q = record {
+      → {a' ts' : List ℕ} → a' ≡ a → ts' ≡ ts → DidPlay g s calls number answers tallies (Ok t) (outcome (sheet w f m t.runs) a' ts')
+  play-done t w f m a ts e q ea et = record {
     answers_with = done-is number t e;
-    leaves = q ∙ after-done number (outcome_of g s calls) (outcome s answers tallies) e;
+    leaves = (λ i. outcome (sheet w f m t.runs) (ea i) (et i)) ∙ q ∙ after-done number (outcome_of g s calls) (outcome s answers tallies) e;
   }

@@ -1,14 +1,14 @@
 // The calls of a list, one after the other: what all of them ask and take is asked and made once.
-ghost use Rattle.std.specs.Prelude.{◌≡◌, ◌*◌, length};
+ghost use Rattle.std.specs.Prelude.{◌≡◌};
 ghost use Rattle.triplet_study.specs.Lent.{study_of};
 ghost use Rattle.sheet_step.specs.Lent.{sheet_of, SameBuffers};
 ghost use Rattle.sheet_turn.specs.Turns.{common_no};
-ghost use Rattle.sheet_calls.specs.Calls.{calls_of};
-ghost use Rattle.sheet_play.specs.Outcomes.{outcome, outcome_of};
+ghost use Rattle.sheet_play.specs.Outcomes.{outcome_of};
+ghost use Rattle.sheet_play.specs.Lent.{calls_in, outcome_in, SameList};
 
 use crate::asks;
-use sheet_calls::Calls;
 use sheet_fill::PreparedStudy;
+use sheet_play::CallsMut;
 use sheet_step::SheetMut;
 use sheet_tally::Tally;
 use triplet_study::{Study, TestedStudy};
@@ -18,45 +18,35 @@ fn play_tested(
     sheet: &mut SheetMut,
     tested: TestedStudy,
     before: Tally,
-    calls: Calls,
-    answers: &mut [u64],
-    tallies: &mut [u64],
+    list: &mut CallsMut,
 ) -> Tally
-    requires common { common_no (study_of tested.study) (sheet_of sheet.old before.runs) ≡ 0 }
-    requires list_len { (length calls.list.now ≡ length answers.old * 6) × (length tallies.old ≡ length answers.old * 16) }
-    ensures played { outcome (sheet_of sheet.new result.runs) answers.new tallies.new
-        ≡ outcome_of (study_of tested.entry.study) (sheet_of sheet.old before.runs) (calls_of calls.entry.list.now calls.entry.ids.now) }
+    requires { common_no (study_of tested.study) (sheet_of sheet.old before.runs) ≡ 0 }
+    ensures played { outcome_in (sheet_of sheet.new result.runs) list.new ≡ outcome_of (study_of tested.entry.study) (sheet_of sheet.old before.runs) (calls_in list.old) }
     ensures same { SameBuffers sheet.old sheet.new }
+    ensures same_list { SameList list.old list.new }
 {
-    let steps = tested.study.relative_grid_address;
     let second = triplet_corners::kernel::second_steps(tested.sizes.tp, tested.steps());
-    let prepared = PreparedStudy {
-        tested,
-        second: &second[..steps.len()],
-    };
-    sheet_play::kernel::play_prepared(sheet, &prepared, before, calls, answers, tallies)
+    let prepared = PreparedStudy::new(tested, &second);
+    sheet_play::kernel::play_prepared(sheet, &prepared, before, list)
 }
 
 // Plays the calls. Where one of 3 to 13 is answered no, every call is refused with its number.
-pub fn play_all(
-    sheet: &mut SheetMut,
-    study: Study,
-    before: Tally,
-    calls: Calls,
-    answers: &mut [u64],
-    tallies: &mut [u64],
-) -> Tally
-    requires { (length calls.list.now ≡ length answers.old * 6) × (length tallies.old ≡ length answers.old * 16) }
-    ensures played { outcome (sheet_of sheet.new result.runs) answers.new tallies.new
-        ≡ outcome_of (study_of study.entry) (sheet_of sheet.old before.runs) (calls_of calls.entry.list.now calls.entry.ids.now) }
+pub fn play_all(sheet: &mut SheetMut, study: Study, before: Tally, list: &mut CallsMut) -> Tally
+    ensures played { outcome_in (sheet_of sheet.new result.runs) list.new ≡ outcome_of (study_of study.entry) (sheet_of sheet.old before.runs) (calls_in list.old) }
     ensures same { SameBuffers sheet.old sheet.new }
+    ensures same_list { SameList list.old list.new }
 {
-    match sheet_step::kernel::asks::ask_common(study, sheet) {
-        Ok(tested) => play_tested(sheet, tested, before, calls, answers, tallies),
+    match sheet_step::kernel::asks::ask_common(
+        study,
+        sheet.weights.len(),
+        sheet.flags.len(),
+        sheet.marks(),
+    ) {
+        Ok(tested) => play_tested(sheet, tested, before, list),
         Err(why) => {
-            let calls = answers.len();
-            asks::fill_with(answers, why.number());
-            asks::fill_tallies(tallies, calls, before);
+            let calls = list.answers.len();
+            asks::fill_with(list.answers, why.number());
+            asks::fill_tallies(list.tallies, calls, before);
             before
         }
     }

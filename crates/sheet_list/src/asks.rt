@@ -20,7 +20,7 @@ pub fn ask_list(list: &[i64], answers: &[u64], tallies: &[u64]) -> Result<(), Re
     Ok(())
 }
 
-// Every call's sixteen counts become those of `tally`.
+// Every call's sixteen counts become those of `tally`. Parts by their index: behind a chunk that is lent, a proof knows its length alone.
 pub fn fill_tallies(tallies: &mut [u64], calls: usize, tally: Tally)
     requires { length tallies.old ≡ calls * 16 }
     ensures { tallies.new ≡ rows calls (λ i. sixteen_of tally.runs) }

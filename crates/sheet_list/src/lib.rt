@@ -12,6 +12,7 @@ ghost use Rattle.sheet_list.specs.Play.{list_no, DidPlay};
 
 pub use ask::Refusal;
 pub use sheet_calls::Calls;
+use sheet_play::CallsMut;
 pub use sheet_step::SheetMut;
 pub use sheet_tally::Tally;
 pub use triplet_study::{Shape, Study};
@@ -36,5 +37,10 @@ pub fn play(
     ensures same { SameBuffers sheet.old sheet.new }
 {
     asks::ask_list(calls.list, answers, tallies)?;
-    Ok(along::play_all(sheet, study, tally, calls, answers, tallies))
+    let mut list = CallsMut {
+        calls,
+        answers,
+        tallies,
+    };
+    Ok(along::play_all(sheet, study, tally, &mut list))
 }

@@ -21,7 +21,7 @@ use Rattle.triplet_study.proofs.StudyLaws.{study-numbered}
 use Rattle.marks.specs.Bytes.{mark_at, patch_marks, places_in, Holds}
 use Rattle.marks.proofs.BytesLaws.{place_in, small-mark, length-marks, mark-patch}
 use Rattle.marks.proofs.MarkLaws.{alike_same, length-carried, length-averaged, carried-mark, averaged-mark}
-use Rattle.marks.specs.Marks.{is_averaged_at, alike, is_mark, are_marks, is_not_averaged, closed, carried_marks, averaged_marks}
+use Rattle.marks.specs.Marks.{is_averaged_at, alike, is_mark, is_mark_beside, are_marks, is_not_averaged, closed, carried_marks, averaged_marks}
 use Rattle.sheet_step.specs.Steps.{Sheet, Call, run, carry, average, pieces_of, sheet_questions, verdict, effect, step, piece_of}
 use Rattle.sheet_step.proofs.StepLaws.{both_yes, refused-sheet, done-sheet}
 use Rattle.sheet_average.proofs.AverageLaws.{length-average, length-average-flags}
@@ -41,18 +41,18 @@ first-in pairs q n h = omega (arith, div-add-mod' q pairs)
 
 module _ (pairs pieces : ℕ) (marks : List ℕ) where
   mark-few : are_marks pairs pieces marks ≡ true → (q : ℕ) → q < pieces → ltb (mark_at marks q) 3 ≡ true
-  unfolding are_marks is_mark
+  unfolding are_marks is_mark is_mark_beside is_averaged_at
   mark-few h q l = and_left (ltb (mark_at marks q) 3) (alike (is_averaged_at marks q) (is_averaged_at marks (q / pairs * pairs))) (below_at pieces (is_mark pairs marks) h q l)
 
   mark-first : are_marks pairs pieces marks ≡ true → (q : ℕ) → q < pieces → is_averaged_at marks q ≡ is_averaged_at marks (q / pairs * pairs)
-  unfolding are_marks is_mark
+  unfolding are_marks is_mark is_mark_beside is_averaged_at
   mark-first h q l =
       alike_same (is_averaged_at marks q) (is_averaged_at marks (q / pairs * pairs))
       (and_right (ltb (mark_at marks q) 3) (alike (is_averaged_at marks q) (is_averaged_at marks (q / pairs * pairs))) (below_at pieces (is_mark pairs marks) h q l))
 
   marks-are : ((q : ℕ) → q < pieces → ltb (mark_at marks q) 3 ≡ true) → ((q : ℕ) → q < pieces → is_averaged_at marks q ≡ is_averaged_at marks (q / pairs * pairs))
       → are_marks pairs pieces marks ≡ true
-  unfolding are_marks is_mark
+  unfolding are_marks is_mark is_mark_beside is_averaged_at
   marks-are few first =
       below_all pieces (is_mark pairs marks) (λ q l. and_both (few q l) (same_alike (is_averaged_at marks q) (is_averaged_at marks (q / pairs * pairs)) (first q l)))
 

@@ -1,2 +1,4 @@
 -- The definitions that the contracts cite.
 pub mod Outcomes
+pub mod Rooms
+pub mod Lent

@@ -3,3 +3,6 @@
 #![tactic(auto)]
 
 pub mod kernel;
+mod list;
+
+pub use list::CallsMut;

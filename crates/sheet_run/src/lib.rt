@@ -27,14 +27,10 @@ pub fn run_piece(
         (sheet_of sheet.new (runs_after result tally.runs)) }
     ensures same { SameBuffers sheet.old sheet.new }
 {
-    let tested = asks::ask_common(study, sheet)?;
-    asks::ask_run(&tested, sheet, tally, worker, piece)?;
-    let steps = tested.study.relative_grid_address;
+    let tested = asks::ask_common(study, sheet.weights.len(), sheet.flags.len(), sheet.marks())?;
+    asks::ask_run(tested.counted_sizes(), sheet.marks(), tally, worker, piece)?;
     let second = triplet_corners::kernel::second_steps(tested.sizes.tp, tested.steps());
-    let prepared = PreparedStudy {
-        tested,
-        second: &second[..steps.len()],
-    };
-    let mut work = Work::new(tested.sizes.triplets);
-    Ok(sheet_turn::kernel::run_accepted(&mut work, sheet, &prepared, tally, worker, piece))
+    let prepared = PreparedStudy::new(tested, &second);
+    let mut work = Work::new(prepared);
+    Ok(sheet_turn::kernel::run_accepted(&mut work, sheet, tally, worker, piece))
 }

@@ -6,7 +6,8 @@ ghost use Rattle.std.specs.Prelude.{◌≡◌};
 
 pub mod kernel;
 
-// The buffers of a sheet as a caller lends them: weights, flags and marks.
+// The buffers of a sheet as a caller lends them: weights, flags and marks. That a call leaves the same buffers is a fact of two moments, which no ghost
+// field can hold: the clauses say it. Where no marks are, weights and flags go as two parameters: a struct of both would be made anew for each call.
 #[derive(Drop)]
 pub struct SheetMut<'a> {
     pub weights: &'a mut [f64],
@@ -15,6 +16,13 @@ pub struct SheetMut<'a> {
 }
 
 impl<'a> SheetMut<'a> {
+    // The weights, to read.
+    pub fn weights(&self) -> &[f64]
+        ensures { result.now ≡ self.now.weights.now }
+    {
+        self.weights
+    }
+
     // The marks, to read.
     pub fn marks(&self) -> &[u8]
         ensures { result.now ≡ self.now.marks.now }

@@ -1,15 +1,16 @@
-// For the crates above, on a sheet whose questions 3 to 13 say yes.
+// For the crates above, on a sheet whose questions 3 to 13 say yes. That is a clause, here, in carry_asked and in one_turn: a type of sheet and
+// study would have every call show that it stays so, which a list of calls alone needs, and an averaging has no work to lie beside.
 ghost use Rattle.std.specs.Prelude.{◌++◌, ◌≡◌};
 ghost use Rattle.ask.specs.Ask.{first_no};
 ghost use Rattle.sheet_tally.specs.Tallies.{tally_questions, runs_after};
 ghost use Rattle.sheet_step.specs.Lent.{sheet_of, SameBuffers};
 ghost use Rattle.sheet_step.specs.Steps.{run, piece_questions, Called, Did};
-ghost use Rattle.sheet_fill.specs.Kept.{Keeps, study_in};
+ghost use Rattle.sheet_fill.specs.Kept.{study_in};
 ghost use Rattle.sheet_turn.specs.Turns.{common_no};
 
 use ask::Refusal;
 use marks::kernel as mark;
-use sheet_fill::{PreparedStudy, Work};
+use sheet_fill::Work;
 use sheet_step::kernel::asks;
 use sheet_step::{NamedPiece, SheetMut};
 use sheet_tally::Tally;
@@ -19,17 +20,15 @@ use triplet_piece::Piece;
 pub fn run_accepted(
     work: &mut Work,
     sheet: &mut SheetMut,
-    prepared: &PreparedStudy,
     tally: Tally,
     worker: i64,
     piece: NamedPiece,
 ) -> Tally
-    requires common { common_no (study_in prepared.now) (sheet_of sheet.old tally.runs) ≡ 0 }
-    requires own { first_no (piece_questions prepared.now.tested.sizes sheet.old.marks.now piece.triplet piece.b1 piece.b2 ++ tally_questions tally.runs worker 1) ≡ 0 }
-    requires kept { Keeps (study_in prepared.now) prepared.now.tested.sizes.triplets work.old }
-    ensures called { Called (study_in prepared.now) (sheet_of sheet.old tally.runs) (run worker piece.triplet piece.b1 piece.b2) 0 (sheet_of sheet.new result.runs) }
+    requires common { common_no (study_in work.old.prepared) (sheet_of sheet.old tally.runs) ≡ 0 }
+    requires own { first_no (piece_questions work.old.prepared.tested.sizes sheet.old.marks.now piece.triplet piece.b1 piece.b2 ++ tally_questions tally.runs worker 1) ≡ 0 }
+    ensures called { Called (study_in work.old.prepared) (sheet_of sheet.old tally.runs) (run worker piece.triplet piece.b1 piece.b2) 0 (sheet_of sheet.new result.runs) }
     ensures same { SameBuffers sheet.old sheet.new }
-    ensures keeps { Keeps (study_in prepared.now) prepared.now.tested.sizes.triplets work.new }
+    ensures study { work.new.prepared ≡ work.old.prepared }
 {
     let t = numbers::kernel::magnitude(piece.triplet);
     let n1 = numbers::kernel::magnitude(piece.b1);
@@ -39,9 +38,9 @@ pub fn run_accepted(
         b1: n1,
         b2: n2,
     };
-    sheet_fill::kernel::run::fill_named(work, sheet.weights, sheet.flags, prepared, accepted);
-    let pairs = prepared.tested.sizes.pairs;
-    let bands2 = prepared.tested.sizes.bands2;
+    let pairs = work.prepared.tested.sizes.pairs;
+    let bands2 = work.prepared.tested.sizes.bands2;
+    sheet_fill::kernel::run::fill_named(work, sheet.weights, sheet.flags, accepted);
     mark::set_mark(sheet.marks, t * pairs + (n1 * bands2 + n2), mark::COMPUTED);
     sheet_tally::kernel::with_runs(tally, worker, 1)
 }
@@ -50,17 +49,21 @@ pub fn run_accepted(
 pub fn run_asked(
     work: &mut Work,
     sheet: &mut SheetMut,
-    prepared: &PreparedStudy,
     tally: Tally,
     worker: i64,
     piece: NamedPiece,
 ) -> Result<Tally, Refusal>
-    requires common { common_no (study_in prepared.now) (sheet_of sheet.old tally.runs) ≡ 0 }
-    requires kept { Keeps (study_in prepared.now) prepared.now.tested.sizes.triplets work.old }
-    ensures did { Did (study_in prepared.now) (sheet_of sheet.old tally.runs) (run worker piece.triplet piece.b1 piece.b2) result (sheet_of sheet.new (runs_after result tally.runs)) }
+    requires common { common_no (study_in work.old.prepared) (sheet_of sheet.old tally.runs) ≡ 0 }
+    ensures did { Did (study_in work.old.prepared) (sheet_of sheet.old tally.runs) (run worker piece.triplet piece.b1 piece.b2) result (sheet_of sheet.new (runs_after result tally.runs)) }
     ensures same { SameBuffers sheet.old sheet.new }
-    ensures keeps { Keeps (study_in prepared.now) prepared.now.tested.sizes.triplets work.new }
+    ensures study { work.new.prepared ≡ work.old.prepared }
 {
-    asks::ask_run(&prepared.tested, sheet, tally, worker, piece)?;
-    Ok(run_accepted(work, sheet, prepared, tally, worker, piece))
+    asks::ask_run(
+        work.prepared.tested.counted_sizes(),
+        sheet.marks(),
+        tally,
+        worker,
+        piece,
+    )?;
+    Ok(run_accepted(work, sheet, tally, worker, piece))
 }

@@ -1,2 +1,2 @@
 -- Laws that the proofs use.
-pub mod ChoiceLaws
+pub mod StatusLaws

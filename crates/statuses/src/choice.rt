@@ -1,10 +1,11 @@
-// What two numbers of a foreign caller stand for.
+// What a letter of a foreign caller stands for.
 ghost use Rattle.std.specs.Prelude.{◌≡◌};
-ghost use Rattle.statuses.specs.Statuses.{function_of, one_of};
+ghost use Rattle.statuses.specs.Statuses.{function_of};
 
 use tetrahedron_method::WeightFunction;
 
 // The weight that a letter names: I, or J by any other byte, so that there is nothing to refuse.
+#[tactic(auto, unfolding(crate::specs::Statuses::function_of))]
 pub fn function_of(letter: u8) -> WeightFunction
     ensures { result ≡ function_of letter }
 {
@@ -13,11 +14,4 @@ pub fn function_of(letter: u8) -> WeightFunction
     } else {
         WeightFunction::J
     }
-}
-
-// 1 for yes, 0 for no.
-pub fn one_of(yes: bool) -> u8
-    ensures { result ≡ one_of yes }
-{
-    u8::from(yes)
 }

@@ -6,5 +6,6 @@
 pub mod choice;
 pub mod grids;
 pub mod sheets;
+pub mod store;
 pub mod tetrahedra;
 pub mod triplets;

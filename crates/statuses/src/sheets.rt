@@ -4,6 +4,7 @@ ghost use Rattle.ask.specs.Ask.{first_no, after_call};
 ghost use Rattle.sheet_tally.specs.Tallies.{tally_questions, with_runs};
 ghost use Rattle.open_count.specs.OpenCount.{open_no, open_entries};
 
+use crate::store::store;
 use sheet_counts::Counts;
 use sheet_tally::Tally;
 
@@ -19,13 +20,10 @@ pub fn open_count(
     ensures count_after { count.new ≡ after_call (open_no tp_type counts weights.now triplet)
         (open_entries tp_type counts weights.now triplet) count.old }
 {
-    match open_count::open_count(tp_type, counts, weights, triplet) {
-        Ok(entries) => {
-            *count = entries;
-            0
-        }
-        Err(why) => why.number(),
-    }
+    store(
+        open_count::open_count(tp_type, counts, weights, triplet),
+        count,
+    )
 }
 
 // Adds a worker's runs behind `tally`. Questions 21, 20.
@@ -34,13 +32,10 @@ pub fn tally_add(tally: &mut [u64; 16], worker: i64, runs: u64) -> u64
     ensures tally_after { tally.new ≡ after_call (first_no (tally_questions tally.old worker runs)) (with_runs tally.old worker runs) tally.old }
 {
     let before = *tally;
-    let counted = Tally { runs: before };
-    match counted.add(worker, runs) {
-        Ok(sum) => {
-            let counts = sum.runs;
-            *tally = counts;
-            0
-        }
-        Err(full) => full.number(),
-    }
+    let mut counted = Tally { runs: before };
+    let sum = counted.add(worker, runs);
+    let status = counted.settle(sum);
+    let counts = counted.runs;
+    *tally = counts;
+    status
 }

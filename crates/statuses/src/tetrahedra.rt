@@ -9,6 +9,7 @@ ghost use Rattle.tetrahedron_method.specs.Weight.{weight_of};
 ghost use Rattle.statuses.specs.Statuses.{function_of};
 
 use crate::choice;
+use crate::store::store;
 
 // The table whose main diagonal is shortest, the first on a tie, and its number behind `index`. The columns of `rec_lattice` are the edges of
 // one cell of the mesh: column j is reciprocal basis vector j divided by mesh number j, as phono3py has it. A diagonal is `rec_lattice`
@@ -24,6 +25,7 @@ pub fn relative_grid_address(
     ensures index_after { index.new ≡ after_call (first_no (lattice_questions rec_lattice.now)) (main_diagonal_of rec_lattice.now) index.old }
 {
     let lattice = *rec_lattice;
+    // written out: the answer goes behind two references, and `store` has one
     match relative_grid_address::relative_grid_address(lattice) {
         Ok(chosen) => {
             let numbers = chosen.numbers;
@@ -48,11 +50,8 @@ pub fn integration_weight(
         (weight_of (function_of letter) omega tetrahedra_omegas.now (length tetrahedra_omegas.now / 4)) weight.old }
 {
     let function = choice::function_of(letter);
-    match tetrahedron_method::integration_weight(omega, tetrahedra_omegas, function) {
-        Ok(w) => {
-            *weight = w;
-            0
-        }
-        Err(why) => why.number(),
-    }
+    store(
+        tetrahedron_method::integration_weight(omega, tetrahedra_omegas, function),
+        weight,
+    )
 }

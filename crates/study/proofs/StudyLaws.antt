@@ -94,3 +94,10 @@ module _ (text : List ℕ) where
             pub study-read : eqb (length ls₄) 0 ≡ true → study_in text ≡ Some (record { head = h; addresses = g.0; gp-map = g.1; f1 = v.0; f2 = v.1; points = v.2; triplets = t })
             unfolding study_of_lines whole
             study-read m = of-lines ∙ rw (e, f, k, w, m)
+
+-- what `grind` is given at a function
+pub ruleset grid_laws = (no-addresses, no-map, grid-read)
+
+pub ruleset floats_laws = (no-f1, no-f2, no-points, floats-read)
+
+pub ruleset study_laws = (too_long, not-ended, no-head, no-grid-part, no-floats-part, no-triplets, more-lines, study-read)

@@ -9,6 +9,7 @@ use sections::kernel::Lines;
 use study_head::kernel::{ends_line, parse_head};
 
 // The sections `addr` and `map`, which come next in a text.
+#[tactic(auto, using(crate::proofs::StudyLaws::grid_laws))]
 pub fn parse_grid<'b>(lines: &mut Lines, buffers: GridBuffers<'b>) -> Option<GridText<'b>>
     requires { (length lines.old.text.now + 3 ≤ length buffers.addresses.now) × (length lines.old.text.now + 1 ≤ length buffers.gp_map.now) }
     ensures grid { grid_part (left lines.old) ≡ told_grid result (left lines.new) }
@@ -21,6 +22,7 @@ pub fn parse_grid<'b>(lines: &mut Lines, buffers: GridBuffers<'b>) -> Option<Gri
 }
 
 // The sections `f1`, `f2` and `point`, which come next in a text.
+#[tactic(auto, using(crate::proofs::StudyLaws::floats_laws))]
 pub fn parse_floats<'b>(lines: &mut Lines, buffers: FloatsBuffers<'b>) -> Option<FloatsText<'b>>
     requires { (length lines.old.text.now + 1 ≤ length buffers.f1.now) × (length lines.old.text.now + 1 ≤ length buffers.f2.now) × (length lines.old.text.now + 1 ≤ length buffers.points.now) }
     ensures floats { floats_part (left lines.old) ≡ told_floats result (left lines.new) }
@@ -34,7 +36,8 @@ pub fn parse_floats<'b>(lines: &mut Lines, buffers: FloatsBuffers<'b>) -> Option
 }
 
 // The study that a text holds.
-pub fn read_study<'b>(text: &[u8], buffers: &'b mut StudyBuffers) -> Option<HeldStudy<'b>>
+#[tactic(auto, using(crate::proofs::StudyLaws::study_laws, list_laws::proofs::BoolLaws::yes_of, list_laws::proofs::BoolLaws::no_of))]
+pub fn read_study<'b>(text: &[u8], buffers: StudyBuffers<'b>) -> Option<HeldStudy<'b>>
     ensures { study_in text.now ≡ told_study result }
 {
     if 16384 < text.len() || !ends_line(text) {
@@ -42,17 +45,9 @@ pub fn read_study<'b>(text: &[u8], buffers: &'b mut StudyBuffers) -> Option<Held
     }
     let mut lines = Lines::new(text);
     let head = parse_head(&mut lines)?;
-    let StudyBuffers {
-        addresses,
-        gp_map,
-        f1,
-        f2,
-        points,
-        triplets,
-    } = buffers;
-    let grid = parse_grid(&mut lines, GridBuffers { addresses, gp_map })?;
-    let floats = parse_floats(&mut lines, FloatsBuffers { f1, f2, points })?;
-    let triplets = lines.rows(b"triplet", 3, triplets)?;
+    let grid = parse_grid(&mut lines, buffers.grid)?;
+    let floats = parse_floats(&mut lines, buffers.floats)?;
+    let triplets = lines.rows(b"triplet", 3, buffers.triplets)?;
     if !lines.is_empty() {
         return None;
     }

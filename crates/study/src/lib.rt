@@ -2,8 +2,10 @@
 
 #![tactic(auto)]
 
+mod buffers;
 pub mod kernel;
 
+pub use buffers::StudyBuffers;
 pub use study_head::Head;
 
 // The sections `addr` and `map` of a text.
@@ -43,28 +45,4 @@ pub struct FloatsBuffers<'b> {
     pub f1: &'b mut [u64],
     pub f2: &'b mut [u64],
     pub points: &'b mut [u64],
-}
-
-// Room for the sections of a study: a text has at most 16,384 numbers, and a row may be begun behind them.
-#[derive(Drop)]
-pub struct StudyBuffers {
-    pub addresses: [i64; 16387],
-    pub gp_map: [i64; 16385],
-    pub f1: [u64; 16385],
-    pub f2: [u64; 16385],
-    pub points: [u64; 16385],
-    pub triplets: [i64; 16387],
-}
-
-impl StudyBuffers {
-    pub fn new() -> StudyBuffers {
-        StudyBuffers {
-            addresses: [0; 16387],
-            gp_map: [0; 16385],
-            f1: [0; 16385],
-            f2: [0; 16385],
-            points: [0; 16385],
-            triplets: [0; 16387],
-        }
-    }
 }

@@ -2,6 +2,8 @@
 ghost use Rattle.std.specs.Prelude.{◌≡◌};
 ghost use Rattle.study_counts.specs.Counts.{few_weights};
 
+use triplet_types::TpType;
+
 // Question 1, the count of weights.
 pub fn weight_count_ok(
     tp_type: i64,
@@ -12,13 +14,13 @@ pub fn weight_count_ok(
 ) -> bool
     ensures { result ≡ few_weights tp_type num_band1 num_band2 points triplets }
 {
-    if !question_values::kernel::tp_type::tp_type_ok(tp_type) {
+    let Ok(tp) = TpType::try_from(tp_type) else {
         return true;
-    }
+    };
     if !question_values::kernel::counts::counts_ok(num_band1, num_band2, points, triplets) {
         return true;
     }
-    let channels = question_values::kernel::tp_type::channels_of(tp_type);
+    let channels = tp.num_channels();
     let bands = numbers::kernel::magnitude(num_band1) * numbers::kernel::magnitude(num_band2);
     channels * triplets * points * bands <= 4096
 }

@@ -1,16 +1,14 @@
 -- The lines that stand once, and the last newline. Assumes nothing.
-use mathlib.Core.Path.{◌≡◌, refl, sym, ap, ◌∙◌}
+use mathlib.Core.Path.{◌≡◌, sym, ap, ◌∙◌}
 use mathlib.Core.Bool.{true, false}
-use mathlib.Core.List.{List, [], ◌∷◌}
-use Prim.Native.Nat.{ℕ, ◌-◌}
-use native.Mathlib.Omega.{arith}
-use lib.Dec.{eqb}
+use mathlib.Core.List.{List}
+use Prim.Native.Nat.{ℕ}
 use lib.IntN.{ℤ}
-use lib.ListN.{length, get_or}
+use lib.ListN.{length}
 use Rattle.list_laws.specs.Lists.{at}
 use Rattle.list_laws.specs.Signed.{is_between}
 use Rattle.sections.specs.Lines.{Part, read, wrong, once, whole_field}
-use Rattle.study_head.specs.Heads.{grid_tag, diag_tag, type_tag, bands_tag, head_from, head_part, ends_line}
+use Rattle.study_head.specs.Heads.{grid_tag, diag_tag, type_tag, bands_tag, head_from, head_part}
 
 -- ---- the head
 
@@ -47,13 +45,5 @@ module _ (ls : List (List ℕ)) where
 pub sized : (tag : List ℕ) (ls : List (List ℕ)) {line : Part (List ℤ)} (n : ℕ) (row : List ℤ) → length row ≡ n → once whole_field tag (length row) ls ≡ line → once whole_field tag n ls ≡ line
 sized tag ls n row e h = ap (λ (k : ℕ). once whole_field tag k ls) (sym e) ∙ h
 
--- ---- the last newline
-
-module _ (text : List ℕ) where
-  pub empty-not-ended : length text ≡ 0 → false ≡ ends_line text
-  unfolding ends_line
-  empty-not-ended e = go text e
-    where
-      go : (t : List ℕ) → length t ≡ 0 → false ≡ eqb (get_or t (length t - 1) 0) 10
-      go [] e = refl
-      go (x ∷ t) e = absurd (omega (arith, e))
+-- what `grind` is given at a function
+pub ruleset head_laws = (no-grid, no-diag, no-type, no-bands, bad-diag, head_read, sized)

@@ -110,7 +110,8 @@ static TABLES: [[[i64; 12]; 24]; 4] = [
     ],
 ];
 
-// A table's 288 numbers, row by row, corner by corner, component by component.
+// A table's 288 numbers, row by row, corner by corner, component by component. The number of a diagonal is an index of four, here and in the crates
+// above: a type for it would be turned back into the index at each use.
 pub fn table(diagonal: usize) -> &'static [i64]
     requires { diagonal < 4 }
     ensures value { result.now ≡ flat (table_of diagonal) }

@@ -6,6 +6,7 @@ ghost use Rattle.text.specs.Fields.{bits, digit_of, magnitude, negative, positiv
 ghost use Rattle.text.specs.Pieces.{index};
 
 // What a byte counts as a digit; 16 where it is none. The tests are joined before the one branch: which digit it is cannot be foretold.
+#[tactic(auto, using(crate::proofs::FieldLaws::digit_laws))]
 pub fn digit_of(b: u8) -> u64
     ensures value { result ≡ digit_of b }
     ensures upper_bound { result ≤ 16 }
@@ -19,6 +20,7 @@ pub fn digit_of(b: u8) -> u64
 }
 
 // The digits of s in a base as one number, if each byte is one and the number is at most the limit.
+#[tactic(auto, using(crate::proofs::FieldLaws::value_laws))]
 fn parse_digits(s: &[u8], base: u64, limit: u64) -> Option<u64>
     requires { (1 < base) × (base ≤ 16) × (16 ≤ limit) }
     ensures { result ≡ value base limit s.now 0 }
@@ -39,6 +41,7 @@ fn parse_digits(s: &[u8], base: u64, limit: u64) -> Option<u64>
 }
 
 // The decimal digits of s as one number, with no zeros in front.
+#[tactic(auto, using(crate::proofs::FieldLaws::magnitude_laws))]
 fn parse_magnitude(s: &[u8]) -> Option<u64>
     ensures { result ≡ magnitude s.now }
 {
@@ -49,6 +52,7 @@ fn parse_magnitude(s: &[u8]) -> Option<u64>
 }
 
 // Sixteen hexadecimal digits as one number.
+#[tactic(auto, using(crate::proofs::FieldLaws::bits_in, crate::proofs::FieldLaws::bits_out))]
 pub fn parse_bits(s: &[u8]) -> Option<u64>
     ensures { result ≡ bits s.now }
 {
@@ -59,6 +63,7 @@ pub fn parse_bits(s: &[u8]) -> Option<u64>
 }
 
 // A magnitude with no sign before it.
+#[tactic(auto, using(crate::proofs::FieldLaws::converted))]
 fn positive_whole(n: u64) -> Option<i64>
     ensures { result ≡ positive (Some n) }
 {
@@ -66,6 +71,7 @@ fn positive_whole(n: u64) -> Option<i64>
 }
 
 // A magnitude with a minus sign before it.
+#[tactic(auto, using(crate::proofs::FieldLaws::negative_laws))]
 fn negative_whole(n: u64) -> Option<i64>
     ensures { result ≡ negative (Some n) }
 {
@@ -77,6 +83,7 @@ fn negative_whole(n: u64) -> Option<i64>
 }
 
 // The whole number that the field s spells.
+#[tactic(auto, using(crate::proofs::FieldLaws::whole_laws))]
 pub fn parse_whole(s: &[u8]) -> Option<i64>
     ensures { result ≡ whole s.now }
 {

@@ -41,12 +41,10 @@ pub fn set_relative_grid_address(
         (both_copies tp_type relative_grid_address.now)
         out.old }
 {
-    copies::ask_copies(relative_grid_address, tp_type, out.len())?;
-    let tp = triplet_types::kernel::tp_type_of(tp_type);
-    copies::fill_copies(
-        out,
-        relative_grid_address,
-        triplet_corners::kernel::is_negated(tp),
-    );
+    let tp = copies::ask_copies(relative_grid_address, tp_type, out.len())?;
+    let table = Triples {
+        numbers: relative_grid_address,
+    };
+    copies::fill_copies(out, table, triplet_corners::kernel::is_negated(tp));
     Ok(())
 }

@@ -13,7 +13,7 @@ pub fn on_grid(triplet: [i64; 3], p: usize) -> bool
     (is_below(triplet[0], p) & is_below(triplet[1], p)) & is_below(triplet[2], p)
 }
 
-// Component i of the addresses of three points, added.
+// Component i of the addresses of three points, added. They stay in the flat list that C lends.
 fn component_sum(addresses: Triples, a: usize, b: usize, c: usize, i: usize) -> i64
     requires { (3 * a + i < length addresses.numbers.now) × ((3 * b + i < length addresses.numbers.now) × (3 * c + i < length addresses.numbers.now)) }
     ensures { result ≡ component_sum addresses.entry.numbers.now a b c i }

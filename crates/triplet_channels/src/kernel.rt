@@ -1,5 +1,5 @@
 // Channels and outputs at a frequency point, of work areas whose rows are in order.
-ghost use Rattle.std.specs.Prelude.{◌≡◌, ◌*◌};
+ghost use Rattle.std.specs.Prelude.{◌≡◌, ◌*◌, ◌≤◌};
 ghost use Rattle.triplet_values.specs.Values.{channel_values, number_of};
 ghost use Rattle.triplet_channels.specs.Ordered.{further_rows, ordered_channel_at, ordered_further_at, outputs_ordered, Prepared};
 
@@ -10,7 +10,7 @@ use tetrahedron_sort::Rows;
 use triplet_outputs::Outputs;
 use triplet_outputs::kernel::{combine_outputs, is_open};
 use triplet_types::TpType;
-use triplet_values::Combination;
+use triplet_values::{Combination, CornerCount};
 
 // Makes a channel ready: its values at the corners, of frequencies f1 and f2 there, their box, and then the rows in order.
 pub fn prepare_channel(
@@ -22,12 +22,16 @@ pub fn prepare_channel(
 )
     ensures { Prepared rows.count (channel_values (number_of combination) f1.now f2.now (rows.count * 4)) channel.new }
 {
-    triplet_values::kernel::fill_channel(&mut channel.values, combination, f1, f2, rows);
-    channel.bounds = triplet_values::kernel::box_of(&channel.values, rows);
+    let n = CornerCount {
+        count: rows.corners(),
+    };
+    triplet_values::kernel::fill_channel(&mut channel.values, combination, f1, f2, n);
+    channel.bounds = triplet_values::kernel::box_of(&channel.values, n);
     sort_rows(&mut channel.values, &mut channel.places, rows);
 }
 
 // A channel: closed, `None`, or open with its weight I where the point lies in the box.
+#[tactic(auto, unfolding(crate::specs::Ordered::ordered_channel_at))]
 fn channel_at(f0: f64, channel: &Channel, rows: Rows) -> Option<f64>
     ensures { result ≡ ordered_channel_at f0 channel.now rows.count }
 {
@@ -46,17 +50,19 @@ fn channel_at(f0: f64, channel: &Channel, rows: Rows) -> Option<f64>
 }
 
 // How many rows to make of a channel that type 4 does not have.
-pub fn further_rows(tp: TpType, rows: Rows) -> Rows
-    ensures { result.count ≡ further_rows tp rows.count }
+pub fn further_rows(tp: TpType, rows: usize) -> usize
+    ensures by_type { result ≡ further_rows tp rows }
+    ensures few { result ≤ rows }
 {
     match tp {
         TpType::Type2 => rows,
         TpType::Type3 => rows,
-        TpType::Type4 => Rows { count: 0 },
+        TpType::Type4 => 0,
     }
 }
 
 // A channel that type 4 does not have.
+#[tactic(auto, unfolding(crate::specs::Ordered::ordered_further_at))]
 fn further_channel_at(tp: TpType, f0: f64, channel: &Channel, rows: Rows) -> Option<f64>
     ensures { result ≡ ordered_further_at tp f0 channel.now rows.count }
 {
@@ -68,6 +74,7 @@ fn further_channel_at(tp: TpType, f0: f64, channel: &Channel, rows: Rows) -> Opt
 }
 
 // The outputs at a frequency point of three channels that are ready.
+#[tactic(auto, unfolding(crate::specs::Ordered::outputs_ordered))]
 pub fn outputs_at(tp: TpType, f0: f64, channels: &Channels, rows: Rows) -> Outputs
     ensures { result ≡ outputs_ordered tp f0 channels.now rows.count }
 {

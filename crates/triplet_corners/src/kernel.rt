@@ -49,14 +49,13 @@ pub fn second_steps(tp: TpType, steps: TestedSteps) -> [i64; 1152]
     a
 }
 
-// The numbers of the neighbours of the grid point `g`, one for each step, in front of an array.
-pub fn corner_numbers(grid: TestedGrid, steps: TestedSteps, g: usize) -> [usize; 384]
+// Fills an array with the numbers of the neighbours of the grid point `g`, one for each step, and zeros behind them.
+pub fn fill_corner_numbers(a: &mut [usize; 384], grid: TestedGrid, steps: TestedSteps, g: usize)
     requires { g < triples_in grid.addresses.now }
-    ensures { result ≡ corner_numbers grid.entry.grid grid.entry.addresses.now grid.entry.gp_map.now steps.entry.triples.numbers.now g }
+    ensures { a.new ≡ corner_numbers grid.entry.grid grid.entry.addresses.now grid.entry.gp_map.now steps.entry.triples.numbers.now g }
 {
-    let mut a = [0usize; 384];
+    *a = [0; 384];
     for j in 0..steps.triples.numbers.len() / 3 {
         a[j] = grid.neighbour(steps.triples, g, j);
     }
-    a
 }

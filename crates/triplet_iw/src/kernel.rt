@@ -8,11 +8,12 @@ ghost use Rattle.triplet_iw.specs.Whole.{ComputesAll};
 ghost use Rattle.triplet_iw.specs.Calls.{DidFill};
 
 use ask::Refusal;
-use triplet_piece::kernel::{corners_of, fill_piece};
-use triplet_piece::{Piece, WorkAreas};
+use triplet_piece::kernel::{fill_corners, fill_piece};
+use triplet_piece::{Corners, Piece, WorkAreas};
 use triplet_study::{Study, TestedStudy};
 
 // All pieces of triplet `t`: its corners are looked up once. `second` is the second copy of the steps; the work areas are lent.
+// That `t` is one of the study's is a clause, here and wherever a triplet goes by its number: a type for it would hold the study beside it.
 pub fn fill_triplet(
     areas: &mut WorkAreas,
     weights: &mut [f64],
@@ -26,7 +27,11 @@ pub fn fill_triplet(
     requires t_in_bounds { t < tested.now.sizes.triplets }
     ensures { Computes (study_of tested.now.study) (λ n. eqb (n / tested.now.sizes.pairs) t) weights flags }
 {
-    let corners = corners_of(tested, second, t);
+    let mut corners = Corners {
+        first: [0; 384],
+        second: [0; 384],
+    };
+    fill_corners(&mut corners, tested, second, t);
     let counted = tested.counted();
     let bands2 = tested.sizes.bands2;
     for k in 0..tested.sizes.pairs {

@@ -14,6 +14,7 @@ pub fn is_open(b: ValueBox, f0: f64) -> bool
 }
 
 // The flag is 1 when all channels are closed.
+#[tactic(auto, using(crate::proofs::OptionLaws::closed_is), unfolding(crate::specs::Outputs::flag_of))]
 fn flag_of(c0: Option<f64>, c1: Option<f64>, c2: Option<f64>) -> i8
     ensures { result ≡ flag_of c0 c1 c2 }
 {
@@ -25,6 +26,7 @@ fn flag_of(c0: Option<f64>, c1: Option<f64>, c2: Option<f64>) -> i8
 }
 
 // The outputs of three channels, by the type. A channel is closed, `None`, or open with its weight.
+#[tactic(auto, using(crate::proofs::OptionLaws::value_is), unfolding(crate::specs::Outputs::outputs_by))]
 pub fn combine_outputs(tp: TpType, c0: Option<f64>, c1: Option<f64>, c2: Option<f64>) -> Outputs
     ensures { result ≡ outputs_by tp c0 c1 c2 }
 {

@@ -14,12 +14,9 @@ use borrow.Author.Tests.{eq-eqb, lt-ltb, le-ltb, ltb-true, ltb-false, eqb-true, 
 use Rattle.list_laws.specs.Patch.{patch}
 use Rattle.list_laws.proofs.PatchLaws.{length-patch, patch-more, patch-none, patch-ext, patch-patch}
 use Rattle.list_laws.proofs.StrideLaws.{digits-eq, strided, strided-last, strided-else, both-none, both-all}
-use Rattle.list_laws.proofs.ProductLaws.{digit_lt}
 use Rattle.triplet_outputs.specs.declared.Outputs.{Outputs}
 use Rattle.triplet_study.specs.declared.Sizes.{Sizes}
 use Rattle.triplet_study.specs.Tested.{Counted}
-use Rattle.triplet_piece.specs.declared.Piece.{Piece}
-use Rattle.triplet_piece.specs.Pieces.{IsPiece}
 use Rattle.triplet_piece.specs.Layout.{triplet_at, point_at, pair_at, piece_at, cell_of, channel_of, cell_weights, patch_pieces, weight_by, flag_by, piece_weights, piece_flags}
 
 -- ---- the weights of one cell
@@ -238,7 +235,3 @@ module _ (z : Sizes) (f : Counted z) (t k x : ℕ) (ht : t < z.triplets) (hk : k
 
   pub row_in : t * z.points + x ≤ (t * z.points + x) * z.pairs
   row_in = le-mul_of_pos_right (t * z.points + x) (omega arith)
-
--- a piece's band pair is one of the pairs
-pub pair_in : {z : Sizes} {p : Piece} → Counted z → IsPiece z p → p.b1 * z.bands2 + p.b2 < z.pairs
-pair_in {z} {p} f h = rw f.pairs-are (digit_lt p.b1 z.bands1 p.b2 z.bands2 h.1.0 h.1.1)

@@ -12,16 +12,18 @@ use question_grids::Triples;
 use tetrahedron_sort::Rows;
 use triplet_channels::Channels;
 use triplet_channels::kernel::{further_rows, prepare_channel};
+use triplet_corners::kernel::fill_corner_numbers;
 use triplet_outputs::Outputs;
 use triplet_study::{CountedStudy, TestedSteps, TestedStudy};
 use triplet_values::kernel::fill_frequencies;
-use triplet_values::{Band, Combination};
+use triplet_values::{Band, Combination, CornerCount};
 
-// The corners of triplet `t`, looked up; `second` is the second copy of the steps.
-pub fn corners_of(tested: &TestedStudy, second: &[i64], t: usize) -> Corners
+// Looks up the corners of triplet `t`, whose number is a clause (triplet_iw says why); `second` is the second copy of the steps.
+#[tactic(auto, using(crate::proofs::CornersLaws::point_in, crate::proofs::CornersLaws::copy_triples, crate::proofs::CornersLaws::copy_few))]
+pub fn fill_corners(corners: &mut Corners, tested: &TestedStudy, second: &[i64], t: usize)
     requires copied { second.now ≡ second_steps tested.now.sizes.tp tested.now.study.relative_grid_address.now }
     requires t_in_bounds { t < tested.now.sizes.triplets }
-    ensures { AreCornersOf (study_of tested.now.study) t result }
+    ensures { AreCornersOf (study_of tested.now.study) t corners.new }
 {
     let triplets = tested.study.triplets;
     let g1 = numbers::kernel::magnitude_at(triplets, 3 * t + 1);
@@ -30,13 +32,12 @@ pub fn corners_of(tested: &TestedStudy, second: &[i64], t: usize) -> Corners
     let copy = TestedSteps {
         triples: Triples { numbers: second },
     };
-    Corners {
-        first: triplet_corners::kernel::corner_numbers(grid, tested.steps(), g1),
-        second: triplet_corners::kernel::corner_numbers(grid, copy, g2),
-    }
+    fill_corner_numbers(&mut corners.first, grid, tested.steps(), g1);
+    fill_corner_numbers(&mut corners.second, grid, copy, g2);
 }
 
 // The weight of an output channel.
+#[tactic(auto, unfolding(crate::specs::Layout::channel_of))]
 fn channel_of(o: Outputs, c: usize) -> f64
     ensures { result ≡ channel_of o c }
 {
@@ -106,11 +107,16 @@ fn prepare(areas: &mut WorkAreas, study: &CountedStudy, corners: &Corners, piece
         bands: study.sizes.bands2,
         band: piece.b2,
     };
-    fill_frequencies(&mut areas.frequencies1, tp, &corners.first, rows, band1);
-    fill_frequencies(&mut areas.frequencies2, tp, &corners.second, rows, band2);
+    let n = CornerCount {
+        count: rows.corners(),
+    };
+    fill_frequencies(&mut areas.frequencies1, tp, &corners.first, n, band1);
+    fill_frequencies(&mut areas.frequencies2, tp, &corners.second, n, band2);
     let f1 = &areas.frequencies1;
     let f2 = &areas.frequencies2;
-    let further = further_rows(tp, rows);
+    let further = Rows {
+        count: further_rows(tp, rows.count),
+    };
     prepare_channel(
         &mut areas.channels.first,
         Combination::SecondLessFirst,

@@ -2,7 +2,7 @@
 
 #![tactic(auto)]
 
-ghost use Rattle.triplet_piece.specs.Zeros.{AreZeros};
+ghost use Rattle.triplet_piece.specs.Zeros.{IsZeros, AreZeros};
 
 use triplet_channels::{Channel, Channels};
 use triplet_values::ValueBox;
@@ -32,31 +32,33 @@ pub struct WorkAreas {
     pub channels: Channels,
 }
 
+// A channel of zeros.
+fn zeros() -> Channel
+    ensures { IsZeros result }
+{
+    Channel {
+        values: [0.0; 384],
+        places: [0; 96],
+        bounds: ValueBox {
+            fmin: 0.0,
+            fmax: 0.0,
+        },
+    }
+}
+
 impl WorkAreas {
     // Areas of zeros.
     pub fn new() -> WorkAreas
         ensures { AreZeros result }
     {
-        let zeros = [0.0; 384];
-        let places = [0usize; 96];
-        let bounds = ValueBox {
-            fmin: 0.0,
-            fmax: 0.0,
-        };
-        let channel = Channel {
-            values: zeros,
-            places,
-            bounds,
-        };
-        let channels = Channels {
-            first: channel,
-            second: channel,
-            third: channel,
-        };
         WorkAreas {
-            frequencies1: zeros,
-            frequencies2: zeros,
-            channels,
+            frequencies1: [0.0; 384],
+            frequencies2: [0.0; 384],
+            channels: Channels {
+                first: zeros(),
+                second: zeros(),
+                third: zeros(),
+            },
         }
     }
 }

@@ -193,10 +193,13 @@ module _ (s : Study) where
   unfolding sizes_by
   triplets-of = refl
 
-pub ready : (s : Study) (z : Sizes) (w f : ℕ) → first_no (study_questions s) ≡ 0 → z ≡ sizes_of s → are_lengths z w f ≡ true → Ready s z w f
-ready s z w f e c y =
+pub ready-made : (s : Study) (z : Sizes) (w f : ℕ) → Tested s → z ≡ sizes_of s → are_lengths z w f ≡ true → Ready s z w f
+ready-made s z w f k c y =
     let l : _ = lengths-say z w f y in
-    record { tested = tested s e; counts = c; fits = record { pointed = rw c (points-are s); weighed = l.0; flagged = l.1 } }
+    record { tested = k; counts = c; fits = record { pointed = rw c (points-are s); weighed = l.0; flagged = l.1 } }
+
+pub ready : (s : Study) (z : Sizes) (w f : ℕ) → first_no (study_questions s) ≡ 0 → z ≡ sizes_of s → are_lengths z w f ≡ true → Ready s z w f
+ready s z w f e c y = ready-made s z w f (tested s e) c y
 
 -- the counts of a study that is ready
 pub ready-counted : {s : Study} {z : Sizes} {w f : ℕ} → Ready s z w f → Counted z

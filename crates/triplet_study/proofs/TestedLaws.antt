@@ -9,11 +9,11 @@ use Rattle.triplet_study.specs.declared.tested.TestedStudy.{TestedStudy}
 use Rattle.triplet_study.specs.Lent.{study_of}
 use Rattle.triplet_study.specs.Questions.{are_lengths}
 use Rattle.triplet_study.specs.Tested.{Tested, Counted, Ready}
-use Rattle.triplet_study.proofs.StudyLaws.{tested, counted, ready, grid-of}
+use Rattle.triplet_study.proofs.StudyLaws.{counted, ready-made, grid-of}
 
 -- what 3 to 11 told of it, and of its counts
 pub tested-keeps : (t : TestedStudy) → Tested (study_of t.study)
-tested-keeps t = tested (study_of t.study) t.passed
+tested-keeps t = t.told
 
 pub tested-counted : (t : TestedStudy) → Counted t.sizes
 tested-counted t = rw t.counts (counted (tested-keeps t))
@@ -28,4 +28,4 @@ tested-few t = let k : _ = tested-keeps t in omega (arith, k.rows_whole, k.rows-
 
 -- all of it, where question 12 says yes
 pub tested-ready : (t : TestedStudy) (weights flags : ℕ) → are_lengths t.sizes weights flags ≡ true → Ready (study_of t.study) t.sizes weights flags
-tested-ready t weights flags y = ready (study_of t.study) t.sizes weights flags t.passed t.counts y
+tested-ready t weights flags y = ready-made (study_of t.study) t.sizes weights flags t.told t.counts y

@@ -41,10 +41,10 @@ value_questions p type bands1 bands2 frequencies1 frequencies2 points triplets =
     ∷ asks 11 (are_study_frequencies p (mag bands1) (mag bands2) frequencies1 frequencies2 points)
     ∷ []
 
--- the same of a study
-abbrev pub values_asked : Study → List Question
-values_asked s =
-    value_questions (triples_in s.addresses) s.shape.tp_type s.shape.num_band1 s.shape.num_band2
+-- the same of a study's lists, on a grid of p addresses
+abbrev pub values_asked : ℕ → Study → List Question
+values_asked p s =
+    value_questions p s.shape.tp_type s.shape.num_band1 s.shape.num_band2
     s.frequencies1 s.frequencies2 s.points s.triplets
 
 -- The questions on a study, 3 to 11, in their order: the mesh, the places on it, the table, the values.
@@ -52,7 +52,7 @@ abbrev pub study_questions : Study → List Question
 study_questions s =
     mesh_questions s.shape.bz_grid_type s.shape.d_diag
     ++ (place_questions s.shape.bz_grid_type s.shape.d_diag s.addresses s.gp-map
-    ++ (table_questions s.steps ++ values_asked s))
+    ++ (table_questions s.steps ++ values_asked (triples_in s.addresses) s))
 
 -- Question 12, of weights and flags: "Is each lent buffer exactly as long as its record?"
 unfoldable pub are_lengths : Sizes → ℕ → ℕ → Bool

@@ -4,9 +4,9 @@ ghost use Rattle.std.specs.Int.Signed.{mag};
 ghost use Rattle.ask.specs.Ask.{first_no};
 ghost use Rattle.ask.specs.Refusals.{answer_of};
 ghost use Rattle.triplet_study.specs.Study.{sizes_by, sizes_of};
-ghost use Rattle.triplet_study.specs.Questions.{study_questions, are_lengths};
-ghost use Rattle.triplet_study.specs.Tested.{Counted};
-ghost use Rattle.triplet_study.specs.Lent.{study_in, study_of};
+ghost use Rattle.triplet_study.specs.Questions.{study_questions};
+ghost use Rattle.triplet_study.specs.Tested.{Tested};
+ghost use Rattle.triplet_study.specs.Lent.{study_of};
 
 use crate::{Shape, Sizes, Study};
 use ask::Refusal;
@@ -21,7 +21,7 @@ pub fn ask_study(study: Study) -> Result<(), Refusal>
     if !question_grids::kernel::tables::table_ok(study.relative_grid_address) {
         return Err(Refusal::Table);
     }
-    asks::ask_values(study)
+    asks::ask_values(study, study.addresses.len() / 3)
 }
 
 // The counts of a tested study, by the rows of its table, its points and its triplets.
@@ -58,7 +58,7 @@ pub fn sizes_of(shape: Shape, rows: usize, points: usize, triplets: usize) -> Si
 
 // The counts of a study that has passed questions 3 to 11.
 pub fn sizes_of_passed(study: Study) -> Sizes
-    requires { first_no (study_questions (study_of study)) ≡ 0 }
+    requires { Tested (study_of study) }
     ensures { result ≡ sizes_of (study_of study.entry) }
 {
     sizes_of(
@@ -67,14 +67,4 @@ pub fn sizes_of_passed(study: Study) -> Sizes
         study.frequency_points.len(),
         study.triplets.len() / 3,
     )
-}
-
-// Question 12, of weights and flags.
-pub fn lengths_ok(z: Sizes, weights: usize, flags: usize) -> bool
-    requires { Counted z }
-    ensures { result ≡ are_lengths z weights flags }
-{
-    let cells = z.cells;
-    let entries = z.channels * cells;
-    (weights == entries) & (flags == cells)
 }

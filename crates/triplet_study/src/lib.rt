@@ -17,7 +17,7 @@ use triplet_types::TpType;
 pub mod kernel;
 mod tested;
 
-pub use tested::{CountedStudy, TestedSteps, TestedStudy};
+pub use tested::{CountedSizes, CountedStudy, TestedSteps, TestedStudy};
 
 // The numbers of a study: any values, tested by the questions.
 #[repr(C)]

@@ -1,10 +1,9 @@
 // A study that has passed its questions.
 ghost use Rattle.std.specs.Prelude.{◌≡◌, ◌≤◌, length};
-ghost use Rattle.ask.specs.Ask.{first_no};
 ghost use Rattle.triplet_study.specs.Study.{sizes_of};
-ghost use Rattle.triplet_study.specs.Questions.{study_questions, are_lengths};
+ghost use Rattle.triplet_study.specs.Questions.{are_lengths};
 ghost use Rattle.triplet_study.specs.Lent.{study_of};
-ghost use Rattle.triplet_study.specs.Tested.{Counted};
+ghost use Rattle.triplet_study.specs.Tested.{Tested, Counted};
 
 use crate::{Sizes, Study};
 use bzgrid_lookup::TestedGrid;
@@ -22,9 +21,27 @@ pub struct TestedSteps<'a> {
 pub struct TestedStudy<'a> {
     pub study: Study<'a>,
     pub sizes: Sizes,
-    // each of the questions is answered yes
-    pub ghost passed: { first_no (study_questions (study_of study)) ≡ 0 },
+    // what the questions told
+    pub ghost told: { Tested (study_of study) },
     pub ghost counts: { sizes ≡ sizes_of (study_of study) },
+}
+
+// Counts that a study can have: within the limits of question 9, each as many as the others have it.
+#[derive(Clone, Copy)]
+pub struct CountedSizes {
+    pub sizes: Sizes,
+    pub ghost counted: { Counted sizes },
+}
+
+impl CountedSizes {
+    // Question 12, of weights and flags.
+    pub fn lengths_ok(self, weights: usize, flags: usize) -> bool
+        ensures { result ≡ are_lengths self.sizes weights flags }
+    {
+        let cells = self.sizes.cells;
+        let entries = self.sizes.channels * cells;
+        (weights == entries) & (flags == cells)
+    }
 }
 
 // What a piece reads of a study beside its corners: its counts, and its values.
@@ -73,12 +90,17 @@ impl<'a> TestedStudy<'a> {
         TestedSteps { triples }
     }
 
+    // Its counts.
+    pub fn counted_sizes(&self) -> CountedSizes
+        ensures { result.sizes ≡ self.now.sizes }
+    {
+        CountedSizes { sizes: self.sizes }
+    }
+
     // Question 12, of weights and flags.
     pub fn lengths_ok(&self, weights: usize, flags: usize) -> bool
         ensures { result ≡ are_lengths self.now.sizes weights flags }
     {
-        let cells = self.sizes.cells;
-        let entries = self.sizes.channels * cells;
-        (weights == entries) & (flags == cells)
+        self.counted_sizes().lengths_ok(weights, flags)
     }
 }

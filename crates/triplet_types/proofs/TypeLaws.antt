@@ -6,6 +6,9 @@ use native.Mathlib.Omega.{arith}
 use lib.IntN.{ℤ, pos, negsuc}
 use Rattle.std.proofs.Common.{Ok, Err}
 use Rattle.ask.specs.Ask.{first_no}
+use Rattle.ask.proofs.AskLaws.{all_yes}
+use Rattle.ask.proofs.RefusalLaws.{given-is, refused-not}
+use Rattle.ask.specs.declared.refusal.Refusal.{Refusal}
 use Rattle.ask.specs.declared.refusal.Refusal.TheVariants as refusal
 use Rattle.list_laws.specs.Signed.{is_nat, is_between}
 use Rattle.list_laws.proofs.EqualLaws.{nat-pos}
@@ -13,7 +16,7 @@ use Rattle.list_laws.proofs.SignedLaws.{between-low, between-high}
 use Rattle.question_values.specs.TpTypes.{channels_of, is_tp_type}
 use Rattle.triplet_types.specs.declared.TpType.{TpType}
 use Rattle.triplet_types.specs.declared.TpType.TheVariants.{Type2, Type3, Type4}
-use Rattle.triplet_types.specs.Types.{tp_type_of, tp_type_answer, channel_count}
+use Rattle.triplet_types.specs.Types.{tp_type_of, type_questions, tp_type_answer, channel_count}
 
 -- ---- the type that a number names
 
@@ -69,6 +72,21 @@ pub answers-none : (z : ℤ) → (z ≡ pos 2 → ⊥) → (z ≡ pos 3 → ⊥)
 unfolding first_no
 answers-none z two three four = rw (no-type z two three four) refl
 
+-- a number that was answered with a type has passed question 8, and names it
+pub type-given : (z : ℤ) (tp : TpType) → Ok tp ≡ tp_type_answer z → (is_tp_type z ≡ true) × (tp ≡ tp_type_of z)
+type-given z tp e =
+    let g = given-is (first_no (type_questions z)) tp (tp_type_of z) e in
+    ((all_yes (type_questions z) (omega arith, tt) g.0).0, g.1)
+
+-- one that was answered with a refusal has not
+pub type-refused : (z : ℤ) (why : Refusal) → Err why ≡ tp_type_answer z → is_tp_type z ≡ false
+unfolding first_no
+type-refused z why e = go (is_tp_type z) refl
+  where
+    go : (b : Bool) → is_tp_type z ≡ b → b ≡ false
+    go true p = absurd (refused-not (first_no (type_questions z)) why (tp_type_of z) e (rw p refl))
+    go false p = refl
+
 -- ---- its output channels
 
 -- the outputs of the type that a number names are as many as question 12 counts
@@ -86,3 +104,8 @@ pub channel-count-le : (tp : TpType) → channel_count tp ≤ 3
 channel-count-le Type2 = omega arith
 channel-count-le Type3 = omega arith
 channel-count-le Type4 = omega arith
+
+-- by one name, for the attributes of functions
+pub ruleset type_laws = (names-two, names-three, names-four)
+
+pub ruleset answer_laws = (answers-two, answers-three, answers-four, answers-none)

@@ -23,6 +23,7 @@ impl TryFrom<i64> for TpType {
     ghost try_from_gives = { λ tp_type r. r ≡ tp_type_answer tp_type };
 
     // The type that a number names. Question 8.
+    #[tactic(auto, using(crate::proofs::TypeLaws::answer_laws))]
     fn try_from(tp_type: i64) -> Result<TpType, Refusal> {
         match tp_type {
             2 => Ok(TpType::Type2),

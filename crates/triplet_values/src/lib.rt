@@ -2,7 +2,16 @@
 
 #![tactic(auto)]
 
+ghost use Rattle.std.specs.Prelude.{◌≤◌};
+
 pub mod kernel;
+
+// How many corners a work area holds: at most 384.
+#[derive(Clone, Copy)]
+pub struct CornerCount {
+    pub count: usize,
+    pub ghost few: { count ≤ 384 },
+}
 
 // The least and the greatest of a channel's values.
 #[derive(Clone, Copy)]

@@ -11,7 +11,7 @@ use anyhow::Result;
 use averaging::{Averaging, average_weights_over_degenerate_sets};
 use replay_compare::kernel::agree;
 use replay_input::reader::{Field, Reader};
-use replay_report::blocks::{Replay, replay_blocks};
+use replay_report::blocks::{Case, Only, replay_blocks};
 use replay_report::cases::{Cases, Judged, stored};
 use replay_study::owned::next_list;
 use std::alloc::{AllocError, Global};
@@ -42,6 +42,7 @@ fn next_stored<T: Field + Default>(
 }
 
 // A list over and over, up to a length; zeros where it is empty.
+// Beside that of vectors_triplet, which gives nothing of an empty list: tried as one, and the proof of its contract did not close.
 fn repeated<T: Copy + Default>(list: &[T], room: u64, alloc: Global) -> Result<Vec<T>, AllocError> {
     let mut all = Vec::new(alloc);
     for _ in 0..room {
@@ -90,52 +91,38 @@ fn flags_of(numbers: &[i64], alloc: Global) -> Result<Vec<i8>, AllocError> {
         .collect(alloc)
 }
 
-fn average_case(reader: &mut Reader<'_>, alloc: Global) -> Result<Judged, AllocError> {
-    let refusal = reader.next_count();
-    let tp_type = reader.next_whole();
-    let num_band0 = reader.next_whole();
-    let num_band = reader.next_whole();
-    let ids1 = next_list(reader, alloc)?;
-    let ids2 = next_list(reader, alloc)?;
-    let weights: Stored<f64> = next_stored(reader, alloc)?;
-    let flags: Stored<i64> = next_stored(reader, alloc)?;
-    let averaging = Averaging {
-        degenerate_ids1: &ids1,
-        degenerate_ids2: &ids2,
-        num_band0,
-        num_band,
-        tp_type,
-    };
-    let mut iw = before(&weights, alloc)?;
-    let mut iw_zero = flags_of(&before(&flags, alloc)?, alloc)?;
-    let answer = average_weights_over_degenerate_sets(averaging, &mut iw, &mut iw_zero);
-    let weights_after = after(&weights, refusal, alloc)?;
-    let flags_after = flags_of(&after(&flags, refusal, alloc)?, alloc)?;
-    let agrees = answer.map_err(|why| why.number()) == stored(refusal, ())
-        && agree(&iw, &weights_after)
-        && iw_zero == flags_after;
-    Ok(Judged { refusal, agrees })
-}
-
-// Averages; no record is kept for those after it.
 #[derive(Debug, Default, Drop)]
 struct Averages;
 
-impl Replay for Averages {
-    type Counts = Cases;
-
-    fn next_record(
-        &mut self,
-        rt: &impl Print,
-        alloc: Global,
-        reader: &mut Reader<'_>,
-        cases: &mut Cases,
-    ) -> Result<()> {
-        cases.add(rt, average_case(reader, alloc)?)?;
-        Ok(())
+impl Case for Averages {
+    fn next_case(reader: &mut Reader<'_>, alloc: Global) -> Result<Judged, AllocError> {
+        let refusal = reader.next_count();
+        let tp_type = reader.next_whole();
+        let num_band0 = reader.next_whole();
+        let num_band = reader.next_whole();
+        let ids1 = next_list(reader, alloc)?;
+        let ids2 = next_list(reader, alloc)?;
+        let weights: Stored<f64> = next_stored(reader, alloc)?;
+        let flags: Stored<i64> = next_stored(reader, alloc)?;
+        let averaging = Averaging {
+            degenerate_ids1: &ids1,
+            degenerate_ids2: &ids2,
+            num_band0,
+            num_band,
+            tp_type,
+        };
+        let mut iw = before(&weights, alloc)?;
+        let mut iw_zero = flags_of(&before(&flags, alloc)?, alloc)?;
+        let answer = average_weights_over_degenerate_sets(averaging, &mut iw, &mut iw_zero);
+        let weights_after = after(&weights, refusal, alloc)?;
+        let flags_after = flags_of(&after(&flags, refusal, alloc)?, alloc)?;
+        let agrees = answer.map_err(|why| why.number()) == stored(refusal, ())
+            && agree(&iw, &weights_after)
+            && iw_zero == flags_after;
+        Ok(Judged { refusal, agrees })
     }
 }
 
 fn main(rt: HostRuntime) -> Result<()> {
-    replay_blocks::<Averages>(&rt, rt.alloc(), Cases::new("averages", "averages"))
+    replay_blocks::<Only<Averages>>(&rt, rt.alloc(), Cases::new("averages", "averages"))
 }

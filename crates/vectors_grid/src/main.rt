@@ -17,7 +17,7 @@ use ask::kernel::status_of;
 use replay_input::kernel::stamps::stamp;
 use replay_input::reader::Reader;
 use replay_report::blocks::{Replay, replay_blocks};
-use replay_report::cases::{Cases, Judged, after_call, stored};
+use replay_report::cases::{Cases, Judged, after_call, stored, told_of};
 use replay_report::kinds::record_of;
 use replay_study::owned::{OwnGrid, next_grid, next_list};
 use std::alloc::{AllocError, Global};
@@ -122,10 +122,7 @@ fn many_case(many: &ManyPoints, alloc: Global, grid: &OwnGrid) -> Result<Judged,
         grid.lent(),
     );
     // a refused call leaves the buffer
-    let (refusal, numbers) = match &many.stored {
-        Ok(numbers) => (0, numbers.as_slice()),
-        Err(refusal) => (*refusal, before.as_slice()),
-    };
+    let (refusal, numbers) = told_of(&many.stored, &before);
     let agrees = status_of(answer) == refusal && out.as_slice() == numbers;
     Ok(Judged { refusal, agrees })
 }
@@ -179,15 +176,15 @@ impl Replay for Kept {
         let grid = self.grid.as_ref().context("a call before any grid");
         match record {
             Record::Grid => self.grid = Some(next_grid(reader, alloc)?),
-            Record::Index => counts.index.add(rt, index_case(reader))?,
-            Record::OnePoint => counts.one.add(rt, one_case(reader, alloc, grid?)?)?,
+            Record::Index => counts.index.add(rt, index_case(reader)),
+            Record::OnePoint => counts.one.add(rt, one_case(reader, alloc, grid?)?),
             Record::ManyPoints => {
                 let many = next_many(reader, alloc)?;
-                counts.many.add(rt, many_case(&many, alloc, grid?)?)?;
+                counts.many.add(rt, many_case(&many, alloc, grid?)?);
             }
             Record::RepeatedPoint => {
                 let many = next_repeated(reader, alloc)?;
-                counts.many.add(rt, many_case(&many, alloc, grid?)?)?;
+                counts.many.add(rt, many_case(&many, alloc, grid?)?);
             }
         }
         Ok(())

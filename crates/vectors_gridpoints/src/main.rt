@@ -19,8 +19,9 @@ use replay_compare::kernel::agree;
 use replay_input::kernel::stamps::{mark, stamp};
 use replay_input::reader::Reader;
 use replay_report::blocks::{Replay, replay_blocks};
-use replay_report::cases::{Cases, Judged, after_call, stored};
+use replay_report::cases::{Cases, Judged, after_call, stored, told_of};
 use replay_report::kinds::record_of;
+use replay_study::function::function_of;
 use replay_study::owned::{OwnGrid, next_grid, next_list};
 use std::alloc::{AllocError, Global};
 use std::fmt;
@@ -108,13 +109,6 @@ struct Asked {
     stored: Result<Vec<f64>, u64>,
 }
 
-fn function_of(number: u64) -> WeightFunction {
-    match number {
-        0 => WeightFunction::I,
-        _ => WeightFunction::J,
-    }
-}
-
 // The number of the call's refusal, 0 where the weights are in the buffer.
 fn weights_called(iw: &mut [f64], grid: &OwnGrid, study: &Study, asked: &Asked) -> u64 {
     let lent = GridPointStudy {
@@ -127,10 +121,7 @@ fn weights_called(iw: &mut [f64], grid: &OwnGrid, study: &Study, asked: &Asked) 
         frequency_points: &study.points,
         function: asked.function,
     };
-    match grid_point_weights::integration_weights_at_grid_points(lent, &asked.grid_points, iw) {
-        Ok(()) => 0,
-        Err(why) => why.number(),
-    }
+    status_of(grid_point_weights::integration_weights_at_grid_points(lent, &asked.grid_points, iw))
 }
 
 // An accepted call is to fill a buffer of the length with the stored weights, a refused one to leave it.
@@ -144,10 +135,7 @@ fn weights_judged(
     mark(iw.as_mut_slice());
     let before = iw.clone()?;
     let number = weights_called(iw.as_mut_slice(), grid, study, asked);
-    let (refusal, weights) = match &asked.stored {
-        Ok(weights) => (0, weights.as_slice()),
-        Err(refusal) => (*refusal, before.as_slice()),
-    };
+    let (refusal, weights) = told_of(&asked.stored, &before);
     let agrees = number == refusal && agree(&iw, weights);
     Ok(Judged { refusal, agrees })
 }
@@ -248,14 +236,14 @@ impl Replay for Kept {
             Record::Study => self.study = Some(next_study(reader, alloc)?),
             Record::Weights => {
                 let asked = next_weights(reader, alloc)?;
-                counts.weights.add(rt, self.weights_case(alloc, &asked)?)?;
+                counts.weights.add(rt, self.weights_case(alloc, &asked)?);
             }
             Record::RepeatedPoint => {
                 let asked = next_repeated(reader, alloc)?;
-                counts.weights.add(rt, self.weights_case(alloc, &asked)?)?;
+                counts.weights.add(rt, self.weights_case(alloc, &asked)?);
             }
-            Record::Normal => counts.normal.add(rt, normal_case(reader, alloc)?)?,
-            Record::Copies => counts.copies.add(rt, copies_case(reader, alloc)?)?,
+            Record::Normal => counts.normal.add(rt, normal_case(reader, alloc)?),
+            Record::Copies => counts.copies.add(rt, copies_case(reader, alloc)?),
         }
         Ok(())
     }

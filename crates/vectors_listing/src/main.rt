@@ -11,9 +11,9 @@ use listing_read::read_listing;
 use replay_compare::kernel::Compared;
 use replay_input::kernel::at_most;
 use replay_input::reader::Reader;
-use replay_report::blocks::{Replay, replay_blocks};
+use replay_report::blocks::{Case, Only, replay_blocks};
 use replay_report::cases::{Cases, Judged};
-use sheet_counts::Counts;
+use replay_study::counts::next_counts;
 use std::alloc::{AllocError, Global};
 
 // What the weights hold before a call: no record stored has such a weight.
@@ -35,51 +35,32 @@ fn are_stored(reader: &mut Reader<'_>, weights: &[f64], flags: &[i8]) -> bool {
     reader.agrees_with(weights) & reader.agrees_with(flags)
 }
 
-// The call on two buffers, compared with what is stored for it.
-fn listing_case(reader: &mut Reader<'_>, alloc: Global) -> Result<Judged, AllocError> {
-    let refusal = reader.next_count();
-    let tp_type = reader.next_whole();
-    let counts = Counts {
-        num_triplets: reader.next_whole(),
-        num_band0: reader.next_whole(),
-        num_band1: reader.next_whole(),
-        num_band2: reader.next_whole(),
-    };
-    let num_weights = at_most(reader.next_count(), MOST);
-    let num_flags = at_most(reader.next_count(), MOST);
-    let size = reader.next_count();
-    let listing = reader.next_bytes(size);
-    let _newline = reader.next_bytes(1);
-    let mut weights = vec![in alloc; WEIGHT_BEFORE; num_weights]?;
-    let mut flags = vec![in alloc; FLAG_BEFORE; num_flags]?;
-    let agrees = match read_listing(listing, tp_type, counts, &mut weights, &mut flags) {
-        Ok(()) => refusal == 0 && are_stored(reader, &weights, &flags),
-        Err(why) => why.number() == refusal && are_kept(&weights, &flags),
-    };
-    Ok(Judged { refusal, agrees })
-}
-
-// Listings; no record is kept for those after it.
 #[derive(Debug, Default, Drop)]
 struct Listings;
 
-impl Replay for Listings {
-    type Counts = Cases;
-
-    fn next_record(
-        &mut self,
-        rt: &impl Print,
-        alloc: Global,
-        reader: &mut Reader<'_>,
-        cases: &mut Cases,
-    ) -> Result<()> {
-        cases.add(rt, listing_case(reader, alloc)?)?;
-        Ok(())
+impl Case for Listings {
+    // The call on two buffers, compared with what is stored for it.
+    fn next_case(reader: &mut Reader<'_>, alloc: Global) -> Result<Judged, AllocError> {
+        let refusal = reader.next_count();
+        let tp_type = reader.next_whole();
+        let counts = next_counts(reader);
+        let num_weights = at_most(reader.next_count(), MOST);
+        let num_flags = at_most(reader.next_count(), MOST);
+        let size = reader.next_count();
+        let listing = reader.next_bytes(size);
+        let _newline = reader.next_bytes(1);
+        let mut weights = vec![in alloc; WEIGHT_BEFORE; num_weights]?;
+        let mut flags = vec![in alloc; FLAG_BEFORE; num_flags]?;
+        let agrees = match read_listing(listing, tp_type, counts, &mut weights, &mut flags) {
+            Ok(()) => refusal == 0 && are_stored(reader, &weights, &flags),
+            Err(why) => why.number() == refusal && are_kept(&weights, &flags),
+        };
+        Ok(Judged { refusal, agrees })
     }
 }
 
 fn main(rt: HostRuntime) -> Result<()> {
-    replay_blocks::<Listings>(
+    replay_blocks::<Only<Listings>>(
         &rt,
         rt.alloc(),
         Cases::new("listings read", "listings read"),

@@ -7,7 +7,7 @@
 
 use anyhow::Result;
 use replay_input::reader::Reader;
-use replay_report::blocks::{Replay, replay_blocks};
+use replay_report::blocks::{Case, Only, replay_blocks};
 use replay_report::cases::{Cases, Judged};
 use std::alloc::{AllocError, Global};
 
@@ -19,42 +19,28 @@ fn next_buffer(reader: &mut Reader<'_>, alloc: Global) -> Result<Vec<f64>, Alloc
     vec![in alloc; NO_FREQUENCY; reader.next_count() as usize]
 }
 
-fn load_case(reader: &mut Reader<'_>, alloc: Global) -> Result<Judged, AllocError> {
-    let start = (reader.next_count() % 0x1_0000_0000) as u32;
-    let mut frequencies1 = next_buffer(reader, alloc)?;
-    let mut frequencies2 = next_buffer(reader, alloc)?;
-    let mut points = next_buffer(reader, alloc)?;
-    test_load::fill_frequencies(start, &mut frequencies1, &mut frequencies2, &mut points);
-    let first = reader.agrees_with(&frequencies1);
-    let second = reader.agrees_with(&frequencies2);
-    let third = reader.agrees_with(&points);
-    Ok(Judged {
-        refusal: 0,
-        agrees: first && second && third,
-    })
-}
-
-// Test frequencies; no record is kept for those after it.
 #[derive(Debug, Default, Drop)]
 struct TestFrequencies;
 
-impl Replay for TestFrequencies {
-    type Counts = Cases;
-
-    fn next_record(
-        &mut self,
-        rt: &impl Print,
-        alloc: Global,
-        reader: &mut Reader<'_>,
-        cases: &mut Cases,
-    ) -> Result<()> {
-        cases.add(rt, load_case(reader, alloc)?)?;
-        Ok(())
+impl Case for TestFrequencies {
+    fn next_case(reader: &mut Reader<'_>, alloc: Global) -> Result<Judged, AllocError> {
+        let start = (reader.next_count() % 0x1_0000_0000) as u32;
+        let mut frequencies1 = next_buffer(reader, alloc)?;
+        let mut frequencies2 = next_buffer(reader, alloc)?;
+        let mut points = next_buffer(reader, alloc)?;
+        test_load::fill_frequencies(start, &mut frequencies1, &mut frequencies2, &mut points);
+        let first = reader.agrees_with(&frequencies1);
+        let second = reader.agrees_with(&frequencies2);
+        let third = reader.agrees_with(&points);
+        Ok(Judged {
+            refusal: 0,
+            agrees: first && second && third,
+        })
     }
 }
 
 fn main(rt: HostRuntime) -> Result<()> {
-    replay_blocks::<TestFrequencies>(
+    replay_blocks::<Only<TestFrequencies>>(
         &rt,
         rt.alloc(),
         Cases::new("test frequencies", "test frequencies"),

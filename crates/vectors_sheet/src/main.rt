@@ -18,7 +18,7 @@
 #![tactic(auto)]
 
 use anyhow::{Context, Result};
-use replay_calls::calls::next_call;
+use replay_calls::calls::{answered, next_call};
 use replay_calls::study::{OwnStudy, next_study};
 use replay_input::kernel::at_most;
 use replay_input::reader::Reader;
@@ -28,7 +28,7 @@ use replay_sheet::content::{Lengths, Sheet, next_sheet};
 use replay_sheet::counts::{AnswerCounts, CallKind};
 use replay_sheet::open::open_case;
 use replay_study::owned::{OwnGrid, next_grid, next_list};
-use sheet::Study;
+use sheet::{SheetMut, Study};
 use std::alloc::Global;
 
 #[derive(Clone, Copy, Debug, PartialEq, Eq)]
@@ -100,7 +100,22 @@ impl<'a> Run<'a> {
     ) -> Result<()> {
         let kind = CallKind::try_from(self.record.next_count())?;
         let call = next_call(&mut self.record, alloc, kind)?;
-        let number = call.make(study, &mut self.sheet, &mut self.record, alloc)?;
+        let size = call.answers();
+        let mut answers = vec![in alloc; 0; size]?;
+        let mut tallies = vec![in alloc; 0; size.saturating_mul(16)]?;
+        let mut lent = SheetMut {
+            weights: &mut self.sheet.weights,
+            flags: &mut self.sheet.flags,
+            marks: &mut self.sheet.marks,
+        };
+        let tally = self.sheet.tally;
+        let answer = call
+            .lent()
+            .make(study, &mut lent, tally, &mut answers, &mut tallies);
+        let number = answered(&mut self.sheet, answer);
+        // none where the answers of a list of calls and the tallies after them are not those stored next
+        let are_stored = self.record.agrees_with(&answers) & self.record.agrees_with(&tallies);
+        let number = are_stored.then_some(number);
         let refusal = self.record.next_count();
         let tally = self.record.agrees_with(&self.sheet.tally.runs);
         let content = self.agrees();
@@ -160,7 +175,7 @@ impl Replay for Kept {
             Record::Table => self.table = Some(next_list(&mut record, alloc)?),
             Record::Study => self.study = Some(next_study(&mut record, alloc)?),
             Record::List => list_case(record, alloc, self.study()?, counts)?,
-            Record::OpenCount => open_case(&mut record, alloc, counts)?,
+            Record::OpenCount => open_case(&mut record, counts),
         }
         Ok(())
     }

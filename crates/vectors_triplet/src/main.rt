@@ -87,6 +87,7 @@ fn next_study(reader: &mut Reader<'_>, alloc: Global) -> Result<StudyRecord, All
 }
 
 // The study as it is lent to a call.
+// Beside that of replay_calls: there the triplets are the study's and the table the call's, here the other way round.
 fn lent<'a>(grid: &'a OwnGrid, record: &'a StudyRecord, triplets: &'a [i64]) -> Study<'a> {
     let d_diag = grid.d_diag;
     let shape = Shape {
@@ -241,11 +242,11 @@ impl Replay for Kept {
             Record::Study => self.study = Some(next_study(reader, alloc)?),
             Record::AllTriplets => {
                 let judged = self.call_case(reader, alloc, Asked::AllTriplets)?;
-                counts.all.add(rt, judged)?;
+                counts.all.add(rt, judged);
             }
             Record::OneTriplet => {
                 let judged = self.call_case(reader, alloc, Asked::OneTriplet)?;
-                counts.one.add(rt, judged)?;
+                counts.one.add(rt, judged);
             }
         }
         Ok(())

@@ -24,6 +24,7 @@ use replay_input::reader::Reader;
 use replay_report::blocks::{Replay, replay_blocks};
 use replay_report::cases::{Cases, Judged, stored};
 use replay_report::kinds::record_of;
+use replay_study::function::function_of;
 use replay_study::owned::next_list;
 use std::alloc::{AllocError, Global};
 use std::fmt;
@@ -100,13 +101,6 @@ impl fmt::Display for Counts {
 // A case that cannot be refused.
 fn accepted(agrees: bool) -> Judged {
     Judged { refusal: 0, agrees }
-}
-
-fn function_of(number: u64) -> WeightFunction {
-    match number {
-        0 => WeightFunction::I,
-        _ => WeightFunction::J,
-    }
 }
 
 fn next_reals<const N: usize>(reader: &mut Reader<'_>) -> [f64; N] {
@@ -283,14 +277,14 @@ impl Replay for Kept {
         let record = record_of(&RECORDS, reader.next_count())?;
         match record {
             Record::Vertices => self.vertices = Some(next_list(reader, alloc)?),
-            Record::Sort => counts.sort.add(rt, sort_case(reader))?,
-            Record::Weight => counts.weight.add(rt, weight_case(reader, self.vertices()))?,
-            Record::EqualRows => counts.weight.add(rt, row_case(reader))?,
-            Record::Lattice => counts.lattice.add(rt, lattice_case(reader))?,
-            Record::Tables => counts.tables.add(rt, tables_case(reader, alloc)?)?,
-            Record::Exact => counts.exact.add(rt, exact_case(reader, false))?,
-            Record::ExactSum => counts.exact_sum.add(rt, exact_case(reader, true))?,
-            Record::Product => counts.product.add(rt, product_case(reader))?,
+            Record::Sort => counts.sort.add(rt, sort_case(reader)),
+            Record::Weight => counts.weight.add(rt, weight_case(reader, self.vertices())),
+            Record::EqualRows => counts.weight.add(rt, row_case(reader)),
+            Record::Lattice => counts.lattice.add(rt, lattice_case(reader)),
+            Record::Tables => counts.tables.add(rt, tables_case(reader, alloc)?),
+            Record::Exact => counts.exact.add(rt, exact_case(reader, false)),
+            Record::ExactSum => counts.exact_sum.add(rt, exact_case(reader, true)),
+            Record::Product => counts.product.add(rt, product_case(reader)),
         }
         Ok(())
     }

@@ -7,20 +7,6 @@ ghost use Rattle.std.specs.Prelude.{◌≡◌, ◌≤◌, length};
 use std::io;
 use std::io::Read;
 
-// One byte more than a study may have, so that a longer input is seen to be longer.
-fn text_buffer() -> [u8; 16385]
-    ensures { 16385 ≡ length result }
-{
-    [0; 16385]
-}
-
-// As long as the longest answer.
-fn answer_buffer() -> [u8; 118617]
-    ensures { 118617 ≡ length result }
-{
-    [0; 118617]
-}
-
 // One read into the rest of the text: how many of its bytes count as read. Where the read fails all of them do: the text is then longer than a
 // study, so the answer is the refusal with 1, whatever was read before.
 fn read_more(input: &mut impl Read, rest: &mut [u8]) -> usize
@@ -52,8 +38,10 @@ fn read_text(input: &mut impl Read, text: &mut [u8]) -> usize
 }
 
 fn main(rt: HostRuntime) -> io::Result<()> {
-    let mut text = text_buffer();
-    let mut out = answer_buffer();
+    // one byte more than a study may have, so that a longer input is seen to be longer
+    let mut text = [0; 16385];
+    // as long as the longest answer
+    let mut out = [0; 118617];
     let n = read_text(&mut rt.stdin(), &mut text);
     let k = answer::answer(&text[..n], &mut out);
     rt.write_all(&out[..k])

@@ -75,3 +75,6 @@ wrote_as {u} {v} e r = rw (← e) r
 -- nothing
 pub wrote_none : (u : Writer) → u.len ≤ length u.buffer.now → Wrote [] u u
 wrote_none u h = record { same-buffer = refl; ends = omega arith; content = written_none u.len u.buffer.now h }
+
+-- what `grind` is given at a function
+pub ruleset room_laws = (room-first, room-next)

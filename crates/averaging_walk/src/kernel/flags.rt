@@ -1,8 +1,8 @@
 // Flags: a block with any flag 0 becomes all 0.
-ghost use Rattle.std.specs.Prelude.{◌≡◌, ◌*◌, ◌≤◌, length, pos};
+ghost use Rattle.std.specs.Prelude.{◌≡◌, length, pos};
 ghost use Rattle.averaging_flags.specs.Flags.{row_has_zero, flag_in};
 ghost use Rattle.averaging_flags.proofs.FlagLaws.{flag-local};
-ghost use Rattle.averaging_walk.specs.Parts.{LiesIn, part_of, part_has_zero};
+ghost use Rattle.averaging_walk.specs.Parts.{part_has_zero};
 
 use crate::kernel::block::{Averaged, Block};
 
@@ -14,13 +14,11 @@ fn row_has_zero(row: &[i8]) -> bool
 }
 
 // Whether one of a block's flags is 0.
-fn block_has_zero(m: &[i8], n: usize, block: Block) -> bool
-    requires m_len { (length m.now ≡ n * n) × (n ≤ 64) }
-    requires block_in { LiesIn n block }
-    ensures { result ≡ part_has_zero n block m.now }
+fn block_has_zero(block: &Block<'_, i8>) -> bool
+    ensures { result ≡ part_has_zero block.now }
 {
     for r in block.top..block.bottom {
-        if row_has_zero(&m[r * n + block.left..r * n + block.right]) {
+        if row_has_zero(block.row(r)) {
             return true;
         }
     }
@@ -34,8 +32,8 @@ impl Averaged for i8 {
 
     ghost local = { flag-local };
 
-    fn block_value(m: &[i8], n: usize, block: Block) -> Option<i8> {
-        if block_has_zero(m, n, block) {
+    fn block_value(block: &Block<'_, i8>) -> Option<i8> {
+        if block_has_zero(block) {
             return Some(0);
         }
         None

@@ -4,7 +4,7 @@ ghost use Rattle.list_laws.specs.Matrix.{Replaced, InBlock};
 ghost use Rattle.degenerate_sets.specs.Blocks.{degenerate_set, sets_of, product};
 ghost use Rattle.degenerate_sets.specs.Turns.{on_block, in_turn};
 ghost use Rattle.degenerate_sets.specs.Averages.{blocks_in_turn, points_by};
-ghost use Rattle.averaging_walk.specs.Parts.{LiesIn, part_of};
+ghost use Rattle.averaging_walk.specs.Parts.{IsSamePlace, part_of};
 
 use crate::kernel::block::{Averaged, Block};
 use degenerate_sets::kernel::sets::sets_of;
@@ -19,25 +19,29 @@ fn fill_row<E: Averaged>(row: &mut [E], value: E)
     }
 }
 
-// Stores a value at each entry of a block.
-fn fill_block<E: Averaged>(m: &mut [E], n: usize, block: Block, value: E)
-    requires m_len { (length m.old ≡ n * n) × (n ≤ 64) }
-    requires block_in { LiesIn n block }
-    ensures { Replaced E.past_end n (InBlock (part_of block)) (λ r c. value) m.old m.new }
-{
-    for r in block.top..block.bottom {
-        fill_row(&mut m[r * n + block.left..r * n + block.right], value);
+impl<'a, E: Averaged> Block<'a, E> {
+    // Stores a value at each entry.
+    fn fill(&mut self, value: E)
+        ensures place { IsSamePlace self.old self.new }
+        ensures content { Replaced E.past_end self.old.n (InBlock (part_of self.old)) (λ r c. value) self.old.matrix.now self.new.matrix.now }
+    {
+        for r in self.top..self.bottom {
+            let start = r * self.n;
+            fill_row(
+                &mut self.matrix[start + self.left..start + self.right],
+                value,
+            );
+        }
     }
-}
 
-// Averages one block.
-fn average_block<E: Averaged>(m: &mut [E], n: usize, block: Block)
-    requires m_len { (length m.old ≡ n * n) × (n ≤ 64) }
-    requires block_in { LiesIn n block }
-    ensures { m.new ≡ on_block n (E.rule n) m.old (part_of block) }
-{
-    if let Some(value) = E::block_value(m, n, block) {
-        fill_block(m, n, block, value);
+    // Averages the block.
+    fn average(&mut self)
+        ensures place { IsSamePlace self.old self.new }
+        ensures content { self.new.matrix.now ≡ on_block self.old.n (E.rule self.old.n) self.old.matrix.now (part_of self.old) }
+    {
+        if let Some(value) = E::block_value(self) {
+            self.fill(value);
+        }
     }
 }
 
@@ -49,13 +53,15 @@ fn average_rows<E: Averaged>(m: &mut [E], ids2: &[i64], rows: &Range<usize>)
         ≡ in_turn n (E.rule n) (map (product (degenerate_set rows.now.start rows.now.end)) (sets_of n ids2.now)) m.old }
 {
     for columns in sets_of(ids2) {
-        let block = Block {
+        let mut block = Block {
+            matrix: &mut *m,
+            n: ids2.len(),
             top: rows.start,
             bottom: rows.end,
             left: columns.start,
             right: columns.end,
         };
-        average_block(m, ids2.len(), block);
+        block.average();
     }
 }
 
@@ -70,7 +76,8 @@ fn average_matrix<E: Averaged>(m: &mut [E], ids1: &[i64], ids2: &[i64])
     }
 }
 
-// Averages each of `points` matrices of bands by bands, over the blocks of two id lists.
+// Averages each of `points` matrices of bands by bands, over the blocks of two id lists. Parts by their index: behind a chunk that is lent, a proof
+// knows its length alone.
 pub fn average_points<E: Averaged>(
     m: &mut [E],
     ids1: &[i64],

@@ -1,10 +1,10 @@
 // Weights: the mean of each block of more than one entry.
-ghost use Rattle.std.specs.Prelude.{◌≡◌, ◌*◌, ◌≤◌, length};
+ghost use Rattle.std.specs.Prelude.{◌≡◌, length};
 ghost use Rattle.std.specs.Float.{nan};
 ghost use Rattle.ieee_laws.specs.Zeros.{plus_zero};
 ghost use Rattle.averaging_blocks.specs.Weights.{row_sum, averaged_in};
 ghost use Rattle.averaging_blocks.proofs.WeightLaws.{averaged-local};
-ghost use Rattle.averaging_walk.specs.Parts.{LiesIn, part_of, part_sum};
+ghost use Rattle.averaging_walk.specs.Parts.{part_sum};
 
 use crate::kernel::block::{Averaged, Block};
 
@@ -20,14 +20,12 @@ fn row_sum(row: &[f64]) -> f64
 }
 
 // The sum of the row sums of a block.
-fn block_sum(m: &[f64], n: usize, block: Block) -> f64
-    requires m_len { (length m.now ≡ n * n) × (n ≤ 64) }
-    requires block_in { LiesIn n block }
-    ensures { result ≡ part_sum n block m.now }
+fn block_sum(block: &Block<'_, f64>) -> f64
+    ensures { result ≡ part_sum block.now }
 {
     let mut sum = 0.0;
     for r in block.top..block.bottom {
-        sum = sum + row_sum(&m[r * n + block.left..r * n + block.right]);
+        sum = sum + row_sum(block.row(r));
     }
     sum
 }
@@ -39,10 +37,10 @@ impl Averaged for f64 {
 
     ghost local = { averaged-local plus_zero };
 
-    fn block_value(m: &[f64], n: usize, block: Block) -> Option<f64> {
+    fn block_value(block: &Block<'_, f64>) -> Option<f64> {
         let count = (block.bottom - block.top) * (block.right - block.left);
         if 1 < count {
-            return Some(block_sum(m, n, block) / (count as f64));
+            return Some(block_sum(block) / (count as f64));
         }
         None
     }

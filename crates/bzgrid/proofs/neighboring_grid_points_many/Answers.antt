@@ -24,6 +24,10 @@ others s = steps_questions s.args.relative_grid_address.now s.args.grid_points.n
 later : (s : Start) → first_no (grids s) ≡ 0 → first_no (grids s ++ others s) ≡ first_no (others s)
 later s z = group-yes (grids s) (others s) (grid-numbered s.args.grid.bz_grid_type s.args.grid.d_diag s.args.grid.addresses.now s.args.grid.gp_map.now) z
 
+-- those questions, once they are answered yes
+asked : (s : Start) → first_no (others s) ≡ 0 → AllYes (others s)
+asked s z = all_yes (others s) (omega arith, (omega arith, (omega arith, (omega arith, tt)))) z
+
 pub returns-in_err-ask_grid : goal.returns-in_err-ask_grid
 returns-in_err-ask_grid c =
     let s : _ = (goal.at.returns-in_err-ask_grid c).Start in
@@ -43,15 +47,13 @@ returns-in_err-ask_points c =
 pub fill_many-requires : goal.fill_many-requires
 fill_many-requires c =
     let s : _ = (goal.at.fill_many-requires c).Start in
-    let no : first_no (others s) ≡ 0 = (given-is _ _ tt (rw (c.in_ok-ask_points.was) at c.ask_points.ensures)).0 in
-    let y : AllYes (others s) = all_yes (others s) (omega arith, (omega arith, (omega arith, (omega arith, tt)))) no in
+    let y : AllYes (others s) = asked s (given-is _ _ tt (rw c.in_ok-ask_points.was at c.ask_points.ensures)).0 in
     rw c.new-tested.ensures.1.0 (y.1.1.0, product-yes (length c.args.grid_points.now) (triples_in c.args.relative_grid_address.now) (length c.args.out.now) y.1.1.1.0)
 
 pub invariant_of-steps : goal.invariant_of-steps
 invariant_of-steps c =
     let s : _ = (goal.at.invariant_of-steps c).Start in
-    let no : first_no (others s) ≡ 0 = (given-is _ _ tt (rw (c.in_ok-ask_points.was) at c.ask_points.ensures)).0 in
-    let y : AllYes (others s) = all_yes (others s) (omega arith, (omega arith, (omega arith, (omega arith, tt)))) no in
+    let y : AllYes (others s) = asked s (given-is _ _ tt (rw c.in_ok-ask_points.was at c.ask_points.ensures)).0 in
     record { tested = steps-triples c.args.relative_grid_address.now y.0 }
 
 pub returns : goal.returns

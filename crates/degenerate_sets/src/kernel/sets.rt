@@ -1,4 +1,5 @@
-// Degenerate sets of an id list, walked with no list of sets.
+// Degenerate sets of an id list, walked with no list of sets. That ids are 64 at most bounds the products of a matrix: a clause where that is needed,
+// since a type of short lists would be made anew in each caller.
 ghost use Rattle.std.specs.Prelude.{◌≡◌, ◌≤◌, ◌<◌, ◌-◌, length};
 ghost use Rattle.std.specs.Iterator.{at_most};
 ghost use Rattle.degenerate_sets.specs.Sets.{starts_at, end_of};

@@ -12,7 +12,7 @@ use Rattle.ask.specs.Ask.{first_no}
 use Rattle.grgrid.proofs.IndexLaws.{index-lt}
 use Rattle.grgrid.specs.Index.{address_of}
 use Rattle.list_laws.specs.Lists.{at}
-use Rattle.list_laws.proofs.BoolLaws.{no_of, yes_of}
+use Rattle.list_laws.proofs.BoolLaws.{yes_of}
 use Rattle.question_grids.proofs.GridLaws.{mesh-within}
 use Rattle.std.specs.declared.result.Result.TheVariants.{Ok}
 use Rattle.grgrid.proofs.grid_index_from_address.Goals as goal
@@ -21,16 +21,6 @@ use Rattle.grgrid.proofs.grid_index_from_address.Goals as goal
 same-address : (a : Address) (l : List ℤ) → (a.x ≡ at l 0) × ((a.y ≡ at l 1) × (a.z ≡ at l 2)) → a ≡ address_of l
 unfolding address_of
 same-address a l e = λ i. record { x = e.0 i; y = e.1.0 i; z = e.1.1 i }
-
-pub returns-then-not-mesh_ok : goal.returns-then-not-mesh_ok
-unfolding first_no
-returns-then-not-mesh_ok c =
-    rw (no_of c.mesh_ok.ensures c.if-not-mesh_ok.true)
-
-pub grid_index-index-requires : goal.grid_index-index-requires
-grid_index-index-requires c =
-    let w : _ = mesh-within 256 c.args.d_diag (yes_of c.mesh_ok.ensures c.if-not-mesh_ok.false) in
-    rw c.mesh_of-mesh.ensures w
 
 pub overflow_cast-result : goal.overflow_cast-result
 overflow_cast-result c =

@@ -4,12 +4,10 @@ ghost use Rattle.std.specs.Float.{nan};
 ghost use Rattle.list_laws.specs.Columns.{InColumn};
 ghost use Rattle.list_laws.specs.Matrix.{Replaced};
 ghost use Rattle.listing_line.specs.Lines.{weight_here};
-ghost use Rattle.listing_read.specs.Forms.{IsForm};
 ghost use Rattle.listing_read.specs.Restored.{is_listing, weights_in, flags_in};
 
-use crate::Form;
-use crate::kernel::next_place;
-use listing_line::Place;
+use crate::kernel::tested::TestedForm;
+use crate::kernel::{FIRST, next_place};
 use listing_line::kernel::{flag_at, pass_numbers, weight_at};
 use reading::kernel::Reader;
 
@@ -33,21 +31,18 @@ fn restore_weights(
 }
 
 // Restores the weights and flags of a listing.
-pub fn restore(text: &[u8], form: Form, weights: &mut [f64], flags: &mut [i8])
-    requires counts { IsForm form × (length flags.old < 1099511627776) × (length weights.old ≡ form.channels * length flags.old) }
-    requires text_value { is_listing form.points form.bands1 form.bands2 form.channels (length flags.old) text.now ≡ true }
-    ensures weights_after { weights.new ≡ weights_in form.points form.bands1 form.bands2 form.channels (length flags.old) text.now }
-    ensures flags_after { flags.new ≡ flags_in form.points form.bands1 form.bands2 form.channels (length flags.old) text.now }
+#[tactic(auto, using(crate::proofs::RestoredLaws::place_laws), unfolding(crate::specs::Restored::weights_in, crate::specs::Restored::flags_in))]
+pub fn restore(text: &[u8], tested: TestedForm, weights: &mut [f64], flags: &mut [i8])
+    requires counts { (length flags.old < 1099511627776) × (length weights.old ≡ tested.form.channels * length flags.old) }
+    requires text_value { is_listing tested.form.points tested.form.bands1 tested.form.bands2 tested.form.channels (length flags.old) text.now ≡ true }
+    ensures weights_after { weights.new ≡ weights_in tested.form.points tested.form.bands1 tested.form.bands2 tested.form.channels (length flags.old) text.now }
+    ensures flags_after { flags.new ≡ flags_in tested.form.points tested.form.bands1 tested.form.bands2 tested.form.channels (length flags.old) text.now }
 {
+    let form = tested.form;
     let cells = flags.len();
     let mut reader = Reader::new(text);
     reader.skip(27);
-    let mut place = Place {
-        triplet: 0,
-        point: 0,
-        b1: 0,
-        b2: 0,
-    };
+    let mut place = FIRST;
     for e in 0..cells {
         // they stand there, as the text passed question 22
         pass_numbers(&mut reader, place);

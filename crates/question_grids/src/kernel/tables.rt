@@ -3,6 +3,7 @@ ghost use Rattle.std.specs.Prelude.{◌≡◌};
 ghost use Rattle.question_grids.specs.Tables.{is_table};
 
 // Question 7, of a flat table: four corners of three numbers to a row.
+#[tactic(auto, unfolding(crate::specs::Tables::is_table))]
 pub fn table_ok(relative_grid_address: &[i64]) -> bool
     ensures { result ≡ is_table relative_grid_address.now }
 {

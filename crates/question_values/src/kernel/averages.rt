@@ -5,7 +5,7 @@ ghost use Rattle.question_values.specs.Averages.{is_degenerate_id, are_degenerat
 
 use numbers::kernel;
 
-// Whether the id at k is k or the id before it.
+// Whether the id at k is k or the id before it: the place is part of the test, and the first has no id before it.
 fn id_ok(ids: &[i64], k: usize) -> bool
     requires { k < length ids.now }
     ensures { result ≡ is_degenerate_id ids.now k }
@@ -17,6 +17,7 @@ fn id_ok(ids: &[i64], k: usize) -> bool
 }
 
 // Question 17, of one list.
+#[tactic(auto, unfolding(crate::specs::Averages::are_degenerate_ids))]
 pub fn degenerate_ids_ok(bands: usize, ids: &[i64]) -> bool
     ensures { result ≡ are_degenerate_ids bands ids.now }
 {
@@ -31,6 +32,7 @@ fn is_negative_zero(x: f64) -> bool
 }
 
 // Question 19, of one weight.
+#[tactic(auto, unfolding(crate::specs::Averages::is_weight))]
 fn weight_ok(x: f64) -> bool
     ensures { result ≡ is_weight x }
 {

@@ -5,6 +5,7 @@ ghost use Rattle.question_values.specs.Counts.{is_band_count, is_point_count, is
 use numbers::kernel;
 
 // Question 9, of a band count.
+#[tactic(auto, unfolding(crate::specs::Counts::is_band_count))]
 pub fn band_count_ok(num_band: i64) -> bool
     ensures { result ≡ is_band_count num_band }
 {
@@ -26,6 +27,7 @@ pub fn triplet_count_ok(n: usize) -> bool
 }
 
 // Question 9, of all its counts: the last two are lengths.
+#[tactic(auto, unfolding(crate::specs::Counts::are_counts))]
 pub fn counts_ok(num_band1: i64, num_band2: i64, points: usize, many: usize) -> bool
     ensures { result ≡ are_counts num_band1 num_band2 (pos points) (pos many) }
 {
@@ -45,6 +47,7 @@ pub fn signed_counts_ok(num_band1: i64, num_band2: i64, points: i64, many: i64) 
 }
 
 // Question 12: `total` is `count` times `size`. The product itself could be too large.
+#[tactic(auto, using(list_laws::proofs::ProductLaws::product_is), unfolding(crate::specs::Counts::is_product))]
 pub fn length_ok(count: usize, size: usize, total: usize) -> bool
     requires { 0 < size }
     ensures { result ≡ is_product count size total }

@@ -12,10 +12,14 @@ const LEAST_POINT: f64 = 2.0902722826084166e-199;
 
 const GREATEST_POINT: f64 = 2147483648.0;
 
-// Zero, or of a magnitude from low to high.
+// Zero, or of a magnitude from low to high. Most values are above zero: those are compared as they are.
+#[tactic(auto, using(crate::proofs::FrequencyLaws::above_zero))]
 pub fn in_range(low: f64, high: f64, x: f64) -> bool
     ensures { result ≡ in_range low high x }
 {
+    if 0.0 < x {
+        return (low <= x) & (x <= high);
+    }
     let magnitude = numbers::kernel::abs(x);
     (x == 0.0) | ((low <= magnitude) & (magnitude <= high))
 }

@@ -5,6 +5,7 @@ ghost use Rattle.questions.specs.Irreducible.{is_irreducible_map, are_irreducibl
 use numbers::kernel;
 
 // "P map values 0 to R-1".
+#[tactic(auto, unfolding(crate::specs::Irreducible::is_irreducible_map))]
 fn irreducible_map_ok(p: usize, r: usize, gp2irgp_map: &[i64]) -> bool
     ensures { result ≡ is_irreducible_map p r gp2irgp_map.now }
 {
@@ -12,6 +13,7 @@ fn irreducible_map_ok(p: usize, r: usize, gp2irgp_map: &[i64]) -> bool
 }
 
 // Question 11, of R, the frequencies and the map.
+#[tactic(auto, unfolding(crate::specs::Irreducible::are_irreducible))]
 pub fn irreducible_ok(
     num_ir: i64,
     bands: usize,

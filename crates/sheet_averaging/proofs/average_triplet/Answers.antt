@@ -17,14 +17,14 @@ start s = sheet s.args.sheet.now.weights.now s.args.sheet.now.flags.now s.args.s
 
 pub returns-in_err-tested-clause-did : goal.returns-in_err-tested-clause-did
 returns-in_err-tested-clause-did c =
-    let told : _ = rw c.in_err-tested.was at c.ask_common.ensures.asked in
+    let told : _ = rw (c.marks.ensures, c.in_err-tested.was) at c.ask_common.ensures.asked in
     let p = err_from_is_err_and c.from_residual.result c.from_residual.ensures.1 in
     rw (p.1, p.2) (common-refused (study_of c.args.study) (start (goal.at.returns-in_err-tested-clause-did c).Start) (average c.args.triplet c.args.degenerate_ids1.now c.args.degenerate_ids2.now) _ told)
 
 pub average_asked-requires : goal.average_asked-requires
 average_asked-requires c =
     let same : c.in_ok-tested.tested.study ≡ c.args.study = rw c.in_ok-tested.was at c.ask_common.ensures.same in
-    let told : _ = rw c.in_ok-tested.was at c.ask_common.ensures.asked in
+    let told : _ = rw (c.marks.ensures, c.in_ok-tested.was) at c.ask_common.ensures.asked in
     let yes : _ = tested-yes c.in_ok-tested.tested same (start (goal.at.average_asked-requires c).Start) (given-is _ _ tt told).0 in
     yes
 

@@ -1,16 +1,11 @@
 -- `sheet_carry::carry_on` meets its contract.
-use lib.ListN.{length}
-use mathlib.Core.Path.{◌≡◌, sym, ap, ◌∙◌}
-use mir.Syntax.{w64}
-use mir.ValLaws.{to_z-of_z}
-use native.Mathlib.Omega.{arith}
+use mathlib.Core.Path.{◌≡◌}
 use Rattle.std.proofs.lemmas.Result.{err_from_is_err_and}
 use Rattle.ask.proofs.RefusalLaws.{given-is}
-use Rattle.sheet_step.proofs.EntryLaws.{tested-did, tested-steps, tested-yes}
-use Rattle.sheet_step.proofs.StepLaws.{common-refused, done-did}
+use Rattle.sheet_step.proofs.EntryLaws.{tested-yes}
+use Rattle.sheet_step.proofs.StepLaws.{common-refused}
 use Rattle.triplet_study.specs.Lent.{study_of}
 use Rattle.sheet_step.specs.Steps.{Sheet, sheet, carry}
-use Rattle.triplet_corners.proofs.CornerLaws.{second-length, second-lent}
 use Rattle.sheet_carry.proofs.carry_on.Goals.{Start}
 use Rattle.sheet_carry.proofs.carry_on.Goals as goal
 
@@ -20,35 +15,13 @@ start s = sheet s.args.sheet.now.weights.now s.args.sheet.now.flags.now s.args.s
 
 pub returns-in_err-tested-clause-did : goal.returns-in_err-tested-clause-did
 returns-in_err-tested-clause-did c =
-    let told : _ = rw c.in_err-tested.was at c.ask_common.ensures.asked in
+    let told : _ = rw (c.marks.ensures, c.in_err-tested.was) at c.ask_common.ensures.asked in
     let p = err_from_is_err_and c.from_residual.result c.from_residual.ensures.1 in
     rw (p.1, p.2) (common-refused (study_of c.args.study) (start (goal.at.returns-in_err-tested-clause-did c).Start) (carry c.args.worker) _ told)
 
-pub slice_bounds-second-end : goal.slice_bounds-second-end
-slice_bounds-second-end c =
-    omega (arith, (tested-steps c.in_ok-tested.tested).0)
-
-pub slice_bounds-prepared-end : goal.slice_bounds-prepared-end
-slice_bounds-prepared-end c =
-    sym (ap length (second-lent c.in_ok-tested.tested.sizes.tp c.in_ok-tested.tested.study.relative_grid_address.now c.second_steps-second.result (rw c.steps.ensures at c.second_steps-second.ensures)) ∙ second-length c.in_ok-tested.tested.sizes.tp c.in_ok-tested.tested.study.relative_grid_address.now)
-
-pub invariant_of-prepared : goal.invariant_of-prepared
-invariant_of-prepared c =
-    record { copy = second-lent c.in_ok-tested.tested.sizes.tp c.in_ok-tested.tested.study.relative_grid_address.now c.second_steps-second.result (rw c.steps.ensures at c.second_steps-second.ensures) }
-
-pub carry_asked-requires-clause-common : goal.carry_asked-requires-clause-common
-carry_asked-requires-clause-common c =
+pub carry_asked-requires : goal.carry_asked-requires
+carry_asked-requires c =
     let same : c.in_ok-tested.tested.study ≡ c.args.study = rw c.in_ok-tested.was at c.ask_common.ensures.same in
-    let told : _ = rw c.in_ok-tested.was at c.ask_common.ensures.asked in
-    let yes : _ = tested-yes c.in_ok-tested.tested same (start (goal.at.carry_asked-requires-clause-common c).Start) (given-is _ _ tt told).0 in
-    yes
-
-pub carry_asked-requires-clause-kept : goal.carry_asked-requires-clause-kept
-carry_asked-requires-clause-kept c =
-    c.new-work.ensures _ _ (omega arith)
-
-pub returns-clause-did : goal.returns-clause-did
-returns-clause-did c =
-    let same : c.in_ok-tested.tested.study ≡ c.args.study = rw c.in_ok-tested.was at c.ask_common.ensures.same in
-    let did : _ = rw (to_z-of_z w64 c.args.worker c.ranges.worker) at c.carry_asked.ensures.did in
-    tested-did c.in_ok-tested.tested same (start (goal.at.returns-clause-did c).Start) did
+    let told : _ = rw (c.marks.ensures, c.in_ok-tested.was) at c.ask_common.ensures.asked in
+    let yes : _ = tested-yes c.in_ok-tested.tested same (start (goal.at.carry_asked-requires c).Start) (given-is _ _ tt told).0 in
+    record { common = rw (c.new-work.ensures, c.new-prepared.ensures) yes }

@@ -1,4 +1,5 @@
 -- `sheet_list::play` meets its contract.
+use borrow.Author.Rules.{rules}
 use lib.ListN.{length}
 use Rattle.std.proofs.lemmas.Result.{err_from_is_err_and}
 use Rattle.ask.proofs.RefusalLaws.{given-is}
@@ -18,12 +19,13 @@ returns-in_err-ask_list-clause-did c =
     let p = err_from_is_err_and c.from_residual.result c.from_residual.ensures.1 in
     rw (p.1, p.2) (play-refused (study_of c.args.study) (start (goal.at.returns-in_err-ask_list-clause-did c).Start) (calls_of c.args.calls.list.now c.args.calls.ids.now) _ c.args.answers.now c.args.tallies.now _ told)
 
-pub play_all-requires : goal.play_all-requires
-play_all-requires c =
+pub invariant_of-list : goal.invariant_of-list
+invariant_of-list c =
     let told : _ = rw c.in_ok-ask_list.was at c.ask_list.ensures in
-    list-yes (length c.args.calls.list.now) (length c.args.answers.now) (length c.args.tallies.now) (given-is _ _ tt told).0
+    let yes = list-yes (length c.args.calls.list.now) (length c.args.answers.now) (length c.args.tallies.now) (given-is _ _ tt told).0 in
+    record { room = record { listed = yes.0; told = yes.1 } }
 
 pub returns-clause-did : goal.returns-clause-did
 returns-clause-did c =
     let told : _ = rw c.in_ok-ask_list.was at c.ask_list.ensures in
-    play-done (study_of c.args.study) (start (goal.at.returns-clause-did c).Start) (calls_of c.args.calls.list.now c.args.calls.ids.now) _ c.args.answers.now c.args.tallies.now c.play_all.result _ _ _ _ _ (given-is _ _ tt told).0 c.play_all.ensures.played
+    play-done (study_of c.args.study) (start (goal.at.returns-clause-did c).Start) (calls_of c.args.calls.list.now c.args.calls.ids.now) _ c.args.answers.now c.args.tallies.now c.play_all.result _ _ _ _ _ (given-is _ _ tt told).0 c.play_all.ensures.played (search rules) (search rules)

@@ -1,4 +1,5 @@
-// What one row of four vertex values adds to a weight.
+// What one row of four vertex values adds to a weight. The hints put it into the loops over rows (tetrahedron_formulas says why). A row's place and its
+// values lie in two work areas: a struct of both would be made anew for each row.
 ghost use Rattle.std.specs.Prelude.{◌≡◌};
 ghost use Rattle.tetrahedron_method.specs.Weight.{or_zero, share_of, sorted_row_weight, row_weight};
 
@@ -16,6 +17,7 @@ fn or_zero(product: f64) -> f64
 
 // The weight of the vertex at a place in a tetrahedron with the sorted values v.
 #[tactic(auto, unfolding(crate::specs::Weight::share_of))]
+#[inline(always)]
 fn share(function: WeightFunction, place: usize, omega: f64, v: [f64; 4]) -> f64
     ensures { result ≡ share_of function omega v place }
 {
@@ -27,6 +29,7 @@ fn share(function: WeightFunction, place: usize, omega: f64, v: [f64; 4]) -> f64
 }
 
 // What a row with the sorted values v adds, the place of its first value known.
+#[inline(always)]
 pub fn sorted_row_weight(function: WeightFunction, place: usize, omega: f64, v: [f64; 4]) -> f64
     ensures { result ≡ sorted_row_weight function omega v place }
 {

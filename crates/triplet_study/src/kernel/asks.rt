@@ -10,6 +10,7 @@ use ask::Refusal;
 use numbers::kernel::magnitude;
 use question_grids::kernel::steps;
 use question_values::kernel::{counts, frequencies};
+use triplet_types::TpType;
 
 // Question 10: whole triplets, of grid points among `p`.
 fn triplets_ok(p: usize, triplets: &[i64]) -> bool
@@ -43,16 +44,13 @@ fn study_frequencies_ok(
         & frequencies::points_ok(frequency_points)
 }
 
-// Questions 8 to 11 of a study.
-pub fn ask_values(study: Study) -> Result<(), Refusal>
-    ensures { result ≡ answer_of (first_no (values_asked (study_of study.entry))) tt }
+// Questions 8 to 11 of a study's lists, on a grid of `p` addresses.
+pub fn ask_values(study: Study, p: usize) -> Result<(), Refusal>
+    ensures { result ≡ answer_of (first_no (values_asked p (study_of study.entry))) tt }
 {
     let num_band1 = study.shape.num_band1;
     let num_band2 = study.shape.num_band2;
-    let p = study.addresses.len() / 3;
-    if !question_values::kernel::tp_type::tp_type_ok(study.shape.tp_type) {
-        return Err(Refusal::TpType);
-    }
+    TpType::try_from(study.shape.tp_type)?;
     let count = (study.triplets.len() + 2) / 3;
     if !counts::counts_ok(num_band1, num_band2, study.frequency_points.len(), count) {
         return Err(Refusal::Counts);

@@ -4,7 +4,7 @@ use lib.ListN.{length, take}
 use lib.Seq.{length-take-le}
 use mathlib.Core.Path.{◌≡◌, sym}
 use native.Mathlib.Omega.{arith}
-use Rattle.answer_weights.proofs.ReadyLaws.{few-made, further, may-list}
+use Rattle.answer_weights.proofs.ReadyLaws.{few-made, may-list, passed}
 use Rattle.triplet_study.specs.Lent.{study_of}
 use Rattle.answer_weights.proofs.kernel.put_study.Goals.{After-flag_buffer-flags, After-sizes_of_passed-sizes, After-weight_buffer-weights}
 use Rattle.answer_weights.proofs.kernel.put_study.Goals as goal
@@ -23,11 +23,11 @@ flags-fit c = length-take-le _ c.flag_buffer-flags.result (omega (arith, (few-ma
 
 pub sizes_of_passed-sizes-requires : goal.sizes_of_passed-sizes-requires
 sizes_of_passed-sizes-requires c =
-    further (study_of c.args.study) c.requires.passed
+    passed (study_of c.args.study) c.requires.passed
 
-pub invariant_of-tested-clause-passed : goal.invariant_of-tested-clause-passed
-invariant_of-tested-clause-passed c =
-    further (study_of c.args.study) c.requires.passed
+pub invariant_of-tested-clause-told : goal.invariant_of-tested-clause-told
+invariant_of-tested-clause-told c =
+    passed (study_of c.args.study) c.requires.passed
 
 pub overflow_mul-n : goal.overflow_mul-n
 overflow_mul-n c =

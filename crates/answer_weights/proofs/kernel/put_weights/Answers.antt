@@ -10,12 +10,12 @@ pub fill_tested-requires : goal.fill_tested-requires
 fill_tested-requires c =
     lengths-yes c.args.tested.now.sizes (length c.args.weights.now) (length c.args.flags.now) c.requires.0.fits.weighed c.requires.0.fits.flagged
 
-pub put_listing-requires-clause-counts : goal.put_listing-requires-clause-counts
-put_listing-requires-clause-counts c =
-    listable c.requires.0 _ _ c.fill_tested.ensures.0 c.fill_tested.ensures.1
+pub invariant_of-sheet : goal.invariant_of-sheet
+invariant_of-sheet c =
+    record { listable = listable c.requires.0 _ _ c.fill_tested.ensures.0 c.fill_tested.ensures.1 }
 
-pub put_listing-requires-clause-room : goal.put_listing-requires-clause-room
-put_listing-requires-clause-room c =
+pub put_listing-requires : goal.put_listing-requires
+put_listing-requires c =
     omega (arith, c.requires.1, c.new-writer.ensures.front, ap length c.new-writer.ensures.content, ap length (listed c.requires.0 _ _ c.fill_tested.ensures.0 c.fill_tested.ensures.1))
 
 pub returns : goal.returns

@@ -1,7 +1,6 @@
 -- `bzgrid_lookup::kernel::dense_neighbour` meets its contract.
 use Prim.Native.Nat.{◌+◌, ◌<◌, ℕ}
 use native.Mathlib.Omega.{arith}
-use Rattle.bzgrid_lookup.specs.Neighbours.{dense_neighbour}
 use Rattle.numbers.proofs.MeshLaws.{count-le}
 use Rattle.numbers.specs.Mesh.{count_of}
 use Rattle.grgrid.proofs.IndexLaws.{index-lt}
@@ -11,27 +10,15 @@ use Rattle.bzgrid_lookup.proofs.kernel.dense_neighbour.Goals as goal
 
 pub magnitude_at-lo-requires : goal.magnitude_at-lo-requires
 magnitude_at-lo-requires c =
-    let n : ℕ = count_of c.args.m in
-    let p : ℕ = triples_in c.args.addresses.now in
-    let g : ℕ = c.grid_index-g.result in
-    let l : g < n = rw c.grid_index-g.ensures (index-lt c.requires.0 c.args.w) in
-    omega (arith, dense-length n p c.args.gp_map.now c.requires.1)
+    omega (arith, c.grid_index-g.ensures, index-lt c.requires.0 c.args.w, dense-length _ _ _ c.requires.1)
 
 pub overflow_add-g : goal.overflow_add-g
 overflow_add-g c =
-    let n : ℕ = count_of c.args.m in
-    let p : ℕ = triples_in c.args.addresses.now in
-    let g : ℕ = c.grid_index-g.result in
-    let l : g < n = rw c.grid_index-g.ensures (index-lt c.requires.0 c.args.w) in
-    omega (arith, count-le c.requires.0)
+    omega (arith, c.grid_index-g.ensures, index-lt c.requires.0 c.args.w, count-le c.requires.0)
 
 pub magnitude_at-hi-requires : goal.magnitude_at-hi-requires
 magnitude_at-hi-requires c =
-    let n : ℕ = count_of c.args.m in
-    let p : ℕ = triples_in c.args.addresses.now in
-    let g : ℕ = c.grid_index-g.result in
-    let l : g < n = rw c.grid_index-g.ensures (index-lt c.requires.0 c.args.w) in
-    omega (arith, dense-length n p c.args.gp_map.now c.requires.1)
+    omega (arith, c.grid_index-g.ensures, index-lt c.requires.0 c.args.w, dense-length _ _ _ c.requires.1)
 
 pub in_group-requires : goal.in_group-requires
 in_group-requires c =
@@ -40,8 +27,3 @@ in_group-requires c =
     let g : ℕ = c.grid_index-g.result in
     let l : g < n = rw c.grid_index-g.ensures (index-lt c.requires.0 c.args.w) in
     omega (arith, c.magnitude_at-lo.ensures, c.magnitude_at-hi.ensures, dense-step n p c.args.gp_map.now c.requires.1 g l, dense-top n p c.args.gp_map.now c.requires.1 (g + 1) (omega arith))
-
-pub returns : goal.returns
-unfolding dense_neighbour
-returns c =
-    rw (c.in_group.ensures, c.magnitude_at-lo.ensures, c.magnitude_at-hi.ensures, c.grid_index-g.ensures)

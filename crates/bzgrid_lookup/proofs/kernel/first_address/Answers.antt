@@ -1,17 +1,21 @@
 -- `bzgrid_lookup::kernel::first_address` meets its contract.
-use mathlib.Core.Path.{◌∙◌, sym}
-use native.Mathlib.Omega.{arith}
-use Rattle.list_laws.proofs.FirstLaws.{first-end, first-hit, first-miss}
+use borrow.Author.Tests.{tests}
+use mathlib.Core.Path.{◌≡◌, ◌∙◌, ap, refl, sym}
+use Prim.Native.Nat.{ℕ, ◌-◌}
+use Rattle.std.proofs.Common.{rules}
+use Rattle.std.proofs.lemmas.Iterator.{YieldsList-from_range}
+use Rattle.std.proofs.lemmas.Iterator.Adapters.{option_map_id}
+use Rattle.std.proofs.lemmas.Iterator.Search.{find_from_yields_List}
+use Rattle.std.specs.List.{find, range_with_len}
+use Rattle.std.specs.Option.{option_map, unwrap_or}
+use Rattle.std.specs.declared.option.Option.{Option}
+use Rattle.list_laws.proofs.FirstLaws.{find-first}
+use Rattle.bzgrid_lookup.specs.Neighbours.{is_address}
 use Rattle.bzgrid_lookup.proofs.kernel.first_address.Goals as goal
 
-pub loop-k-preserved : goal.loop-k-preserved
-loop-k-preserved c =
-    (c.loop-k.invariant.0, c.loop-k.invariant.1 ∙ first-miss _ c.loop-k.k c.args.hi _ (omega arith) (sym c.same_address.ensures ∙ c.if-same_address.false))
-
-pub returns-after-loop-k : goal.returns-after-loop-k
-returns-after-loop-k c =
-    c.loop-k.invariant.0 ∙ sym (c.loop-k.invariant.1 ∙ first-end _ c.loop-k.k c.args.hi c.args.lo (omega arith))
-
-pub returns-then-same_address : goal.returns-then-same_address
-returns-then-same_address c =
-    sym (c.loop-k.invariant.1 ∙ first-hit _ c.loop-k.k c.args.hi c.args.lo (omega arith) (sym c.same_address.ensures ∙ c.if-same_address.true))
+pub returns : goal.returns
+returns c =
+    let test = is_address c.args.addresses.now c.args.w in
+    let f : option_map (λ (x : ℕ). x) c.find.result ≡ find test (range_with_len c.args.lo (c.args.hi - c.args.lo)) =
+    find_from_yields_List test _ _ c.find.result c.find.ensures.ran (YieldsList-from_range c.args.lo c.args.hi (c.args.hi - c.args.lo) refl refl) (λ x b q k. search (rules, tests)) in
+    c.unwrap_or.ensures ∙ ap (λ (r : Option ℕ). unwrap_or r c.args.lo) (sym (option_map_id c.find.result) ∙ f) ∙ find-first test c.args.lo (c.args.hi - c.args.lo) c.args.lo

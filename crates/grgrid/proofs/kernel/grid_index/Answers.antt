@@ -36,11 +36,3 @@ overflow_add-result-2 c =
     let e1 : _ = rw (to_z-of_z w64 c.args.a.y g) at c.remainder-r1.ensures in
     let e2 : _ = rw (to_z-of_z w64 c.args.a.z h) at c.remainder-r2.ensures in
     rw (e0, e1, e2) (omega (arith, index-lt c.requires c.args.a, count-le c.requires))
-
-pub returns : goal.returns
-unfolding grid_index
-returns c =
-    let f : SFits w64 c.args.a.x = search rules in
-    let g : SFits w64 c.args.a.y = search rules in
-    let h : SFits w64 c.args.a.z = search rules in
-    cc (to_z-of_z w64 c.args.a.x f, to_z-of_z w64 c.args.a.y g, to_z-of_z w64 c.args.a.z h)

@@ -3,24 +3,14 @@ use Prim.Native.Nat.{ℕ, ◌%◌, ◌/◌}
 use mathlib.Core.List.{List}
 use Rattle.listing.specs.Listings.{flag_at, front_of, line_of}
 use Rattle.listing.specs.Sheets.{weights_in}
-use Rattle.listing.specs.declared.kernel.Sheet.{Sheet}
-use Rattle.writing.proofs.WrittenLaws.{room-first, room-next, wrote-both}
+use Rattle.listing.specs.declared.kernel.sheet.Sheet.{Sheet}
+use Rattle.writing.proofs.WrittenLaws.{wrote-both}
 use Rattle.listing.proofs.kernel.put_line.Goals as goal
 
 -- the front of the line of an entry
 abbrev front : Sheet → ℕ → List ℕ
 front s e =
     front_of (e / s.bands2 / s.bands1 / s.points) (e / s.bands2 / s.bands1 % s.points) (e / s.bands2 % s.bands1) (e % s.bands2) (flag_at s.flags.now e)
-
-pub put_front-requires : goal.put_front-requires
-unfolding line_of
-put_front-requires c =
-    rw c.flag_at-flag.ensures (room-first (front c.args.sheet.now c.args.e) (weights_in c.args.sheet.now c.args.e) c.args.writer.now c.requires.room)
-
-pub put_weights-requires-clause-room : goal.put_weights-requires-clause-room
-unfolding line_of
-put_weights-requires-clause-room c =
-    room-next (front c.args.sheet.now c.args.e) (weights_in c.args.sheet.now c.args.e) c.args.writer.now c.requires.room (rw c.flag_at-flag.ensures at c.put_front.ensures)
 
 pub returns : goal.returns
 unfolding line_of

@@ -6,12 +6,12 @@ use Rattle.listing.proofs.kernel.put_listing.Goals as goal
 
 pub put_slice-requires : goal.put_slice-requires
 unfolding listing_of header
-put_slice-requires c = room-first header (lines_in c.args.sheet.now) c.args.writer.now c.requires.room
+put_slice-requires c = room-first header (lines_in c.args.sheet.now) c.args.writer.now c.requires
 
-pub put_lines-requires-clause-room : goal.put_lines-requires-clause-room
+pub put_lines-requires : goal.put_lines-requires
 unfolding listing_of header
-put_lines-requires-clause-room c = room-next _ (lines_in c.args.sheet.now) c.args.writer.now c.requires.room c.put_slice.ensures
+put_lines-requires c = room-next _ (lines_in c.args.sheet.now) c.args.writer.now c.requires c.put_slice.ensures
 
 pub returns : goal.returns
 unfolding listing_of header
-returns c = wrote-both _ (lines_in c.args.sheet.now) c.args.writer.now c.requires.room c.put_slice.ensures c.put_lines.ensures
+returns c = wrote-both _ (lines_in c.args.sheet.now) c.args.writer.now c.requires c.put_slice.ensures c.put_lines.ensures

@@ -1,90 +1,67 @@
--- `listing_read::kernel::ask_listing` meets its contract: 8 and 9 first, then 12, then 22.
+-- `listing_read::kernel::ask_listing` meets its contract: 8 and 9 first, then 12 and 22.
 use borrow.Author.Tests.{eq-eqb, ne_eqb}
-use lib.IntN.{ℤ}
+use lib.Signed.{mag}
 use mathlib.Core.Bool.{true}
-use mathlib.Core.Path.{◌∙◌, ◌≡◌, ap}
+use mathlib.Core.Path.{◌≡◌, sym}
 use mir.Syntax.{w64}
 use mir.ValLaws.{to_z-of_z}
-use native.Mathlib.Omega.{arith}
 use Prim.Native.Nat.{◌*◌}
 use Rattle.list_laws.proofs.BoolLaws.{no_of, yes_of}
-use Rattle.ask.proofs.AskLaws.{all_yes, group-no}
-use Rattle.ask.proofs.RefusalLaws.{given-is, refused-is, refused-not}
+use Rattle.ask.proofs.RefusalLaws.{given-is}
 use Rattle.ask.specs.Ask.{first_no}
-use Rattle.ask.specs.Refusals.{answer_of}
-use Rattle.std.proofs.lemmas.Result.{err_from_is_err_and}
-use Rattle.question_values.specs.TpTypes.{is_tp_type}
-use Rattle.sheet_counts.proofs.SheetCountLaws.{all-cells-le, counts-low, counts-numbered, weights-le}
+use Rattle.question_values.specs.TpTypes.{channels_of, is_tp_type}
+use Rattle.triplet_types.specs.Types.{tp_type_of}
+use Rattle.triplet_types.proofs.TypeLaws.{channels-of-type}
+use Rattle.sheet_counts.proofs.SheetCountLaws.{both-yes}
 use Rattle.sheet_counts.specs.SheetCounts.{are_sheet_counts, count_questions, weight_count_of}
-use Rattle.listing_read.specs.Forms.{form_of}
 use Rattle.listing_read.specs.Reading.{is_listed}
-use Rattle.listing_read.specs.declared.Form.{Form}
-use Rattle.listing_read.proofs.kernel.ask_listing.Goals.{After-ask_counts, After-cells_of-cells, After-form_of-form, After-is_listing, In_ok-ask_counts}
+use Rattle.listing_read.proofs.kernel.ask_listing.Goals.{After-cells_of-cells, After-form_of, After-is_listing, In_ok-tp}
 use Rattle.listing_read.proofs.kernel.ask_listing.Goals as goal
 
-told-8-9 : (c : After-ask_counts) → c.ask_counts.result ≡ answer_of (first_no (count_questions c.args.tp_type c.args.counts)) tt
-told-8-9 c =
-    c.ask_counts.ensures ∙ ap (λ (t : ℤ). answer_of (first_no (count_questions t c.args.counts)) tt) (to_z-of_z w64 c.args.tp_type c.ranges.tp_type)
+told : (c : In_ok-tp) → (first_no (count_questions c.args.tp_type c.args.counts) ≡ 0) × (c.in_ok-tp.tp ≡ tp_type_of c.args.tp_type)
+told c = given-is _ _ _ (rw (to_z-of_z w64 c.args.tp_type c.ranges.tp_type, c.in_ok-tp.was) at c.ask_counts.ensures)
 
-yes-8-9 : (c : In_ok-ask_counts) → (is_tp_type c.args.tp_type ≡ true) × (are_sheet_counts c.args.counts ≡ true)
-yes-8-9 c =
-    let g : _ = rw c.in_ok-ask_counts.was at c.ask_counts.ensures in
-    let t : _ = rw (to_z-of_z w64 c.args.tp_type c.ranges.tp_type) at g in
-    let y = all_yes (count_questions c.args.tp_type c.args.counts) (counts-numbered c.args.tp_type c.args.counts) (given-is _ _ tt t).0 in
-    (y.0, y.1.0)
+yes : (c : In_ok-tp) → (is_tp_type c.args.tp_type ≡ true) × (are_sheet_counts c.args.counts ≡ true)
+yes c = both-yes c.args.tp_type c.args.counts (told c).0
 
 -- the counts that the code has are those of the type and counts
-form-is : (c : After-form_of-form) → c.form_of-form.result ≡ form_of c.args.tp_type c.args.counts
-form-is c = c.form_of-form.ensures ∙ ap (λ (t : ℤ). form_of t c.args.counts) (to_z-of_z w64 c.args.tp_type c.ranges.tp_type)
+form-is : (c : After-form_of) → c.form_of.result ≡ record { points = mag c.args.counts.num_band0; bands1 = mag c.args.counts.num_band1; bands2 = mag c.args.counts.num_band2; channels = channels_of c.args.tp_type }
+form-is c = rw ((told (goal.at.After-form_of c).In_ok-tp).1, sym (channels-of-type c.args.tp_type)) at c.form_of.ensures
 
-weights-are : (c : After-cells_of-cells) → c.form_of-form.result.channels * c.cells_of-cells.result ≡ weight_count_of c.args.tp_type c.args.counts
-weights-are c = rw (rw (to_z-of_z w64 c.args.tp_type c.ranges.tp_type) at c.form_of-form.ensures, c.cells_of-cells.ensures)
+weights-are : (c : After-cells_of-cells) → c.form_of.result.channels * c.cells_of-cells.result ≡ weight_count_of c.args.tp_type c.args.counts
+weights-are c = rw (form-is (goal.at.After-cells_of-cells c).After-form_of, c.cells_of-cells.ensures)
 
--- question 22, as the code asks it
-told-22 : (c : After-is_listing) → c.is_listing.result ≡ is_listed c.args.listing.now c.args.tp_type c.args.counts
+listed : (c : After-is_listing) → c.is_listing.result ≡ is_listed c.args.listing.now c.args.tp_type c.args.counts
 unfolding is_listed
-told-22 c = rw (rw (to_z-of_z w64 c.args.tp_type c.ranges.tp_type) at c.form_of-form.ensures, c.cells_of-cells.ensures) at c.is_listing.ensures
+listed c = rw (form-is (goal.at.After-is_listing c).After-form_of, c.cells_of-cells.ensures) at c.is_listing.ensures
 
-pub returns-in_err-ask_counts : goal.returns-in_err-ask_counts
-returns-in_err-ask_counts c =
-    let g : _ = rw c.in_err-ask_counts.was at (told-8-9 (goal.at.returns-in_err-ask_counts c).After-ask_counts) in
-    let p = err_from_is_err_and c.from_residual.result c.from_residual.ensures.1 in
-    rw (p.1, p.2) (refused-is _ _ _ tt tt g (group-no (count_questions c.args.tp_type c.args.counts) _ (refused-not _ _ tt g)))
-
-pub cells_of-cells-requires : goal.cells_of-cells-requires
-cells_of-cells-requires c = (yes-8-9 (goal.at.cells_of-cells-requires c).In_ok-ask_counts).1
-
-pub overflow_mul-form : goal.overflow_mul-form
-overflow_mul-form c =
-    rw (weights-are (goal.at.overflow_mul-form c).After-cells_of-cells) (omega (arith, weights-le c.args.counts (yes-8-9 (goal.at.overflow_mul-form c).In_ok-ask_counts).1 c.args.tp_type))
-
-pub returns-then-num_weights-form : goal.returns-then-num_weights-form
+pub returns-then-num_weights-tested : goal.returns-then-num_weights-tested
 unfolding first_no
-returns-then-num_weights-form c =
-    let y = yes-8-9 (goal.at.returns-then-num_weights-form c).In_ok-ask_counts in
-    rw (y.0, y.1, ne_eqb _ _ (rw (weights-are (goal.at.returns-then-num_weights-form c).After-cells_of-cells) at c.if-num_weights-form.true))
-
-pub returns-then-num_flags-cells : goal.returns-then-num_flags-cells
-unfolding first_no
-returns-then-num_flags-cells c =
-    let y = yes-8-9 (goal.at.returns-then-num_flags-cells c).In_ok-ask_counts in
-    rw (y.0, y.1, eq-eqb _ _ (rw (weights-are (goal.at.returns-then-num_flags-cells c).After-cells_of-cells) at c.if-num_weights-form.false), ne_eqb _ _ (rw c.cells_of-cells.ensures at c.if-num_flags-cells.true))
-
-pub is_listing-requires : goal.is_listing-requires
-is_listing-requires c =
-    let y = (yes-8-9 (goal.at.is_listing-requires c).In_ok-ask_counts).1 in
-    let h = counts-low c.args.counts y in
-    let e = form-is (goal.at.is_listing-requires c).After-form_of-form in
-    ((omega (arith, ap (λ (f : Form). f.points) e, h.0), omega (arith, ap (λ (f : Form). f.bands1) e, h.1), omega (arith, ap (λ (f : Form). f.bands2) e, h.2)), omega (arith, c.cells_of-cells.ensures, all-cells-le c.args.counts y))
+returns-then-num_weights-tested c =
+    let at = goal.at.returns-then-num_weights-tested c in
+    rw ((yes at.In_ok-tp).0, (yes at.In_ok-tp).1, ne_eqb _ _ (rw (weights-are at.After-cells_of-cells) at c.if-num_weights-tested.true))
 
 pub returns-then-not-is_listing : goal.returns-then-not-is_listing
 unfolding first_no
 returns-then-not-is_listing c =
-    let y = yes-8-9 (goal.at.returns-then-not-is_listing c).In_ok-ask_counts in
-    rw (y.0, y.1, eq-eqb _ _ (rw (weights-are (goal.at.returns-then-not-is_listing c).After-cells_of-cells) at c.if-num_weights-form.false), eq-eqb _ _ (rw c.cells_of-cells.ensures at c.if-num_flags-cells.false), no_of (told-22 (goal.at.returns-then-not-is_listing c).After-is_listing) c.if-not-is_listing.true)
+    let at = goal.at.returns-then-not-is_listing c in
+    rw (
+      (yes at.In_ok-tp).0,
+      (yes at.In_ok-tp).1,
+      eq-eqb _ _ (rw (weights-are at.After-cells_of-cells) at c.if-num_weights-tested.false),
+      eq-eqb _ _ (rw c.cells_of-cells.ensures at c.if-num_flags-cells.false),
+      no_of (listed at.After-is_listing) c.if-not-is_listing.true,
+    )
 
 pub returns : goal.returns
 unfolding first_no
 returns c =
-    let y = yes-8-9 (goal.at.returns c).In_ok-ask_counts in
-    rw (y.0, y.1, eq-eqb _ _ (rw (weights-are (goal.at.returns c).After-cells_of-cells) at c.if-num_weights-form.false), eq-eqb _ _ (rw c.cells_of-cells.ensures at c.if-num_flags-cells.false), yes_of (told-22 (goal.at.returns c).After-is_listing) c.if-not-is_listing.false)
+    let at = goal.at.returns c in
+    rw (
+      (yes at.In_ok-tp).0,
+      (yes at.In_ok-tp).1,
+      (told at.In_ok-tp).1,
+      eq-eqb _ _ (rw (weights-are at.After-cells_of-cells) at c.if-num_weights-tested.false),
+      eq-eqb _ _ (rw c.cells_of-cells.ensures at c.if-num_flags-cells.false),
+      yes_of (listed at.After-is_listing) c.if-not-is_listing.false,
+    )

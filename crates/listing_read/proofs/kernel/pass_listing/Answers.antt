@@ -4,7 +4,7 @@ use mathlib.Core.Path.{◌∙◌, ◌≡◌, ap, refl, sym}
 use native.Mathlib.Omega.{arith}
 use Rattle.listing.specs.Listings.{header}
 use Rattle.listing_read.specs.Restored.{next_place}
-use Rattle.listing_read.proofs.RestoredLaws.{first-place, judged-first, judged-lost, judged-next, listed-is, next_place_lem, place-bounds, place-low}
+use Rattle.listing_read.proofs.RestoredLaws.{first-place, judged-first, judged-lost, judged-next, listed-is, next_place_lem}
 use Rattle.reading.proofs.ReaderLaws.{passes-as}
 use Rattle.listing_read.proofs.kernel.pass_listing.Goals as goal
 
@@ -12,38 +12,33 @@ pub returns-in_err-pass_slice : goal.returns-in_err-pass_slice
 unfolding header
 returns-in_err-pass_slice c =
     rw c.from_residual.ensures
-    (passes-as (sym (listed-is c.args.form.points c.args.form.bands1 c.args.form.bands2 c.args.form.channels c.args.cells c.args.reader.now.text.now))
-    (judged-lost c.args.form.points c.args.form.bands1 c.args.form.bands2 c.args.form.channels c.args.cells c.args.reader.now.text.now c.requires.0 refl 0 (omega arith)
-    (judged-first c.args.form.points c.args.form.bands1 c.args.form.bands2 c.args.form.channels c.args.cells c.args.reader.now.text.now c.requires.0 refl (rw c.in_err-pass_slice.was at c.pass_slice.ensures))))
+    (passes-as (sym (listed-is c.args.tested.form.points c.args.tested.form.bands1 c.args.tested.form.bands2 c.args.tested.form.channels c.args.cells c.args.reader.now.text.now))
+    (judged-lost c.args.tested.form.points c.args.tested.form.bands1 c.args.tested.form.bands2 c.args.tested.form.channels c.args.cells c.args.reader.now.text.now c.requires.0 refl 0 (omega arith)
+    (judged-first c.args.tested.form.points c.args.tested.form.bands1 c.args.tested.form.bands2 c.args.tested.form.channels c.args.cells c.args.reader.now.text.now c.requires.0 refl (rw c.in_err-pass_slice.was at c.pass_slice.ensures))))
 
 pub loop-entry-init : goal.loop-entry-init
 unfolding header
 loop-entry-init c = (
-  first-place c.args.form.points c.args.form.bands1 c.args.form.bands2 c.requires.1.0 c.requires.1.1 c.requires.1.2,
-  judged-first c.args.form.points c.args.form.bands1 c.args.form.bands2 c.args.form.channels c.args.cells c.args.reader.now.text.now c.requires.0 refl (rw c.in_ok-pass_slice.was at c.pass_slice.ensures),
+  first-place c.args.tested.form.points c.args.tested.form.bands1 c.args.tested.form.bands2 c.args.tested.formed.0 c.args.tested.formed.1 c.args.tested.formed.2,
+  judged-first c.args.tested.form.points c.args.tested.form.bands1 c.args.tested.form.bands2 c.args.tested.form.channels c.args.cells c.args.reader.now.text.now c.requires.0 refl (rw c.in_ok-pass_slice.was at c.pass_slice.ensures),
 )
 
 pub returns-in_err-pass_line : goal.returns-in_err-pass_line
 returns-in_err-pass_line c =
     rw c.from_residual-in_err-pass_line.ensures
-    (passes-as (sym (listed-is c.args.form.points c.args.form.bands1 c.args.form.bands2 c.args.form.channels c.args.cells c.args.reader.now.text.now))
-    (judged-lost c.args.form.points c.args.form.bands1 c.args.form.bands2 c.args.form.channels c.args.cells c.args.reader.now.text.now c.requires.0 refl (c.loop-entry._entry + 1) (omega arith)
-    (judged-next c.args.form.points c.args.form.bands1 c.args.form.bands2 c.args.form.channels c.args.cells c.args.reader.now.text.now c.requires.0 refl c.loop-entry._entry (omega arith) c.loop-entry.invariant.1
+    (passes-as (sym (listed-is c.args.tested.form.points c.args.tested.form.bands1 c.args.tested.form.bands2 c.args.tested.form.channels c.args.cells c.args.reader.now.text.now))
+    (judged-lost c.args.tested.form.points c.args.tested.form.bands1 c.args.tested.form.bands2 c.args.tested.form.channels c.args.cells c.args.reader.now.text.now c.requires.0 refl (c.loop-entry._entry + 1) (omega arith)
+    (judged-next c.args.tested.form.points c.args.tested.form.bands1 c.args.tested.form.bands2 c.args.tested.form.channels c.args.cells c.args.reader.now.text.now c.requires.0 refl c.loop-entry._entry (omega arith) c.loop-entry.invariant.1
     (rw (c.loop-entry.invariant.0, c.in_err-pass_line.was) at c.pass_line.ensures))))
-
-pub next_place-place-requires : goal.next_place-place-requires
-next_place-place-requires c =
-    let b = place-bounds c.args.form.points c.args.form.bands1 c.args.form.bands2 c.requires.1.0 c.requires.1.1 c.requires.1.2 c.loop-entry._entry in
-    rw c.loop-entry.invariant.0 (omega (arith, place-low c.args.form.points c.args.form.bands1 c.args.form.bands2 c.requires.1.0 c.requires.1.1 c.requires.1.2 c.loop-entry._entry, c.requires.2), b.0, b.1, b.2)
 
 pub loop-entry-preserved : goal.loop-entry-preserved
 loop-entry-preserved c = (
-  c.next_place-place.ensures ∙ (ap (next_place c.args.form.points c.args.form.bands1 c.args.form.bands2) c.loop-entry.invariant.0 ∙ next_place_lem c.args.form.points c.args.form.bands1 c.args.form.bands2 c.requires.1.0 c.requires.1.1 c.requires.1.2 c.loop-entry._entry),
-  judged-next c.args.form.points c.args.form.bands1 c.args.form.bands2 c.args.form.channels c.args.cells c.args.reader.now.text.now c.requires.0 refl c.loop-entry._entry (omega arith) c.loop-entry.invariant.1
+  c.next_place-place.ensures ∙ (ap (next_place c.args.tested.form.points c.args.tested.form.bands1 c.args.tested.form.bands2) c.loop-entry.invariant.0 ∙ next_place_lem c.args.tested.form.points c.args.tested.form.bands1 c.args.tested.form.bands2 c.args.tested.formed.0 c.args.tested.formed.1 c.args.tested.formed.2 c.loop-entry._entry),
+  judged-next c.args.tested.form.points c.args.tested.form.bands1 c.args.tested.form.bands2 c.args.tested.form.channels c.args.cells c.args.reader.now.text.now c.requires.0 refl c.loop-entry._entry (omega arith) c.loop-entry.invariant.1
       (rw (c.loop-entry.invariant.0, c.in_ok-pass_line.was) at c.pass_line.ensures),
 )
 
 pub returns : goal.returns
 returns c =
     let e : c.loop-entry._entry ≡ c.args.cells = omega arith in
-    passes-as (sym (listed-is c.args.form.points c.args.form.bands1 c.args.form.bands2 c.args.form.channels c.args.cells c.args.reader.now.text.now)) (rw e at c.loop-entry.invariant.1)
+    passes-as (sym (listed-is c.args.tested.form.points c.args.tested.form.bands1 c.args.tested.form.bands2 c.args.tested.form.channels c.args.cells c.args.reader.now.text.now)) (rw e at c.loop-entry.invariant.1)

@@ -2,6 +2,7 @@
 use borrow.Author.Rules.{rules}
 use borrow.Author.Tests.{eq-eqb, ne_eqb}
 use lib.Signed.{mag}
+use mathlib.Core.Bool.{true}
 use mathlib.Core.Path.{◌≡◌}
 use mir.Syntax.{w64}
 use mir.ValLaws.{to_z-of_z}
@@ -15,52 +16,55 @@ use Rattle.ask.proofs.AskLaws.{group-no}
 use Rattle.ask.proofs.RefusalLaws.{given-is, refused-not, refused-is}
 use Rattle.ask.specs.Ask.{first_no}
 use Rattle.sheet_counts.proofs.SheetCountLaws.{both-yes, weights-le}
-use Rattle.sheet_counts.specs.SheetCounts.{count_questions, weight_count_of}
-use Rattle.open_count.proofs.kernel.ask_open.Goals.{After-cells_of, After-is_below}
+use Rattle.question_values.specs.TpTypes.{is_tp_type}
+use Rattle.triplet_types.specs.Types.{tp_type_of}
+use Rattle.triplet_types.proofs.TypeLaws.{channels-of-type}
+use Rattle.sheet_counts.specs.SheetCounts.{are_sheet_counts, count_questions, weight_count_of}
+use Rattle.open_count.proofs.kernel.ask_open.Goals.{After-cells_of, After-is_below, In_ok-tp}
 use Rattle.open_count.proofs.kernel.ask_open.Goals as goal
 
-weights-are : (c : After-cells_of) → c.channels_of.result * c.cells_of.result ≡ weight_count_of c.args.tp_type c.args.counts
+told : (c : In_ok-tp) → (first_no (count_questions c.args.tp_type c.args.counts) ≡ 0) × (c.in_ok-tp.tp ≡ tp_type_of c.args.tp_type)
+told c = given-is _ _ _ (rw (to_z-of_z w64 c.args.tp_type c.ranges.tp_type, c.in_ok-tp.was) at c.ask_counts.ensures)
+
+yes : (c : In_ok-tp) → (is_tp_type c.args.tp_type ≡ true) × (are_sheet_counts c.args.counts ≡ true)
+yes c = both-yes c.args.tp_type c.args.counts (told c).0
+
+weights-are : (c : After-cells_of) → c.num_channels.result * c.cells_of.result ≡ weight_count_of c.args.tp_type c.args.counts
 weights-are c =
-    rw (c.channels_of.ensures, c.cells_of.ensures, to_z-of_z w64 c.args.tp_type c.ranges.tp_type)
+    rw (c.num_channels.ensures, c.cells_of.ensures, (told (goal.at.After-cells_of c).In_ok-tp).1, channels-of-type c.args.tp_type)
 
 on-sheet : (c : After-is_below) → c.is_below.result ≡ is_below c.args.triplet (mag c.args.counts.num_triplets)
 on-sheet c =
     let n : _ = rw (back c.args.counts.num_triplets (search rules)) at c.magnitude.ensures in
     rw (to_z-of_z w64 c.args.triplet c.ranges.triplet, n) at c.is_below.ensures
 
-pub returns-in_err-ask_counts : goal.returns-in_err-ask_counts
-returns-in_err-ask_counts c =
-    let told : _ = rw (to_z-of_z w64 c.args.tp_type c.ranges.tp_type, c.in_err-ask_counts.was) at c.ask_counts.ensures in
+pub returns-in_err-tp : goal.returns-in_err-tp
+returns-in_err-tp c =
+    let told : _ = rw (to_z-of_z w64 c.args.tp_type c.ranges.tp_type, c.in_err-tp.was) at c.ask_counts.ensures in
     let p = err_from_is_err_and c.from_residual.result c.from_residual.ensures.1 in
-    rw (p.1, p.2) (refused-is _ _ _ _ tt told (group-no (count_questions c.args.tp_type c.args.counts) _ (refused-not _ _ tt told)))
+    rw (p.1, p.2) (refused-is _ _ _ _ (tp_type_of c.args.tp_type) told (group-no (count_questions c.args.tp_type c.args.counts) _ (refused-not _ _ (tp_type_of c.args.tp_type) told)))
 
 pub cells_of-requires : goal.cells_of-requires
-cells_of-requires c =
-    let told : _ = rw (to_z-of_z w64 c.args.tp_type c.ranges.tp_type, c.in_ok-ask_counts.was) at c.ask_counts.ensures in
-    (both-yes c.args.tp_type c.args.counts (given-is _ _ tt told).0).1
+cells_of-requires c = (yes (goal.at.cells_of-requires c).In_ok-tp).1
 
-pub overflow_mul-channels_of : goal.overflow_mul-channels_of
-overflow_mul-channels_of c =
-    let told : _ = rw (to_z-of_z w64 c.args.tp_type c.ranges.tp_type, c.in_ok-ask_counts.was) at c.ask_counts.ensures in
-    rw (weights-are (goal.at.overflow_mul-channels_of c).After-cells_of) (omega (arith, weights-le c.args.counts (both-yes c.args.tp_type c.args.counts (given-is _ _ tt told).0).1 c.args.tp_type))
+pub overflow_mul-num_channels : goal.overflow_mul-num_channels
+overflow_mul-num_channels c =
+    rw (weights-are (goal.at.overflow_mul-num_channels c).After-cells_of) (omega (arith, weights-le c.args.counts (yes (goal.at.overflow_mul-num_channels c).In_ok-tp).1 c.args.tp_type))
 
-pub returns-then-num_weights-channels_of : goal.returns-then-num_weights-channels_of
+pub returns-then-num_weights-num_channels : goal.returns-then-num_weights-num_channels
 unfolding first_no
-returns-then-num_weights-channels_of c =
-    let told : _ = rw (to_z-of_z w64 c.args.tp_type c.ranges.tp_type, c.in_ok-ask_counts.was) at c.ask_counts.ensures in
-    let y = both-yes c.args.tp_type c.args.counts (given-is _ _ tt told).0 in
-    rw (y.0, y.1, ne_eqb _ _ (rw (weights-are (goal.at.returns-then-num_weights-channels_of c).After-cells_of) at c.if-num_weights-channels_of.true))
+returns-then-num_weights-num_channels c =
+    let y = yes (goal.at.returns-then-num_weights-num_channels c).In_ok-tp in
+    rw (y.0, y.1, ne_eqb _ _ (rw (weights-are (goal.at.returns-then-num_weights-num_channels c).After-cells_of) at c.if-num_weights-num_channels.true))
 
 pub returns-then-not-is_below : goal.returns-then-not-is_below
 unfolding first_no
 returns-then-not-is_below c =
-    let told : _ = rw (to_z-of_z w64 c.args.tp_type c.ranges.tp_type, c.in_ok-ask_counts.was) at c.ask_counts.ensures in
-    let y = both-yes c.args.tp_type c.args.counts (given-is _ _ tt told).0 in
-    rw (y.0, y.1, eq-eqb _ _ (rw (weights-are (goal.at.returns-then-not-is_below c).After-cells_of) at c.if-num_weights-channels_of.false), no_of (on-sheet (goal.at.returns-then-not-is_below c).After-is_below) c.if-not-is_below.true)
+    let y = yes (goal.at.returns-then-not-is_below c).In_ok-tp in
+    rw (y.0, y.1, eq-eqb _ _ (rw (weights-are (goal.at.returns-then-not-is_below c).After-cells_of) at c.if-num_weights-num_channels.false), no_of (on-sheet (goal.at.returns-then-not-is_below c).After-is_below) c.if-not-is_below.true)
 
 pub returns : goal.returns
 unfolding first_no
 returns c =
-    let told : _ = rw (to_z-of_z w64 c.args.tp_type c.ranges.tp_type, c.in_ok-ask_counts.was) at c.ask_counts.ensures in
-    let y = both-yes c.args.tp_type c.args.counts (given-is _ _ tt told).0 in
-    rw (y.0, y.1, eq-eqb _ _ (rw (weights-are (goal.at.returns c).After-cells_of) at c.if-num_weights-channels_of.false), yes_of (on-sheet (goal.at.returns c).After-is_below) c.if-not-is_below.false)
+    let y = yes (goal.at.returns c).In_ok-tp in
+    rw (y.0, y.1, eq-eqb _ _ (rw (weights-are (goal.at.returns c).After-cells_of) at c.if-num_weights-num_channels.false), yes_of (on-sheet (goal.at.returns c).After-is_below) c.if-not-is_below.false, (told (goal.at.returns c).In_ok-tp).1)

@@ -1,17 +1,12 @@
 -- `pelmetsavory::listings::pelmetsavory_read_listing` meets its contract: the answer as a number.
-use mathlib.Core.Path.{◌∙◌, ap, refl, sym}
+use mathlib.Core.Path.{◌∙◌, ap, refl}
 use mir.Syntax.{w64}
 use mir.ValLaws.{to_z-of_z}
-use Rattle.ask.proofs.RefusalLaws.{first-low, given-is, number-is}
+use Rattle.ask.proofs.RefusalLaws.{first-low, number-is}
 use Rattle.ask.specs.Refusals.{number_of}
 use Rattle.pelmetsavory.proofs.listings.pelmetsavory_read_listing.Goals as goal
 
-pub returns-in-Ok-clause-value : goal.returns-in-Ok-clause-value
-returns-in-Ok-clause-value c =
-    let e : _ = rw (to_z-of_z w64 c.args.tp_type c.ranges.tp_type, c.in-Ok.is) at c.read_listing.ensures.value in
-    sym (given-is _ _ tt e).0
-
-pub returns-in-Err-clause-value : goal.returns-in-Err-clause-value
-returns-in-Err-clause-value c =
-    let e : _ = rw (to_z-of_z w64 c.args.tp_type c.ranges.tp_type, c.in-Err.is) at c.read_listing.ensures.value in
-    c.number.ensures ∙ ap number_of e ∙ number-is _ tt (first-low _ refl)
+pub returns-clause-value : goal.returns-clause-value
+returns-clause-value c =
+    let e : _ = rw (to_z-of_z w64 c.args.tp_type c.ranges.tp_type) at c.read_listing.ensures.value in
+    c.status_of.ensures ∙ ap number_of e ∙ number-is _ tt (first-low _ refl)

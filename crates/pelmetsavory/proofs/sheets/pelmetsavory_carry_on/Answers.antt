@@ -8,4 +8,4 @@ use Rattle.pelmetsavory.proofs.sheets.pelmetsavory_carry_on.Goals as goal
 
 pub returns : goal.returns
 returns c =
-    called _ _ _ _ (rw (to_z-of_z w64 c.args.worker c.ranges.worker) refl) c.carry_on-done.result _ _ _ _ _ c.carry_on-done.ensures.did c.settle-status.ensures.tally _ c.settle-status.ensures.number (search rules) (search rules) (search rules)
+    called _ _ _ _ (rw (to_z-of_z w64 c.args.worker c.ranges.worker) refl) c.carry_on-done.result _ _ _ _ _ c.carry_on-done.ensures.did c.settle.ensures.tally_after _ c.settle.ensures.status (search rules) (search rules) (search rules)

@@ -8,5 +8,5 @@ use Rattle.pelmetsavory.proofs.sheets.pelmetsavory_run_piece.Goals as goal
 
 pub returns : goal.returns
 returns c =
-    let told = rw (to_z-of_z {w = w64} {z = c.args.worker} (search rules), to_z-of_z {w = w64} {z = c.args.piece.triplet} (search rules), to_z-of_z {w = w64} {z = c.args.piece.b1} (search rules), to_z-of_z {w = w64} {z = c.args.piece.b2} (search rules)) at c.run_piece-done.ensures.did in
-    called _ _ _ _ refl c.run_piece-done.result _ _ _ _ _ told c.settle-status.ensures.tally _ c.settle-status.ensures.number (search rules) (search rules) (search rules)
+    let told = rw (to_z-of_z {w = w64} {z = c.args.worker} (search rules), c.from-named.ensures.0, c.from-named.ensures.1.0, c.from-named.ensures.1.1) at c.run_piece-done.ensures.did in
+    called _ _ _ _ refl c.run_piece-done.result _ _ _ _ _ told c.settle.ensures.tally_after _ c.settle.ensures.status (search rules) (search rules) (search rules)

@@ -1,12 +1,11 @@
 -- `pelmetsavory::tetrahedra::pelmetsavory_integration_weights_at_grid_points` meets its contract.
 use borrow.Author.Rules.{rules}
-use mathlib.Core.Path.{◌∙◌, sym, ap, refl}
+use mathlib.Core.Path.{refl}
 use mir.Facts.{to_z-of_z}
 use mir.Syntax.{w64}
-use Rattle.ask.specs.Refusals.{number_of}
 use Rattle.pelmetsavory.proofs.CallLaws.{called-weigh}
 use Rattle.pelmetsavory.proofs.tetrahedra.pelmetsavory_integration_weights_at_grid_points.Goals as goal
 
-pub returns-in-Err : goal.returns-in-Err
-returns-in-Err c =
-    called-weigh _ _ (rw (to_z-of_z {w = w64} {z = c.args.grid.bz_grid_type} (search rules), to_z-of_z {w = w64} {z = c.args.num_band} (search rules), to_z-of_z {w = w64} {z = c.args.num_ir} (search rules), c.function_of.ensures) refl) c.integration_weights_at_grid_points.result _ _ c.integration_weights_at_grid_points.ensures _ (c.number.ensures ∙ ap number_of (sym c.in-Err.is))
+pub returns : goal.returns
+returns c =
+    called-weigh _ _ (rw (c.lent.ensures, to_z-of_z {w = w64} {z = c.args.num_band} (search rules), to_z-of_z {w = w64} {z = c.args.num_ir} (search rules), c.function_of.ensures) refl) c.integration_weights_at_grid_points.result _ _ c.integration_weights_at_grid_points.ensures _ c.status_of.ensures

@@ -3,7 +3,7 @@ use lib.ListN.{length, take}
 use mathlib.Core.Path.{◌≡◌}
 use Prim.Native.Nat.{◌≤◌, ◌*◌}
 use Rattle.list_laws.specs.Lists.{fronted, rows}
-use Rattle.sheet_fill.specs.Kept.{Keeps, study_in}
+use Rattle.sheet_fill.specs.Kept.{study_in}
 use Rattle.sheet_play.proofs.OutcomeLaws.{after, number_after, tally_after}
 use Rattle.sheet_calls.specs.Calls.{call_at}
 use Rattle.sheet_step.specs.Lent.{sheet_of, SameBuffers}
@@ -17,4 +17,4 @@ invariant-loop-i l =
     × (sheet_of l.sheet l.tally.runs ≡ after (study_in l.prepared) (sheet_of l.initial.sheet l.initial.tally.runs) (call_at l.calls.list.now l.calls.ids.now) l.i)
     × (l.answers ≡ fronted l.i (number_after (study_in l.prepared) (sheet_of l.initial.sheet l.initial.tally.runs) (call_at l.calls.list.now l.calls.ids.now)) l.initial.answers)
     × (take (l.i * 16) l.tallies ≡ rows l.i (tally_after (study_in l.prepared) (sheet_of l.initial.sheet l.initial.tally.runs) (call_at l.calls.list.now l.calls.ids.now)))
-    × Keeps (study_in l.prepared) l.prepared.tested.sizes.triplets l.work
+    × (l.work.prepared ≡ l.prepared)

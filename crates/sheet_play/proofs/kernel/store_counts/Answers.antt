@@ -1,5 +1,5 @@
 -- `sheet_play::kernel::store_counts` meets its contract.
-use lib.ListN.{get_or, length}
+use lib.ListN.{get_or}
 use mathlib.Core.Path.{◌∙◌, sym}
 use native.Mathlib.Omega.{arith}
 use Rattle.std.proofs.Common.{ext_get_or}

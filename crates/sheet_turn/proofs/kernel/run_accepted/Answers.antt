@@ -29,14 +29,14 @@ n1 c = c.magnitude-n1.ensures ∙ ap mag (to_z-of_z w64 c.args.piece.b1 (let f :
 n2 : (c : After-magnitude-n2) → c.magnitude-n2.result ≡ mag c.args.piece.b2
 n2 c = c.magnitude-n2.ensures ∙ ap mag (to_z-of_z w64 c.args.piece.b2 (let f : SFits w64 c.args.piece.b2 = search rules in f))
 
-small : (c : After-magnitude-n2) → c.magnitude-t.result * c.args.prepared.now.tested.sizes.pairs + (c.magnitude-n1.result * c.args.prepared.now.tested.sizes.bands2 + c.magnitude-n2.result) < 268435456
-small c = run_small (study_in c.args.prepared.now) ((sheet c.args.sheet.now.weights.now c.args.sheet.now.flags.now c.args.sheet.now.marks.now c.args.tally.runs)) c.requires.common c.args.prepared.now.tested.counts c.args.worker c.args.piece.triplet c.args.piece.b1 c.args.piece.b2 c.requires.own _ _ _ ((c.magnitude-t.ensures ∙ ap mag (to_z-of_z w64 c.args.piece.triplet (let f : SFits w64 c.args.piece.triplet = search rules in f)))) ((c.magnitude-n1.ensures ∙ ap mag (to_z-of_z w64 c.args.piece.b1 (let f : SFits w64 c.args.piece.b1 = search rules in f)))) ((c.magnitude-n2.ensures ∙ ap mag (to_z-of_z w64 c.args.piece.b2 (let f : SFits w64 c.args.piece.b2 = search rules in f))))
+small : (c : After-magnitude-n2) → c.magnitude-t.result * c.args.work.now.prepared.tested.sizes.pairs + (c.magnitude-n1.result * c.args.work.now.prepared.tested.sizes.bands2 + c.magnitude-n2.result) < 268435456
+small c = run_small (study_in c.args.work.now.prepared) ((sheet c.args.sheet.now.weights.now c.args.sheet.now.flags.now c.args.sheet.now.marks.now c.args.tally.runs)) c.requires.common c.args.work.now.prepared.tested.counts c.args.worker c.args.piece.triplet c.args.piece.b1 c.args.piece.b2 c.requires.own _ _ _ ((c.magnitude-t.ensures ∙ ap mag (to_z-of_z w64 c.args.piece.triplet (let f : SFits w64 c.args.piece.triplet = search rules in f)))) ((c.magnitude-n1.ensures ∙ ap mag (to_z-of_z w64 c.args.piece.b1 (let f : SFits w64 c.args.piece.b1 = search rules in f)))) ((c.magnitude-n2.ensures ∙ ap mag (to_z-of_z w64 c.args.piece.b2 (let f : SFits w64 c.args.piece.b2 = search rules in f))))
 
-pub fill_named-requires-clause-ready : goal.fill_named-requires-clause-ready
-fill_named-requires-clause-ready c = ready_made (study_in c.args.prepared.now) (start (goal.at.fill_named-requires-clause-ready c).Start) c.requires.common c.args.prepared.now.tested.counts
+pub fill_named-requires-clause-fits : goal.fill_named-requires-clause-fits
+fill_named-requires-clause-fits c = (ready_made (study_in c.args.work.now.prepared) (start (goal.at.fill_named-requires-clause-fits c).Start) c.requires.common c.args.work.now.prepared.tested.counts).fits
 
 pub fill_named-requires-clause-on_sheet : goal.fill_named-requires-clause-on_sheet
-fill_named-requires-clause-on_sheet c = (run_on (study_in c.args.prepared.now) (start (goal.at.fill_named-requires-clause-on_sheet c).Start) c.requires.common c.args.prepared.now.tested.counts c.args.worker c.args.piece.triplet c.args.piece.b1 c.args.piece.b2 c.requires.own _ _ _ (nt (goal.at.fill_named-requires-clause-on_sheet c).After-magnitude-n2) (n1 (goal.at.fill_named-requires-clause-on_sheet c).After-magnitude-n2) (n2 (goal.at.fill_named-requires-clause-on_sheet c).After-magnitude-n2))
+fill_named-requires-clause-on_sheet c = (run_on (study_in c.args.work.now.prepared) (start (goal.at.fill_named-requires-clause-on_sheet c).Start) c.requires.common c.args.work.now.prepared.tested.counts c.args.worker c.args.piece.triplet c.args.piece.b1 c.args.piece.b2 c.requires.own _ _ _ (nt (goal.at.fill_named-requires-clause-on_sheet c).After-magnitude-n2) (n1 (goal.at.fill_named-requires-clause-on_sheet c).After-magnitude-n2) (n2 (goal.at.fill_named-requires-clause-on_sheet c).After-magnitude-n2))
 
 pub overflow_mul-t : goal.overflow_mul-t
 overflow_mul-t c = omega (arith, small (goal.at.overflow_mul-t c).After-magnitude-n2)
@@ -52,12 +52,12 @@ overflow_add-t c = omega (arith, small (goal.at.overflow_add-t c).After-magnitud
 
 pub set_mark-requires : goal.set_mark-requires
 set_mark-requires c =
-    (run-place (study_in c.args.prepared.now) (start (goal.at.set_mark-requires c).Start) c.requires.common c.args.prepared.now.tested.counts c.args.worker c.args.piece.triplet c.args.piece.b1 c.args.piece.b2 c.requires.own _ _ _ (nt (goal.at.set_mark-requires c).After-magnitude-n2) (n1 (goal.at.set_mark-requires c).After-magnitude-n2) (n2 (goal.at.set_mark-requires c).After-magnitude-n2), small-mark 1 (omega arith))
+    (run-place (study_in c.args.work.now.prepared) (start (goal.at.set_mark-requires c).Start) c.requires.common c.args.work.now.prepared.tested.counts c.args.worker c.args.piece.triplet c.args.piece.b1 c.args.piece.b2 c.requires.own _ _ _ (nt (goal.at.set_mark-requires c).After-magnitude-n2) (n1 (goal.at.set_mark-requires c).After-magnitude-n2) (n2 (goal.at.set_mark-requires c).After-magnitude-n2), small-mark 1 (omega arith))
 
 pub with_runs-requires : goal.with_runs-requires
 with_runs-requires c =
-    rw (to_z-of_z w64 c.args.worker c.ranges.worker) (run-yes c.args.prepared.now.tested.sizes c.args.sheet.now.marks.now c.args.piece.triplet c.args.piece.b1 c.args.piece.b2 c.args.tally.runs c.args.worker c.requires.own).1
+    rw (to_z-of_z w64 c.args.worker c.ranges.worker) (run-yes c.args.work.now.prepared.tested.sizes c.args.sheet.now.marks.now c.args.piece.triplet c.args.piece.b1 c.args.piece.b2 c.args.tally.runs c.args.worker c.requires.own).1
 
 pub returns-clause-called : goal.returns-clause-called
 returns-clause-called c = let moved = rw (to_z-of_z w64 c.args.worker c.ranges.worker) at c.with_runs.ensures in
-    run-done (study_in c.args.prepared.now) (start (goal.at.returns-clause-called c).Start) c.requires.common c.args.prepared.now.tested.counts c.args.worker c.args.piece.triplet c.args.piece.b1 c.args.piece.b2 c.requires.own _ _ _ (nt (goal.at.returns-clause-called c).After-magnitude-n2) (n1 (goal.at.returns-clause-called c).After-magnitude-n2) (n2 (goal.at.returns-clause-called c).After-magnitude-n2) moved c.fill_named.ensures.computes c.set_mark.ensures
+    run-done (study_in c.args.work.now.prepared) (start (goal.at.returns-clause-called c).Start) c.requires.common c.args.work.now.prepared.tested.counts c.args.worker c.args.piece.triplet c.args.piece.b1 c.args.piece.b2 c.requires.own _ _ _ (nt (goal.at.returns-clause-called c).After-magnitude-n2) (n1 (goal.at.returns-clause-called c).After-magnitude-n2) (n2 (goal.at.returns-clause-called c).After-magnitude-n2) moved c.fill_named.ensures.computes c.set_mark.ensures

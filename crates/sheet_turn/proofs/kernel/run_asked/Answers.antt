@@ -2,10 +2,8 @@
 use mir.Syntax.{w64}
 use mir.ValLaws.{to_z-of_z}
 use Rattle.std.proofs.lemmas.Result.{err_from_is_err_and}
-use Rattle.ask.proofs.RefusalLaws.{given-is}
 use Rattle.sheet_fill.specs.Kept.{study_in}
-use Rattle.sheet_step.proofs.StepLaws.{done-did}
-use Rattle.sheet_step.specs.Steps.{Sheet, sheet, run}
+use Rattle.sheet_step.specs.Steps.{Sheet, sheet}
 use Rattle.sheet_turn.proofs.TurnLaws.{long-yes, run-no}
 use Rattle.sheet_turn.proofs.kernel.run_asked.Goals.{Start}
 use Rattle.sheet_turn.proofs.kernel.run_asked.Goals as goal
@@ -16,20 +14,10 @@ start s = sheet s.args.sheet.now.weights.now s.args.sheet.now.flags.now s.args.s
 
 pub ask_run-requires : goal.ask_run-requires
 ask_run-requires c =
-    (long-yes (study_in c.args.prepared.now) (start (goal.at.ask_run-requires c).Start) c.requires.common c.args.prepared.now.tested.counts).1.1
+    rw (c.marks.ensures, c.counted_sizes.ensures) (long-yes (study_in c.args.work.now.prepared) (start (goal.at.ask_run-requires c).Start) c.requires.common c.args.work.now.prepared.tested.counts).1.1
 
 pub returns-in_err-ask_run-clause-did : goal.returns-in_err-ask_run-clause-did
 returns-in_err-ask_run-clause-did c =
-    let told : _ = rw (to_z-of_z w64 c.args.worker c.ranges.worker, c.in_err-ask_run.was) at c.ask_run.ensures in
+    let told : _ = rw (to_z-of_z w64 c.args.worker c.ranges.worker, c.marks.ensures, c.counted_sizes.ensures, c.in_err-ask_run.was) at c.ask_run.ensures in
     let p = err_from_is_err_and c.from_residual.result c.from_residual.ensures.1 in
-    rw (p.1, p.2) (run-no (study_in c.args.prepared.now) (start (goal.at.returns-in_err-ask_run-clause-did c).Start) c.requires.common c.args.prepared.now.tested.counts c.args.worker c.args.piece.triplet c.args.piece.b1 c.args.piece.b2 _ told)
-
-pub run_accepted-requires-clause-own : goal.run_accepted-requires-clause-own
-run_accepted-requires-clause-own c =
-    let told : _ = rw c.in_ok-ask_run.was at c.ask_run.ensures in
-    (given-is _ _ tt told).0
-
-pub returns-clause-did : goal.returns-clause-did
-returns-clause-did c =
-    let called : _ = rw (to_z-of_z w64 c.args.worker c.ranges.worker) at c.run_accepted.ensures.called in
-    done-did (study_in c.args.prepared.now) (start (goal.at.returns-clause-did c).Start) (run c.args.worker c.args.piece.triplet c.args.piece.b1 c.args.piece.b2) c.run_accepted.result _ _ _ called
+    rw (p.1, p.2) (run-no (study_in c.args.work.now.prepared) (start (goal.at.returns-in_err-ask_run-clause-did c).Start) c.requires.common c.args.work.now.prepared.tested.counts c.args.worker c.args.piece.triplet c.args.piece.b1 c.args.piece.b2 _ told)

@@ -1,26 +1,15 @@
--- `statuses::grids::matvec_di` meets its contract: the answer as a status and a vector.
-use mathlib.Core.Path.{refl, sym, ◌∙◌}
+-- `statuses::grids::matvec_di` meets its contract.
+use mathlib.Core.Path.{refl, ◌∙◌}
 use Rattle.ask.specs.Ask.{first_no}
-use Rattle.ask.proofs.RefusalLaws.{given-told, refused-told, first-low}
-use Rattle.common.specs.Matrix.{matvec_of, matvec_answer, matvec_questions}
+use Rattle.common.specs.Matrix.{matvec_answer, matvec_questions}
+use Rattle.statuses.proofs.StatusLaws.{status-is, stored-is}
 use Rattle.statuses.proofs.grids.matvec_di.Goals as goal
 
-pub returns-in-Ok-clause-value : goal.returns-in-Ok-clause-value
+pub returns-clause-value : goal.returns-clause-value
 unfolding matvec_answer
-returns-in-Ok-clause-value c =
-    (given-told (first_no (matvec_questions c.args.a.now c.args.b)) _ (matvec_of c.args.a.now c.args.b) (λ x. x) c.args.product.now (sym c.in-Ok.is ∙ c.matvec_di.ensures)).0
+returns-clause-value c = status-is (matvec_questions c.args.a.now c.args.b) _ _ _ refl c.matvec_di.ensures c.store.ensures.status
 
-pub returns-in-Ok-clause-product_after : goal.returns-in-Ok-clause-product_after
+pub returns-clause-product_after : goal.returns-clause-product_after
 unfolding matvec_answer
-returns-in-Ok-clause-product_after c =
-    (given-told (first_no (matvec_questions c.args.a.now c.args.b)) _ (matvec_of c.args.a.now c.args.b) (λ x. x) c.args.product.now (sym c.in-Ok.is ∙ c.matvec_di.ensures)).1
-
-pub returns-in-Err-clause-value : goal.returns-in-Err-clause-value
-unfolding matvec_answer
-returns-in-Err-clause-value c =
-    c.number.ensures ∙ (refused-told (first_no (matvec_questions c.args.a.now c.args.b)) _ (matvec_of c.args.a.now c.args.b) c.args.product.now c.args.product.now (first-low (matvec_questions c.args.a.now c.args.b) refl) (sym c.in-Err.is ∙ c.matvec_di.ensures)).0
-
-pub returns-in-Err-clause-product_after : goal.returns-in-Err-clause-product_after
-unfolding matvec_answer
-returns-in-Err-clause-product_after c =
-    (refused-told (first_no (matvec_questions c.args.a.now c.args.b)) _ (matvec_of c.args.a.now c.args.b) _ c.args.product.now (first-low (matvec_questions c.args.a.now c.args.b) refl) (sym c.in-Err.is ∙ c.matvec_di.ensures)).1
+returns-clause-product_after c =
+    c.store.ensures.out_after ∙ stored-is (first_no (matvec_questions c.args.a.now c.args.b)) _ c.args.product.now _ c.matvec_di.ensures

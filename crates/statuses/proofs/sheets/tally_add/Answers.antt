@@ -1,12 +1,11 @@
 -- `statuses::sheets::tally_add` meets its contract.
-use mathlib.Core.Path.{refl, sym, ◌∙◌}
-use Prim.Native.Nat.{ℕ}
+use mathlib.Core.Path.{refl}
 use mir.Syntax.{w64}
 use mir.ValLaws.{to_z-of_z}
-use Rattle.ask.proofs.RefusalLaws.{first-low, refused-told}
+use Rattle.statuses.proofs.StatusLaws.{status-is}
 use Rattle.statuses.proofs.sheets.tally_add.Goals as goal
 
-pub returns-in-Err-clause-value : goal.returns-in-Err-clause-value
-returns-in-Err-clause-value c =
-    let told : _ = rw (to_z-of_z w64 c.args.worker c.ranges.worker) at (sym c.in-Err.is ∙ c.add.ensures) in
-    c.number.ensures ∙ (refused-told {B = ℕ} _ _ _ 0 0 (first-low _ refl) told).0
+pub returns-clause-value : goal.returns-clause-value
+returns-clause-value c =
+    let is : _ = rw (to_z-of_z w64 c.args.worker c.ranges.worker) at c.add-sum.ensures in
+    status-is _ _ _ _ refl is c.settle-status.ensures.number

@@ -4,16 +4,8 @@ use mir.Syntax.{w64}
 use mir.Facts.{to_z-of_z}
 use lib.IntN.{negsuc, ◌-ℤ◌}
 use borrow.Author.Rules.{rules}
-use Rattle.text.proofs.FieldLaws.{converted, negative-zero, negative-in, negative-out}
+use Rattle.text.proofs.FieldLaws.{converted, negative-in}
 use Rattle.text.proofs.kernel.negative_whole.Goals as goal
-
-pub returns-then-n-eq0 : goal.returns-then-n-eq0
-returns-then-n-eq0 c = negative-zero c.args.n c.if-n-eq0.true
-
-pub returns-in_err-below : goal.returns-in_err-below
-returns-in_err-below c =
-    c.from_residual.ensures
-    ∙ negative-out c.args.n c.if-n-eq0.false (sym (converted c.try_from.result _ c.try_from.ensures) ∙ sym c.ok.ensures.value ∙ c.in_err-below.was)
 
 pub returns : goal.returns
 returns c =

@@ -7,4 +7,4 @@ use Rattle.triplet_addresses.proofs.copies.fill_copy.Given as goal
 
 abbrev pub invariant-loop-k : goal.invariant-loop-k
 invariant-loop-k l =
-    take l.k l.out ≡ tabulate l.k (λ k. step_of l.negated (at l.table k))
+    take l.k l.out ≡ tabulate l.k (λ k. step_of l.negated (at l.fn.table.numbers.now k))

@@ -6,4 +6,4 @@ use Rattle.averaging_flags.specs.Flags.{rows_have_zero}
 use Rattle.averaging_walk.proofs.kernel.flags.block_has_zero.Given as goal
 
 abbrev pub invariant-loop-r : goal.invariant-loop-r
-invariant-loop-r l = rows_have_zero l.m l.n l.block.top l.block.left (l.block.right - l.block.left) (l.r - l.block.top) ≡ false
+invariant-loop-r l = rows_have_zero l.block.matrix.now l.block.n l.block.top l.block.left (l.block.right - l.block.left) (l.r - l.block.top) ≡ false

@@ -3,6 +3,7 @@ use mathlib.Core.Path.{◌≡◌, sym, ap, ◌∙◌}
 use mathlib.Core.List.{map}
 use Prim.Native.Nat.{ℕ}
 use native.Mathlib.Omega.{arith}
+use borrow.Author.Rules.{rules}
 use lib.ListN.{length}
 use Rattle.list_laws.specs.Matrix.{block}
 use Rattle.degenerate_sets.specs.declared.kernel.sets.Sets.{Sets}
@@ -28,10 +29,14 @@ loop-columns-init g c =
       columns-none n rule q s c.args.m.now ∙ ap (λ (k : ℕ). in_turn n rule (map (product s) (sets_below q n k)) c.args.m.now) (sym zero),
     )
 
-pub average_block-requires-clause-block_in : goal.average_block-requires-clause-block_in
-average_block-requires-clause-block_in g c =
+pub invariant_of-block : goal.invariant_of-block
+invariant_of-block g c =
     let step = next-of c.args.ids2.now c.loop-columns.columns-iterator c.next.new.self c.in-Some.columns c.loop-columns.invariant.0 c.in-Some.ensures.steps in
-    (c.requires.rows_in, omega (arith, step, next-bounds (starts_at c.args.ids2.now) step.0 step.2))
+    record {
+      square = (c.loop-columns.auto.m ∙ c.requires.m_len.0, c.requires.m_len.1);
+      rows = c.requires.rows_in;
+      columns = omega (arith, step, next-bounds (starts_at c.args.ids2.now) step.0 step.2);
+    }
 
 pub loop-columns-preserved : goal.loop-columns-preserved
 loop-columns-preserved g c =
@@ -44,10 +49,12 @@ loop-columns-preserved g c =
     let bottom = c.args.rows.now.end in
     let before = c.loop-columns.invariant in
     let step = next-of c.args.ids2.now walk next c.in-Some.columns before.0 c.in-Some.ensures.steps in
-    let end : next.start ≡ end_of q n walk.start = step.3 ∙ step.2 in (
+    let end : next.start ≡ end_of q n walk.start = step.3 ∙ step.2 in
+    let turn : c.average.new.self.matrix.now ≡ in_turn n rule (map (product (degenerate_set top bottom)) (sets_below q n next.start)) c.args.m.now =
+    columns-turn n rule q (degenerate_set top bottom) walk.start next.start c.args.m.now c.loop-columns.m c.average.new.self.matrix.now step.0 (before.2 step.0) end before.3
+    (c.average.ensures.content ∙ (λ i. on_block n rule c.loop-columns.m (block top bottom (step.1 i) (sym step.3 i)))) in (
       step.4,
       (next-bounds q step.0 end).1,
       next-first q step.0 end,
-      columns-turn n rule q (degenerate_set top bottom) walk.start next.start c.args.m.now c.loop-columns.m c.average_block.new.m step.0 (before.2 step.0) end before.3
-          (c.average_block.ensures ∙ (λ i. on_block n rule c.loop-columns.m (block top bottom (step.1 i) (sym step.3 i)))),
+      search (rules, turn, c.average.ensures.place.matrix),
     )

@@ -6,4 +6,4 @@ use Rattle.averaging_blocks.specs.Weights.{block_sum}
 use Rattle.averaging_walk.proofs.kernel.weights.block_sum.Given as goal
 
 abbrev pub invariant-loop-r : goal.invariant-loop-r
-invariant-loop-r l = l.sum ≡ block_sum plus_zero l.m l.n l.block.top l.block.left (l.block.right - l.block.left) (l.r - l.block.top)
+invariant-loop-r l = l.sum ≡ block_sum plus_zero l.block.matrix.now l.block.n l.block.top l.block.left (l.block.right - l.block.left) (l.r - l.block.top)

@@ -1,5 +1,5 @@
 -- `averaging_walk::kernel::weights::row_sum` meets its contract: at each turn `sum` is the sum of the weights so far.
-use mathlib.Core.Path.{refl, ap, ◌∙◌}
+use mathlib.Core.Path.{refl, ap}
 use Prim.Native.Nat.{ℕ, ◌+◌}
 use native.Mathlib.Numerals.{add-one}
 use native.Mathlib.Omega.{arith}
@@ -19,6 +19,3 @@ loop-weight-preserved c =
     let i = c.loop-weight.weight-index in
     rw (add-one, c.loop-weight.invariant)
     (ap (λ (k : ℕ). add binary64 (row_sum plus_zero c.args.row.now 0 i) (get_or c.args.row.now k nan)) {x = i} {y = 0 + i} (omega arith))
-
-pub returns : goal.returns
-returns c = c.loop-weight.invariant ∙ ap (row_sum plus_zero c.args.row.now 0) (omega arith)

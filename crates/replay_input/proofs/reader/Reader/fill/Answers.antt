@@ -1,7 +1,7 @@
 -- `replay_input::reader::Reader::fill` meets its contract: at each turn the front of the buffer holds the first numbers.
 use Prim.Native.Nat.{ℕ}
-use lib.ListN.{length, length-set}
-use mathlib.Core.Path.{◌≡◌, ◌∙◌, ap, refl}
+use lib.ListN.{length-set}
+use mathlib.Core.Path.{◌∙◌, ap, refl}
 use native.Mathlib.Omega.{arith}
 use Rattle.list_laws.proofs.FillLaws.{front-all, front-none}
 use Rattle.list_laws.specs.Lists.{tabulate}
@@ -22,6 +22,3 @@ loop-x-preserved g c =
 pub returns-clause-filled : goal.returns-clause-filled
 returns-clause-filled g c =
     c.loop-x.invariant.1 ∙ front-all _ c.args.out.now c.loop-x.x-index (omega arith) ∙ ap (λ (n : ℕ). tabulate n (value_from g.T.Field.value_at g.T.Field.after c.args.self.now.text.now c.args.self.now.at)) (omega arith)
-
-pub returns-clause-next : goal.returns-clause-next
-returns-clause-next g c = let e : c.loop-x.x-index ≡ length c.args.out.now = omega arith in rw (← e) c.loop-x.invariant.2

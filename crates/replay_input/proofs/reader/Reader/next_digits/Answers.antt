@@ -3,7 +3,7 @@ use Prim.Native.Nat.{ℕ}
 use mathlib.Core.Path.{◌≡◌, ◌∙◌, ap, sym}
 use mathlib.Core.List.{List}
 use native.Mathlib.Omega.{arith}
-use lib.ListN.{length, get_or}
+use lib.ListN.{get_or}
 use Rattle.text.specs.Fields.{digit_of}
 use Rattle.replay_input.proofs.FieldLaws.{passed-end, passed-step, passed-stop, spelled-end, spelled-stop, spelled_step}
 use Rattle.replay_input.proofs.ReaderLaws.{moved}
@@ -14,9 +14,6 @@ use Rattle.replay_input.proofs.reader.Reader.next_digits.Goals as goal
 -- the digit is that of the text at this place
 this-digit : (g : _) (c : After-digit_of-d g) → c.digit_of-d.result ≡ digit_of (get_or c.args.self.now.text.now c.loop-i.i 0)
 this-digit g c = c.digit_of-d.ensures.value ∙ ap (λ (r : Reader). digit_of (get_or r.text.now c.loop-i.i 0)) c.loop-i.invariant.0
-
-pub bounds-self-i : goal.bounds-self-i
-bounds-self-i g c = let e : _ = ap (λ (r : Reader). length r.text.now) c.loop-i.invariant.0 in omega (arith, e)
 
 pub loop-i-preserved : goal.loop-i-preserved
 loop-i-preserved g c =

@@ -1,13 +1,9 @@
 -- `sections::kernel::Fields::read` meets its contract.
 use mathlib.Core.Path.{◌∙◌, sym}
-use native.Mathlib.Nat.{sub-zero}
 use native.Mathlib.Omega.{arith}
 use lib.ListN.{length-set}
-use Rattle.sections.proofs.RowLaws.{front-nil, row-short, row-bad, row_more, row-over, row-full}
+use Rattle.sections.proofs.RowLaws.{row-short, row-bad, row_more}
 use Rattle.sections.proofs.kernel.Fields.read.Goals as goal
-
-pub loop-value-init : goal.loop-value-init
-loop-value-init g c = rw sub-zero (front-nil _)
 
 pub returns-then-line-from : goal.returns-then-line-from
 returns-then-line-from g c =
@@ -23,11 +19,3 @@ pub loop-value-preserved : goal.loop-value-preserved
 loop-value-preserved g c =
     row_more g.T.Field.spelled c.args.self.line.now c.args.self.next c.loop-value.row c.loop-value.from c.loop-value.value-index c.loop-value.invariant (omega arith) (omega arith) c.cut-end.result c.cut-end.ensures.0 c.in_ok-value.field-0
     (sym c.in_ok-value.was ∙ c.parse.ensures)
-
-pub returns-then-from-line : goal.returns-then-from-line
-returns-then-from-line g c =
-    row-over g.T.Field.spelled c.args.self.line.now c.args.self.next c.loop-value.row c.loop-value.from c.loop-value.value-index c.loop-value.invariant (omega arith) (omega arith)
-
-pub returns : goal.returns
-returns g c =
-    row-full g.T.Field.spelled c.args.self.line.now c.args.self.next c.loop-value.row c.loop-value.from c.loop-value.value-index c.loop-value.invariant (omega arith) (omega arith)

@@ -1,6 +1,5 @@
 -- `sheet_step::kernel::asks::ask_common` meets its contract.
 use mathlib.Core.Path.{◌≡◌, ◌∙◌, ap}
-use lib.ListN.{length}
 use Rattle.std.proofs.lemmas.Result.{err_from_is_err_and}
 use Rattle.ask.proofs.AskLaws.{group-no}
 use Rattle.ask.proofs.RefusalLaws.{done-is, given-is, refused-not, refused-is}
@@ -21,15 +20,15 @@ pub returns-in_err-ask_sheet-clause-asked : goal.returns-in_err-ask_sheet-clause
 returns-in_err-ask_sheet-clause-asked c =
     let yes : _ = rw c.in_ok-tested.was at c.tested.ensures.asked in
     let same : c.in_ok-tested.tested.study ≡ c.args.study = rw c.in_ok-tested.was at c.tested.ensures.same in
-    let told : _ = rw c.in_err-ask_sheet.was at c.ask_sheet.ensures in
+    let told : _ = rw (c.counted_sizes.ensures, c.in_err-ask_sheet.was) at c.ask_sheet.ensures in
     let p = err_from_is_err_and c.from_residual-in_err-ask_sheet.result c.from_residual-in_err-ask_sheet.ensures.1 in
-    rw (p.1, p.2) (refused-is _ _ _ _ tt told (common-no (study_of c.args.study) (length c.args.sheet.now.weights.now) (length c.args.sheet.now.flags.now) c.args.sheet.now.marks.now
+    rw (p.1, p.2) (refused-is _ _ _ _ tt told (common-no (study_of c.args.study) c.args.weights c.args.flags c.args.marks.now
     (c.in_ok-tested.tested.counts ∙ ap (λ (s : LentStudy). sizes_of (study_of s)) same) (given-is _ _ tt yes).0))
 
 pub returns-clause-asked : goal.returns-clause-asked
 returns-clause-asked c =
     let yes : _ = rw c.in_ok-tested.was at c.tested.ensures.asked in
     let same : c.in_ok-tested.tested.study ≡ c.args.study = rw c.in_ok-tested.was at c.tested.ensures.same in
-    let told : _ = rw c.in_ok-ask_sheet.was at c.ask_sheet.ensures in
-    done-is _ tt (common-no (study_of c.args.study) (length c.args.sheet.now.weights.now) (length c.args.sheet.now.flags.now) c.args.sheet.now.marks.now
+    let told : _ = rw (c.counted_sizes.ensures, c.in_ok-ask_sheet.was) at c.ask_sheet.ensures in
+    done-is _ tt (common-no (study_of c.args.study) c.args.weights c.args.flags c.args.marks.now
     (c.in_ok-tested.tested.counts ∙ ap (λ (s : LentStudy). sizes_of (study_of s)) same) (given-is _ _ tt yes).0 ∙ (given-is _ _ tt told).0)

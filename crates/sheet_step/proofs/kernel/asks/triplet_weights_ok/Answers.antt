@@ -8,46 +8,45 @@ use Rattle.list_laws.specs.Lists.{part}
 use Rattle.question_values.specs.Averages.{are_weights}
 use Rattle.sheet_step.proofs.CountLaws.{channel-place, entries-few, size_few, triplet-place}
 use Rattle.sheet_step.specs.Steps.{are_triplet_weights}
-use Rattle.triplet_study.proofs.TestedLaws.{tested-counted}
 use Rattle.sheet_step.proofs.kernel.asks.triplet_weights_ok.Goals as goal
 
 pub overflow_mul-size : goal.overflow_mul-size
-overflow_mul-size c = omega (arith, size_few c.args.tested.now.sizes (tested-counted c.args.tested.now))
+overflow_mul-size c = omega (arith, size_few c.args.counts.sizes c.args.counts.counted)
 
 pub overflow_mul-base : goal.overflow_mul-base
 overflow_mul-base c =
-    let h : _ = tested-counted c.args.tested.now in
-    omega (arith, triplet-place c.args.tested.now.sizes h c.args.t c.requires.0, h.cells-few)
+    let h : _ = c.args.counts.counted in
+    omega (arith, triplet-place c.args.counts.sizes h c.args.t c.requires.0, h.cells-few)
 
 pub overflow_add-start : goal.overflow_add-start
 overflow_add-start c =
-    let h : _ = tested-counted c.args.tested.now in
-    omega (arith, channel-place c.args.tested.now.sizes h c.args.t c.loop-c.c c.requires.0 (omega arith), entries-few c.args.tested.now.sizes h)
+    let h : _ = c.args.counts.counted in
+    omega (arith, channel-place c.args.counts.sizes h c.args.t c.loop-c.c c.requires.0 (omega arith), entries-few c.args.counts.sizes h)
 
 pub overflow_add-end : goal.overflow_add-end
 overflow_add-end c =
-    let h : _ = tested-counted c.args.tested.now in
-    omega (arith, channel-place c.args.tested.now.sizes h c.args.t c.loop-c.c c.requires.0 (omega arith), entries-few c.args.tested.now.sizes h)
+    let h : _ = c.args.counts.counted in
+    omega (arith, channel-place c.args.counts.sizes h c.args.t c.loop-c.c c.requires.0 (omega arith), entries-few c.args.counts.sizes h)
 
 pub offset_bounds-weights-start : goal.offset_bounds-weights-start
 offset_bounds-weights-start c =
-    let h : _ = tested-counted c.args.tested.now in
-    omega (arith, channel-place c.args.tested.now.sizes h c.args.t c.loop-c.c c.requires.0 (omega arith), entries-few c.args.tested.now.sizes h)
+    let h : _ = c.args.counts.counted in
+    omega (arith, channel-place c.args.counts.sizes h c.args.t c.loop-c.c c.requires.0 (omega arith), entries-few c.args.counts.sizes h)
 
 pub loop-c-init : goal.loop-c-init
 loop-c-init c = below_none _
 
 pub slice_bounds-weights_ok-end : goal.slice_bounds-weights_ok-end
 slice_bounds-weights_ok-end c =
-    let p : _ = channel-place c.args.tested.now.sizes (tested-counted c.args.tested.now) c.args.t c.loop-c.c c.requires.0 (omega arith) in
-    omega (arith, p, entries-few c.args.tested.now.sizes (tested-counted c.args.tested.now), c.requires.1)
+    let p : _ = channel-place c.args.counts.sizes c.args.counts.counted c.args.t c.loop-c.c c.requires.0 (omega arith) in
+    omega (arith, p, entries-few c.args.counts.sizes c.args.counts.counted, c.requires.1)
 
 pub loop-c-preserved : goal.loop-c-preserved
 loop-c-preserved c =
-    let a : ℕ = c.loop-c.c * c.args.tested.now.sizes.cells + c.args.t * (c.args.tested.now.sizes.points * c.args.tested.now.sizes.pairs) in
-    let s : ℕ = c.args.tested.now.sizes.points * c.args.tested.now.sizes.pairs in
+    let a : ℕ = c.loop-c.c * c.args.counts.sizes.cells + c.args.t * (c.args.counts.sizes.points * c.args.counts.sizes.pairs) in
+    let s : ℕ = c.args.counts.sizes.points * c.args.counts.sizes.pairs in
     let e : a + s - a ≡ s = omega arith in
-    below_next c.loop-c.c (λ k. are_weights (part (k * c.args.tested.now.sizes.cells + c.args.t * (c.args.tested.now.sizes.points * c.args.tested.now.sizes.pairs)) (c.args.tested.now.sizes.points * c.args.tested.now.sizes.pairs) c.args.weights.now)) c.loop-c.invariant (c.weights_ok-ok.ensures ∙ ap (λ (k : ℕ). are_weights (take k (drop a c.args.weights.now))) e)
+    below_next c.loop-c.c (λ k. are_weights (part (k * c.args.counts.sizes.cells + c.args.t * (c.args.counts.sizes.points * c.args.counts.sizes.pairs)) (c.args.counts.sizes.points * c.args.counts.sizes.pairs) c.args.weights.now)) c.loop-c.invariant (c.weights_ok-ok.ensures ∙ ap (λ (k : ℕ). are_weights (take k (drop a c.args.weights.now))) e)
 
 pub returns : goal.returns
 unfolding are_triplet_weights

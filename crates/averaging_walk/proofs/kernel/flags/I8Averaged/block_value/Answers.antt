@@ -6,8 +6,8 @@ use Rattle.averaging_walk.proofs.kernel.flags.I8Averaged.block_value.Goals as go
 
 pub returns-then-block_has_zero : goal.returns-then-block_has_zero
 returns-then-block_has_zero c =
-    λ r k inside. sym (flag-zero c.args.n (part_of c.args.block) c.args.m.now r k (sym c.block_has_zero.ensures ∙ c.if-block_has_zero.true))
+    λ r k inside. sym (flag-zero c.args.block.now.n (part_of c.args.block.now) c.args.block.now.matrix.now r k (sym c.block_has_zero.ensures ∙ c.if-block_has_zero.true))
 
 pub returns : goal.returns
 returns c =
-    λ r k inside. sym (flag-none c.args.n (part_of c.args.block) c.args.m.now r k (sym c.block_has_zero.ensures ∙ c.if-block_has_zero.false))
+    λ r k inside. sym (flag-none c.args.block.now.n (part_of c.args.block.now) c.args.block.now.matrix.now r k (sym c.block_has_zero.ensures ∙ c.if-block_has_zero.false))

@@ -14,8 +14,8 @@ pub returns-then-count-gt1 : goal.returns-then-count-gt1
 unfolding mean
 returns-then-count-gt1 c =
     λ r k inside.
-    ap (λ (s : Float). div binary64 s (of_int binary64 (pos (entries (part_of c.args.block))))) c.block_sum.ensures
-    ∙ sym (averaged-many plus_zero c.args.n (part_of c.args.block) c.args.m.now r k (omega arith))
+    ap (λ (s : Float). div binary64 s (of_int binary64 (pos (entries (part_of c.args.block.now))))) c.block_sum.ensures
+    ∙ sym (averaged-many plus_zero c.args.block.now.n (part_of c.args.block.now) c.args.block.now.matrix.now r k (omega arith))
 
 pub returns : goal.returns
-returns c = λ r k inside. sym (averaged-one plus_zero c.args.n (part_of c.args.block) c.args.m.now r k (omega arith))
+returns c = λ r k inside. sym (averaged-one plus_zero c.args.block.now.n (part_of c.args.block.now) c.args.block.now.matrix.now r k (omega arith))
