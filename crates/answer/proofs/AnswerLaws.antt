@@ -1,6 +1,6 @@
 -- The answer by its number. Assumes nothing.
 use mathlib.Core.Path.{◌≡◌, refl}
-use mathlib.Core.Bool.{true, false}
+use mathlib.Core.Bool.{true}
 use Prim.Native.Nat.{ℕ, zero, suc, ◌+◌, ◌≤◌, ◌<◌}
 use native.Mathlib.Omega.{arith}
 use lib.IntN.{ℤ}
@@ -12,9 +12,8 @@ use Rattle.ask.specs.Ask.{first_no}
 use Rattle.listing.specs.Listings.{refusal_of}
 use Rattle.listing_length.proofs.ListingLengthLaws.{refusal-short}
 use Rattle.triplet_study.specs.Study.{Study}
-use Rattle.triplet_study.specs.Questions.{study_questions}
-use Rattle.answer_weights.specs.Asked.{asks_few, questions_of}
-use Rattle.answer_weights.specs.Answers.{listing_for, answer_to}
+use Rattle.answer_weights.specs.Asked.{questions_of}
+use Rattle.answer_weights.specs.Answers.{answer_to}
 
 pub diagonal-lt : (z : ℤ) → is_between 0 3 z ≡ true → mag z < 4
 diagonal-lt z e = omega (arith, between-high 0 3 z e)
@@ -23,23 +22,10 @@ pub refusal-room : (n : ℕ) → 0 + length (refusal_of n) ≤ 118617
 refusal-room n = omega (arith, refusal-short n)
 
 module _ (s : Study) where
-  -- question 1 comes first
-  pub few-no : asks_few s ≡ false → 1 ≡ first_no (questions_of s)
-  unfolding first_no
-  few-no e = rw e
-
-  pub few-yes : asks_few s ≡ true → first_no (study_questions s) ≡ first_no (questions_of s)
-  unfolding first_no
-  few-yes e = rw e
-
   pub answer-refused : (n : ℕ) → n ≡ first_no (questions_of s) → (n ≡ 0 → ⊥) → refusal_of n ≡ answer_to s
   unfolding answer_to
   answer-refused zero e h = absurd (h refl)
   answer-refused (suc n) e h = rw (← e)
-
-  pub answer-listed : (n : ℕ) → n ≡ first_no (questions_of s) → n ≡ 0 → listing_for s ≡ answer_to s
-  unfolding answer_to
-  answer-listed n e h = rw (← e, h)
 
 -- what `grind` is given at a function
 pub ruleset asking_laws = (diagonal-lt, refusal-room)

@@ -27,6 +27,7 @@ fn few_weights(shape: Shape, points: usize, triplets: usize) -> bool
 }
 
 // Question 1, then questions 3 to 11.
+#[tactic(auto, unfolding(ask::specs::Ask::first_no))]
 fn ask(study: Study) -> Result<(), Refusal>
     ensures { result ≡ answer_of (first_no (questions_of (study_of study.entry))) tt }
 {
@@ -74,6 +75,7 @@ pub fn put_refused(out: &mut [u8; 118617], why: Refusal) -> usize
 }
 
 // Writes the answer to a study.
+#[tactic(auto, unfolding(answer_weights::specs::Answers::answer_to))]
 pub fn put_answer(out: &mut [u8; 118617], study: Study) -> usize
     requires { (length study.frequency_points.now ≤ 712) × (length study.triplets.now / 3 ≤ 1170) }
     ensures { Wrote (answer_to (study_of study.entry)) out result }

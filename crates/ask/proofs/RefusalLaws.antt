@@ -1,14 +1,17 @@
 -- The answer by the number of the first no, and the number of an answer. Assumes nothing.
 use mathlib.Core.Path.{◌≡◌, refl, ap, ◌∙◌}
 use mathlib.Core.Bool.{Bool, true, false, ◌&&◌}
-use mathlib.Core.List.{List, [], ◌∷◌}
+use mathlib.Core.List.{List, [], ◌∷◌, ◌++◌}
 use Prim.Native.Nat.{ℕ, zero, suc, ◌+◌, ◌≤◌, ◌<◌}
 use native.Mathlib.Omega.{arith}
 use lib.Dec.{leb, eqb}
 use lib.ListN.{length, get_or}
 use borrow.Author.Tests.{leb-true, eqb-true}
+use Rattle.std.specs.declared.result.Result.{Result}
 use Rattle.std.specs.declared.result.Result.TheVariants.{Ok, Err}
+use Rattle.std.specs.Result.{IsErrAnd}
 use Rattle.ask.specs.Ask.{Question, asks, first_no, after_call}
+use Rattle.ask.proofs.AskLaws.{group-no}
 use Rattle.ask.specs.Refusals.{refusal_number, refusals, refusal_of, answer_of, number_of, are_numbers}
 use Rattle.ask.specs.declared.refusal.Refusal.{Refusal}
 use Rattle.ask.specs.declared.refusal.Refusal.TheVariants as refusal
@@ -75,6 +78,15 @@ refused-is (suc n) m why given other e h = rw h (hand e)
   where
     hand : Err why ≡ answer_of (suc n) given → Err why ≡ answer_of (suc n) other
     hand e = cc e
+
+-- the same of a group of questions before others
+pub group-refused : {A B : Type 0} (qs rest : List Question) (why : Refusal) (given : A) (other : B) → Err why ≡ answer_of (first_no qs) given → Err why ≡ answer_of (first_no (qs ++ rest)) other
+group-refused qs rest why given other e = refused-is _ _ why given other e (group-no qs rest (refused-not _ why given e))
+
+-- what a `?` returns, where it hands the error on as it is
+pub handed-on : {A E : Type 0} {why : E} (r : Result A E) → IsErrAnd r (λ y. y ≡ why) → r ≡ Err why
+handed-on (Ok x) h = absurd h
+handed-on (Err y) h = ap Err h
 
 -- ---- a status and a value behind a reference, from the answer of a call
 

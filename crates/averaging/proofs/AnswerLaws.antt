@@ -18,6 +18,7 @@ use Rattle.question_values.specs.TpTypes.{channels_of}
 use Rattle.ask.proofs.AskLaws.{all_yes}
 use Rattle.question_values.proofs.AverageLaws.{ids-length}
 use Rattle.question_values.proofs.CountLaws.{bands1-high, points-high}
+use Rattle.degenerate_sets.proofs.SizeLaws.{square_le, flags-le, weights-le}
 use Rattle.averaging.specs.Answers.{averaging_questions, averaging_no}
 
 -- ---- sizes
@@ -51,3 +52,6 @@ accepted iw iwz ids1 ids2 points bands type e =
       rows = ids-length (mag bands) ids1 (and_left (are_degenerate_ids (mag bands) ids1) (are_degenerate_ids (mag bands) ids2) ids);
       columns = ids-length (mag bands) ids2 (and_right (are_degenerate_ids (mag bands) ids1) (are_degenerate_ids (mag bands) ids2) ids);
     }
+
+-- by one name, for the attributes of functions
+pub ruleset size_laws = (counts-le, square_le, flags-le, weights-le)

@@ -26,6 +26,7 @@ pub struct Averaging<'a> {
 }
 
 // Questions 8, 9, 12, 17 and 19. Gives the type.
+#[tactic(auto, using(crate::proofs::AnswerLaws::size_laws), unfolding(ask::specs::Ask::first_no))]
 fn ask_averaging(averaging: Averaging, iw: &[f64], iw_zero: &[i8]) -> Result<TpType, Refusal>
     ensures { result ≡ answer_of (no_in iw.now iw_zero.now averaging.entry) (tp_type_of averaging.entry.tp_type) }
 {
@@ -57,6 +58,7 @@ fn ask_averaging(averaging: Averaging, iw: &[f64], iw_zero: &[i8]) -> Result<TpT
 
 // Averages the weights and the flags of one triplet in place. `iw` holds the channels one after another, each by point,
 // band at q', band at q''; `iw_zero` has the shape of one channel; `num_band0` counts the frequency points.
+#[tactic(auto, using(crate::proofs::AnswerLaws::accepted))]
 pub fn average_weights_over_degenerate_sets(
     averaging: Averaging,
     iw: &mut [f64],

@@ -43,7 +43,8 @@ fn same_address(addresses: &[i64], j: usize, w: Address) -> bool
     (addresses[3 * j] == w.x) & (addresses[3 * j + 1] == w.y) & (addresses[3 * j + 2] == w.z)
 }
 
-// The first address from lo up to hi that is the wanted one, else lo.
+// The first address from lo up to hi that is the wanted one, else lo. Both number addresses of the whole list, as the answer does: within a part of the
+// list in their place the answer would count from the part's front, and lo be added again.
 fn first_address(addresses: &[i64], lo: usize, hi: usize, w: Address) -> usize
     requires { 3 * hi ≤ length addresses.now }
     ensures { result ≡ first_at (is_address addresses.now w) lo (hi - lo) lo }
@@ -53,7 +54,7 @@ fn first_address(addresses: &[i64], lo: usize, hi: usize, w: Address) -> usize
         .unwrap_or(lo)
 }
 
-// Kind 1: look up the address in the map on the doubled mesh; where it is missing, the grid index.
+// Kind 1: look up the address in the map on the doubled mesh; where it is missing, the grid index. The bound of the mesh: `mesh_count` says why.
 #[tactic(auto, using(crate::proofs::NeighbourLaws::neighbour_laws), unfolding(crate::specs::Neighbours::sparse_neighbour, crate::specs::Neighbours::map_on_doubled))]
 fn sparse_neighbour(m: Mesh, gp_map: &[i64], w: Address) -> usize
     requires { MeshWithin 128 m × (8 * count_of m ≤ length gp_map.now) }
@@ -72,7 +73,7 @@ fn sparse_neighbour(m: Mesh, gp_map: &[i64], w: Address) -> usize
     }
 }
 
-// Kind 2, of the group from lo up to hi.
+// Kind 2, of the group from lo up to hi: two numbers, as for `first_address`.
 #[tactic(auto, unfolding(crate::specs::Neighbours::in_group))]
 fn in_group(addresses: &[i64], w: Address, lo: usize, hi: usize) -> usize
     requires { (lo ≤ hi) × (3 * hi ≤ length addresses.now) }
@@ -85,7 +86,7 @@ fn in_group(addresses: &[i64], w: Address, lo: usize, hi: usize) -> usize
     }
 }
 
-// Kind 2: the group of the grid index.
+// Kind 2: the group of the grid index. The bound of the mesh: `mesh_count` says why.
 #[tactic(auto, unfolding(crate::specs::Neighbours::dense_neighbour))]
 fn dense_neighbour(m: Mesh, addresses: &[i64], gp_map: &[i64], w: Address) -> usize
     requires { MeshWithin 128 m × (is_dense_map (count_of m) (triples_in addresses.now) gp_map.now ≡ true) }

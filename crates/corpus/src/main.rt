@@ -2,19 +2,14 @@
 
 #![tactic(auto)]
 
-use replay_input::kernel as input;
-use replay_input::reader::Reader;
+use replay_input::kernel::read_block;
 
 // Answers the next text; false where there is none.
 fn next_text() -> bool {
-    let mut head = [0u8; 7];
-    let got = io::read_full(0, &mut head);
-    if got < 7 {
-        return false;
-    }
-    let size = Reader::new(&head).next_count();
     let mut text = io::large_buffer();
-    let n = input::read_part(&mut text, size as usize);
+    let Some(n) = read_block(&mut text) else {
+        return false;
+    };
     // as long as the longest answer
     let mut out = [0; 118617];
     let k = answer::answer(&text[..n], &mut out);

@@ -6,6 +6,7 @@ use Prim.Native.Nat.{ℕ, zero, suc, ◌+◌, ◌-◌, ◌≤◌, ◌<◌}
 use native.Mathlib.Nat.{add-suc, add-zero}
 use native.Mathlib.Numerals.{add-one}
 use native.Mathlib.Omega.{arith}
+use Rattle.list_laws.specs.Lists.{first_at}
 use Rattle.list_laws.proofs.BoolLaws.{true-or-false, lt-eq-gt, lt-or-le}
 use Rattle.degenerate_sets.specs.Sets.{start_of, next_from, end_of}
 use Rattle.degenerate_sets.specs.Blocks.{is_first}
@@ -27,16 +28,11 @@ module _ (p : ℕ → Bool) where
   unfolding next_from
   next-miss fuel k h = rw h
 
-  -- the turn of a loop that looks at e and goes on to e + 1
-  pub next-step : (n e : ℕ) → e < n → p e ≡ false → next_from p (n - e) e ≡ next_from p (n - (e + 1)) (e + 1)
-  next-step n e h miss =
-      ap (λ (x : ℕ). next_from p x e) (omega arith)
-      ∙ next-miss (n - (e + 1)) e miss
-      ∙ ap (next_from p (n - (e + 1))) (omega arith)
-
-  pub next-end : (n e : ℕ) → n ≤ e → next_from p (n - e) e ≡ e
-  unfolding next_from
-  next-end n e h = ap (λ (x : ℕ). next_from p x e) {x = n - e} {y = 0} (omega arith)
+  -- the first place from k on that starts a set, or the end
+  pub next-found : (n fuel k : ℕ) → k + fuel ≡ n → first_at p k fuel n ≡ next_from p fuel k
+  unfolding next_from first_at
+  next-found n zero k h = omega arith
+  next-found n (suc fuel) k h = ap (cond (p k) k) (next-found n fuel (suc k) (omega arith))
 
   pub end-first : (n b : ℕ) → end_of p n b ≡ next_from p (n - (b + 1)) (b + 1)
   unfolding end_of

@@ -10,6 +10,3 @@ flags-le h g = mul-le-mul h (square_le g g)
 
 pub weights-le : {channels points bands : ℕ} → channels ≤ 3 → points ≤ 1024 → bands ≤ 64 → channels * (points * (bands * bands)) ≤ 12582912
 weights-le k h g = mul-le-mul k (flags-le h g)
-
-pub points-le : {channels points : ℕ} → channels ≤ 3 → points ≤ 1024 → channels * points ≤ 3072
-points-le h g = mul-le-mul h g

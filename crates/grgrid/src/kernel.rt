@@ -14,7 +14,7 @@ fn remainder(z: i64, d: usize) -> usize
     z.rem_euclid(d as i64) as usize
 }
 
-// The grid index of an address.
+// The grid index of an address. The bound of the mesh: `mesh_count` says why.
 #[tactic(auto, using(crate::proofs::IndexLaws::index_laws), unfolding(crate::specs::Index::grid_index, numbers::specs::Mesh::count_of))]
 pub fn grid_index(a: Address, m: Mesh) -> usize
     requires { MeshWithin 256 m }

@@ -11,7 +11,7 @@ use numbers::Address;
 pub mod kernel;
 
 // Map a grid address to its single-grid-point index. Question 4 is asked, with mesh numbers from 1 to 256.
-#[tactic(auto, using(list_laws::proofs::BoolLaws::yes_of, list_laws::proofs::BoolLaws::no_of, crate::proofs::IndexLaws::index_laws, question_grids::proofs::GridLaws::grid_laws), unfolding(ask::specs::Ask::first_no))]
+#[tactic(auto, using(question_grids::proofs::GridLaws::mesh_laws), unfolding(ask::specs::Ask::first_no))]
 pub fn grid_index_from_address(address: [i64; 3], d_diag: [i64; 3]) -> Result<i64, Refusal>
     ensures { result ≡ index_answer address d_diag }
 {

@@ -10,7 +10,9 @@ ghost use Rattle.grid_point_weights.specs.Weights.{corner_frequency, Held, corne
 use crate::tested::TestedStudy;
 use tetrahedron_method::kernel::sorted;
 
-// The frequencies of a band at the corners, at the start of a work area.
+// The frequencies of a band at the corners, at the start of a work area. `Held`, here and in `fill_band`, ties the corners to the
+// study's frequencies and a band: a type for it would hold all three. triplet_values defines it too: that crate stands beside this one, not below.
+// Its `fill_frequencies` is another loop: it clamps by a triplet's type, which grid points do not have.
 fn vertex_frequencies(study: &TestedStudy, corners: &[usize; 384], band: usize) -> [f64; 384]
     requires { Held corners.now (study.now.rows.count * 4) (length study.now.lent.frequencies.now) study.now.bands band }
     ensures { result ≡ area 384 (study.now.rows.count * 4) (corner_frequency corners.now study.now.lent.frequencies.now study.now.bands band) (of_bits binary64 0) }

@@ -6,19 +6,18 @@ ghost use Rattle.grid_point_weights.specs.Calls.{tested_study};
 
 use crate::tested::TestedStudy;
 
-// One number for each corner of the table, at the start of a work area.
+// One number for each corner of the table, at the start of a work area. Not triplet_corners' `fill_corner_numbers`: that keeps the grid
+// point itself, without the map to irreducible points, and its crate stands beside this one.
 pub fn corner_points(study: &TestedStudy, gp: usize) -> [usize; 384]
     requires { gp < triples_in study.now.lent.grid.addresses.now }
     ensures { result ≡ corners_of (tested_study study.now) gp }
 {
-    let grid = study.grid;
-    let addresses = study.lent.grid.addresses;
-    let gp_map = study.lent.grid.gp_map;
-    let table = study.lent.relative_grid_address;
+    let grid = study.grid();
+    let steps = study.steps();
     let gp2irgp_map = study.lent.gp2irgp_map;
     let mut corners = [0usize; 384];
-    for j in 0..table.len() / 3 {
-        let v = bzgrid_lookup::kernel::neighbour(grid, addresses, gp_map, table, gp, j);
+    for j in 0..steps.numbers.len() / 3 {
+        let v = grid.neighbour(steps, gp, j);
         corners[j] = numbers::kernel::magnitude_at(gp2irgp_map, v);
     }
     corners

@@ -15,7 +15,7 @@ fn flag_at(flags: &[i8], e: usize) -> u64
     requires { e < length flags.now }
     ensures { result ≡ flag_at flags.now e }
 {
-    if flags[e] == 0 { 0 } else { 1 }
+    u64::from(flags[e] != 0)
 }
 
 // Writes the front of an entry's line: triplet, point, bands and flag, a tab after each.

@@ -1,5 +1,5 @@
 -- Passing over the parts of a line: one law for each way that the code answers. Assumes nothing.
-use Prim.Native.Nat.{ℕ, ◌+◌, ◌*◌, ◌%◌, ◌^◌, ◌≤◌, ◌<◌}
+use Prim.Native.Nat.{ℕ, ◌+◌, ◌*◌, ◌^◌, ◌<◌}
 use mathlib.Core.Path.{◌≡◌, refl, sym, ap, ◌∙◌}
 use mathlib.Core.Bool.{Bool, true, false, cond}
 use mathlib.Core.List.{List, [], ◌∷◌, ◌++◌}
@@ -7,13 +7,12 @@ use native.Mathlib.Numerals.{add-one}
 use native.Mathlib.Omega.{arith}
 use lib.Dec.{eqb, lit<}
 use lib.Ieee.{Float, nan, binary64, of_bits, to_bits}
-use lib.Ieee.Bits.{to_bits-of_bits, to_bits-lt, of_bits-fits, nan_bits_is}
+use lib.Ieee.Bits.{to_bits-lt, of_bits-fits}
 use lib.ListN.{length, get_or, take, drop, length-append}
 use borrow.Author.Tests.{eq-eqb, ne_eqb}
 use Rattle.list_laws.specs.Lists.{rows}
-use Rattle.list_laws.proofs.BoolLaws.{clash, eqb_same}
+use Rattle.list_laws.proofs.BoolLaws.{clash}
 use Rattle.list_laws.proofs.FillLaws.{length-rows}
-use Rattle.ieee_laws.proofs.PatternLaws.{nan-of-pattern, no-nan-pattern}
 use Rattle.std.specs.Prelude.{Option, Some, None}
 use Rattle.text.specs.Fields.{bits}
 use Rattle.text.specs.Spelled.{places, decimal, hexadecimal}
@@ -63,15 +62,6 @@ module _ (text : List ℕ) (at : ℕ) where
 pub nan-bits : to_bits binary64 nan ≡ 9221120237041090560
 unfolding to_bits
 nan-bits = refl
-
-module _ (pattern : ℕ) (h : pattern < 2 ^ 64) where
-  pub low-printed : pattern % 9223372036854775808 ≤ 9218868437227405312 → true ≡ eqb (to_bits binary64 (of_bits binary64 pattern)) pattern
-  low-printed l =
-      sym (eq-eqb (to_bits binary64 (of_bits binary64 pattern)) pattern
-      (to_bits-of_bits binary64 pattern h (rw (sym (nan_bits_is binary64 pattern) ∙ no-nan-pattern pattern l) tt)))
-
-  pub high-printed : 9218868437227405312 < pattern % 9223372036854775808 → eqb pattern 9221120237041090560 ≡ eqb (to_bits binary64 (of_bits binary64 pattern)) pattern
-  high-printed l = rw (nan-of-pattern pattern l, nan-bits) (eqb_same pattern 9221120237041090560 9221120237041090560 pattern sym sym)
 
 -- every weight that stands in a text has a pattern of 64 bits
 pattern-of : (m : Option ℕ) → to_bits binary64 (float_of m) < 2 ^ 64
@@ -165,6 +155,4 @@ module _ (place : Place) (channels : ℕ) {u v : Reader} (p : Passes (numbers_of
       rw e at (passes_then (n ++ flag) (weights_here channels) (flagged q) s)
 
 -- what `grind` is given at a function
-pub ruleset printed_laws = (low-printed, high-printed)
-
 pub ruleset flag_laws = (flag-zero, flag_one)

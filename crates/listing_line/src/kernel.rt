@@ -9,7 +9,7 @@ ghost use Rattle.listing_line.specs.Lines.{numbers_of, flag_here, weight_here, w
 use crate::Place;
 use listing::kernel::weight_end;
 use reading::kernel::Reader;
-use text::kernel::{float_of, parse_bits};
+use text::kernel::{bits_of, float_of, parse_bits};
 
 // Passes over the numbers of a place, a tab after each.
 pub fn pass_numbers(reader: &mut Reader<'_>, place: Place) -> Option<()>
@@ -27,7 +27,7 @@ pub fn flag_at(reader: &Reader<'_>) -> i8
     requires { reader.now.at < length reader.now.text.now }
     ensures { result ≡ pos (flag_here reader.now.text.now reader.now.at) }
 {
-    if reader.text[reader.at] == 48 { 0 } else { 1 }
+    i8::from(reader.text[reader.at] != 48)
 }
 
 // Passes over a flag and its tab.
@@ -44,14 +44,10 @@ fn pass_flag(reader: &mut Reader<'_>) -> Option<()>
 }
 
 // Whether the writer prints a bit pattern: of the NaNs it prints one.
-#[tactic(auto, using(crate::proofs::LineLaws::printed_laws))]
 fn is_printed(pattern: u64) -> bool
     ensures { result ≡ eqb (to_bits binary64 (of_bits binary64 pattern)) pattern }
 {
-    if 9218868437227405312 < pattern % 9223372036854775808 {
-        return pattern == 9221120237041090560;
-    }
-    true
+    bits_of(float_of(pattern)) == pattern
 }
 
 // The weight where a reader is.

@@ -31,7 +31,19 @@ use Rattle.reading.proofs.RowLaws.{rows_ext, rows_long, one_more_lem, front-stan
 use Rattle.sheet_counts.proofs.SheetCountLaws.{counts-low, all-cells-le, weights-le, both-yes}
 use Rattle.listing_line.specs.Lines.{numbers_of, flag_here, weight_here, weights_here, line_here}
 use Rattle.listing_line.proofs.LineLaws.{two-bytes, weight-length}
+use lib.Signed.{mag}
+use Rattle.question_values.specs.TpTypes.{channels_of}
+use Rattle.triplet_types.specs.Types.{tp_type_of}
+use Rattle.triplet_types.proofs.TypeLaws.{channels-of-type}
+use Rattle.sheet_counts.specs.declared.Counts.{Counts}
+use Rattle.listing_read.specs.Forms.{form_of}
 use Rattle.listing_read.specs.Restored.{place_of, next_place, line_start, flag_place, weight_place, flags_in, weights_in, is_listing, listing_in}
+
+-- ---- the form
+
+-- the counts of the type that a number names, and of the counts of a call
+pub form-is : (type : ℤ) (c : Counts) → form_of (tp_type_of type) c ≡ record { points = mag c.num_band0; bands1 = mag c.num_band1; bands2 = mag c.num_band2; channels = channels_of type }
+form-is type c = rw (channels-of-type type) refl
 
 -- ---- the place after a place
 

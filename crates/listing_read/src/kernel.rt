@@ -103,16 +103,17 @@ fn is_listing(text: &[u8], tested: TestedForm, cells: usize) -> bool
     passed.is_some() && reader.at == text.len()
 }
 
-// Questions 8, 9, 12 and 22 of a listing and two buffers for its record. Gives the type.
-#[tactic(auto, using(list_laws::proofs::BoolLaws::yes_of, list_laws::proofs::BoolLaws::no_of, crate::proofs::RestoredLaws::count_laws), unfolding(ask::specs::Ask::first_no, crate::specs::Reading::is_listed))]
+// Questions 8, 9, 12 and 22 of a listing and two buffers for its record. Gives the form of the listing. num_weights and num_flags count what is not
+// read here: lists in their place would ask more of the caller.
+#[tactic(auto, using(crate::proofs::RestoredLaws::count_laws), unfolding(ask::specs::Ask::first_no))]
 pub fn ask_listing(
     listing: &[u8],
     tp_type: i64,
     counts: Counts,
     num_weights: usize,
     num_flags: usize,
-) -> Result<TpType, Refusal>
-    ensures { result ≡ answer_of (read_no listing.now tp_type counts num_weights num_flags) (tp_type_of tp_type) }
+) -> Result<Form, Refusal>
+    ensures { result ≡ answer_of (read_no listing.now tp_type counts num_weights num_flags) (form_of (tp_type_of tp_type) counts) }
 {
     let tp = ask_counts(tp_type, counts)?;
     let tested = TestedForm {
@@ -128,5 +129,5 @@ pub fn ask_listing(
     if !is_listing(listing, tested, cells) {
         return Err(Refusal::Listing);
     }
-    Ok(tp)
+    Ok(tested.form)
 }

@@ -36,10 +36,8 @@ pub fn read_listing(
     ensures leaves_2 { Leaves (read_no listing.now tp_type counts (length weights.old) (length flags.old))
         (listed_flags listing.now tp_type counts) flags }
 {
-    let tp = kernel::ask_listing(listing, tp_type, counts, weights.len(), flags.len())?;
-    let tested = TestedForm {
-        form: kernel::form_of(tp, counts),
-    };
+    let form = kernel::ask_listing(listing, tp_type, counts, weights.len(), flags.len())?;
+    let tested = TestedForm { form };
     kernel::restore::restore(listing, tested, weights, flags);
     Ok(())
 }

@@ -47,7 +47,8 @@ fn mark_ok(mark: u8, first: u8) -> bool
     (mark < 3) & ((averaged & first_averaged) | (!averaged & !first_averaged))
 }
 
-// Question 13.
+// Question 13. `pieces` stands beside the marks, and that they are those of so many pieces is a clause, here and above: they lie in bytes that other
+// languages lend, how many bytes a mark takes is known in this crate alone, and a type of both would be made anew for each call.
 pub fn marks_ok(pairs: usize, pieces: usize, marks: &[u8]) -> bool
     requires { (0 < pairs) × Holds pieces marks.now }
     ensures { result ≡ are_marks pairs pieces marks.now }
@@ -79,7 +80,7 @@ pub fn all_computed(pairs: usize, marks: &[u8], t: usize) -> bool
         .all(|mark| *mark == COMPUTED)
 }
 
-// How many pieces are open.
+// How many pieces are open: so many beside the marks, as for question 13.
 pub fn open_pieces(pieces: usize, marks: &[u8]) -> u64
     requires { Holds pieces marks.now }
     ensures { result ≡ open_pieces pieces marks.now }

@@ -58,7 +58,7 @@ pub fn magnitude_at(xs: &[i64], k: usize) -> usize
     magnitude(xs[k])
 }
 
-// The same of `==`.
+// Whether an element is z. That `==` of two numbers of the machine is `eq_z` of the list's number is shown here, apart from the loop that asks it.
 pub fn equal_at(xs: &[i64], k: usize, z: i64) -> bool
     requires { k < length xs.now }
     ensures { result ≡ eq_z (at xs.now k) z }
@@ -79,7 +79,8 @@ pub fn mesh_of(d_diag: [i64; 3]) -> Mesh
     }
 }
 
-// N, the product of the mesh numbers.
+// N, the product of the mesh numbers. Their bound is no field of `Mesh`: it is 256 or 128 by the use, and the definitions make a mesh of numbers that no
+// question has passed.
 pub fn mesh_count(m: Mesh) -> usize
     requires { MeshWithin 256 m }
     ensures { result ≡ count_of m }

@@ -11,7 +11,8 @@ use sheet_counts::Counts;
 use sheet_counts::kernel::{ask_counts, cells_of};
 use triplet_types::TpType;
 
-// Questions 8, 9, 12 and 14. Gives the type.
+// Questions 8, 9, 12 and 14. Gives the type. num_weights counts what is not read here: a list in its place would ask more of the caller.
+#[tactic(auto, unfolding(ask::specs::Ask::first_no))]
 pub fn ask_open(
     tp_type: i64,
     counts: Counts,
@@ -61,7 +62,8 @@ impl<'a> Channels<'a> {
         false
     }
 
-    // How many of the `n` entries from `start` on are open.
+    // How many of the `n` entries from `start` on are open. Loops here and above: tried as `filter` with `count` and as `any`, and an open count took a
+    // third more instructions.
     pub fn open_from(&self, start: usize, n: usize) -> u64
         requires { start + n ≤ self.now.cells }
         ensures { result ≡ open_from self.now.channels self.now.cells self.now.weights.now start n }

@@ -19,6 +19,8 @@ pub mod tetrahedra;
 pub mod triplets;
 pub mod version;
 
+// Beside NamedPiece of the sheet, which has the same fields: this is the C interface's, which lays its fields out as C does.
+
 // A piece as a caller names it: any numbers.
 #[repr(C)]
 #[derive(Clone, Copy)]

@@ -125,3 +125,5 @@ module _ (n p : ℕ) (gp-map : List ℤ) (e : is_dense_map n p gp-map ≡ true) 
 
 -- by one name, for the attributes of functions
 pub ruleset grid_laws = (mesh-within, triples-at, addresses-triples, addresses-low, addresses-high, sparse-length, sparse-at, dense-length, dense-step, dense-top)
+
+pub ruleset mesh_laws = (mesh-within)

@@ -41,3 +41,6 @@ module _ (table : List ℤ) (e : is_table table ≡ true) where
   pub table-some : 0 < length table
   unfolding is_table
   table-some = some-rows (length table) (and_left (has_rows 12 (length table)) (are_triples table) e)
+
+-- by one name, for the attributes of functions
+pub ruleset table_laws = (table-some)

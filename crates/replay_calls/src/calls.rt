@@ -76,6 +76,7 @@ fn next_played(reader: &mut Reader<'_>, alloc: Global) -> Result<Call<Vec<i64>>,
 }
 
 // A list to the start of a lent room, cut to it.
+// Beside `fill_list`, which gives the count: a call lends the part that is filled.
 #[tactic(auto, unfolding(replay_study::specs::Records::after_list))]
 fn list_in<'b>(reader: &mut Reader<'_>, room: &'b mut [i64]) -> &'b [i64]
     ensures text { reader.new ≡ record reader.old { at = after_wholes reader.old.text.now (length room.old) reader.old.at } }
@@ -89,6 +90,7 @@ fn list_in<'b>(reader: &mut Reader<'_>, room: &'b mut [i64]) -> &'b [i64]
 
 // What a call names: worker, triplet and bands of a run, the worker of a carry-on, the triplet of an averaging; then its lists, each to the
 // start of a lent room and cut to it.
+// Beside `next_call`, which takes memory and can fail for want of it: this one cannot.
 #[tactic(auto, unfolding(crate::specs::Calls::IsCall, crate::specs::Calls::IsCarryOn, crate::specs::Calls::IsAverage, crate::specs::Calls::IsPlay))]
 pub fn read_call<'b>(
     reader: &mut Reader<'_>,
@@ -149,6 +151,7 @@ pub fn next_call(
 pub fn answered(sheet: &mut Sheet, answer: Result<Tally, Refusal>) -> u64
     ensures number { result ≡ number_of answer }
     ensures tally { sheet.new.tally.runs ≡ runs_after answer sheet.old.tally.runs }
+    ensures rest { sheet.new ≡ record sheet.old { tally = sheet.new.tally } }
 {
     sheet.tally.settle(answer)
 }
@@ -164,7 +167,7 @@ impl Call<Vec<i64>> {
         }
     }
 
-    // The call as it is lent.
+    // The call as it is lent, variant by variant: no derive lends the lists of an enum.
     pub fn lent(&self) -> Call<&[i64]>
         ensures { SaysSame (λ list. list.items) (λ list. list.now) self.now result }
     {

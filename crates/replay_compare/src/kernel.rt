@@ -79,6 +79,7 @@ pub fn agree<T: Compared>(a: &[T], b: &[T]) -> bool
 }
 
 // Whether each number is the value.
+// Beside `agree`, which would need a list of the value over and over, for which memory is taken: this one needs none.
 pub fn all_are(a: &[i64], value: i64) -> bool
     ensures { result ≡ all_are a.now value }
 {

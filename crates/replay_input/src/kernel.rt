@@ -69,6 +69,7 @@ pub fn read_block(buf: &mut [u8]) -> Option<usize>
 }
 
 // Reads n bytes to the start of buf and answers how many there were; none where buf is shorter.
+// n is what the input says: a slice cut to it would ask of the caller that it is no more than the buffer's length.
 pub fn read_part(buf: &mut [u8], n: usize) -> usize
     ensures { (result ≤ length buf.new) × (result ≡ length (take result buf.new)) }
 {

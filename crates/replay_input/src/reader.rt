@@ -1,5 +1,5 @@
 // The fields of a text, read one after the other. A field that is no number, or lies past the end, gives some number.
-ghost use Rattle.std.specs.Prelude.{◌≤◌, ◌<◌, ◌*◌, ◌+◌, ◌^◌, ◌≡◌, IsTrue, ◌↔◌, eqb, min, length, get_or, take, drop};
+ghost use Rattle.std.specs.Prelude.{◌≤◌, ◌<◌, ◌*◌, ◌+◌, ◌^◌, ◌≡◌, IsTrue, IfSome, ◌↔◌, eqb, min, length, get_or, take, drop};
 ghost use Rattle.std.specs.Float.{binary64};
 ghost use Rattle.std.specs.Float.Ieee.{of_bits};
 ghost use Rattle.replay_input.specs.Fields.{spelled, passed, count_at, after_count, bits_at, after_bits, whole_at, after_whole, field_place, whole_from, value_from, agrees_from, ListRead};
@@ -49,6 +49,7 @@ impl<'a> Reader<'a> {
         ensures next { self.new ≡ record self.old { at = self.old.at + passed BASE (drop self.old.at self.old.text.now) } }
     {
         let mut n: u64 = 0;
+        // by index: the place after the byte is where the next field starts
         for i in self.at..self.text.len() {
             let d = text::kernel::digit_of(self.text[i]);
             self.at = i + 1;
@@ -82,10 +83,7 @@ impl<'a> Reader<'a> {
     fn is_minus(&self) -> bool
         ensures { result ≡ eqb (get_or self.now.text.now self.now.at 0) 45 }
     {
-        match self.text.get(self.at) {
-            Some(b) => *b == b'-',
-            None => false,
-        }
+        self.text.get(self.at).is_some_and(|b| *b == b'-')
     }
 
     // A whole number: digits, and a minus sign where one stands before them.
@@ -155,6 +153,7 @@ impl<'a> Reader<'a> {
     }
 
     // A list, its count and then its numbers, to the start of a buffer: how many they are, cut to the buffer's length.
+    // The count, not the part that is filled: the contract tells of all of the buffer, also that what is behind the list stays.
     pub fn fill_list<T: Field>(&mut self, out: &mut [T]) -> usize
         ensures count_in_bounds { (result ≤ length out.new) × (result ≡ length (take result out.new)) }
         ensures text { self.new ≡ record self.old { at = self.new.at } }
@@ -255,8 +254,10 @@ pub fn length_within<T>(n: u64, buf: &[T]) -> usize
     at_most(n, buf.len())
 }
 
-// The next block of the input, read into a buffer; none where no block is left. What the input holds is not a proof's to say: no contract.
-pub fn next_block(buf: &mut [u8]) -> Option<&[u8]> {
+// The next block of the input, read into a buffer; none where no block is left. What the input holds is not a proof's to say: only that a block has a byte.
+pub fn next_block(buf: &mut [u8]) -> Option<&[u8]>
+    ensures { IfSome result (λ block. 0 < length block.now) }
+{
     let n = read_block(buf)?;
     // an empty block ends the input too
     if n == 0 {

@@ -1,29 +1,27 @@
--- A table of numbers and kinds, gone through from its front. Assumes nothing.
-use Prim.Native.Nat.{ℕ, ◌+◌, ◌<◌, ◌≤◌}
-use mathlib.Core.Path.{◌≡◌, refl}
+-- A table of numbers and kinds: std's `find`, then the kind of the pair, gives what the number names. Assumes nothing.
+use Rattle.std.specs.Prelude.{ℕ, eqb}
+use denote.Ref.{Bor}
+use mathlib.Core.Path.{◌≡◌, ◌∙◌, ap, refl, sym}
+use mathlib.Core.Bool.{Bool, true, false, cond}
 use mathlib.Core.List.{List, [], ◌∷◌}
-use native.Mathlib.Numerals.{add-one}
-use native.Mathlib.Omega.{arith}
-use lib.ListN.{length, get_or, drop, length-drop}
-use lib.Seq.{drop-cons}
-use borrow.Author.Tests.{eq-eqb, ne_eqb}
+use Rattle.std.specs.List.{find}
+use Rattle.std.specs.Option.{MatchOption, option_map}
+use Rattle.std.specs.declared.option.Option.{Option}
 use Rattle.std.specs.declared.option.Option.TheVariants.{Some, None}
 use Rattle.replay_report.specs.Report.{kind_of}
 
-module _ {K : Type 0} (kinds : List (ℕ × K)) (number i : ℕ) where
-  module _ (pair : ℕ × K) (h : i < length kinds) (e : pair ≡ get_or kinds i pair) where
-    pub kind-here : pair.0 ≡ number → kind_of (drop i kinds) number ≡ Some pair.1
-    unfolding kind_of
-    kind-here w = rw (drop-cons kinds i pair, ← e) (simp (eq-eqb pair.0 number w))
+turn : {K : Type 0} (b : Bool) (pair : ℕ × K) (found : Option (ℕ × K)) (named : Option K) → named ≡ option_map (λ (p : ℕ × K). p.1) found
+    → cond b (Some pair.1) named ≡ option_map (λ (p : ℕ × K). p.1) (cond b (Some pair) found)
+turn true pair found named rest = refl
+turn false pair found named rest = rest
 
-    pub kind-later : (pair.0 ≡ number → ⊥) → kind_of (drop i kinds) number ≡ kind_of (drop (i + 1) kinds) number
-    unfolding kind_of
-    kind-later w = rw (add-one, drop-cons kinds i pair, ← e) (simp (ne_eqb pair.0 number w))
+kind-found : {K : Type 0} (kinds : List (ℕ × K)) (number : ℕ) → kind_of kinds number ≡ option_map (λ (p : ℕ × K). p.1) (find (λ (p : ℕ × K). eqb p.0 number) kinds)
+unfolding kind_of
+kind-found [] number = refl
+kind-found (pair ∷ kinds) number = turn (eqb pair.0 number) pair (find (λ p. eqb p.0 number) kinds) (kind_of kinds number) (kind-found kinds number)
 
-  none-left : (l : List (ℕ × K)) → length l ≡ 0 → kind_of l number ≡ None
-  unfolding kind_of
-  none-left [] e = refl
-  none-left (p ∷ l) e = absurd (omega (arith, e))
-
-  pub kind-none : length kinds ≤ i → kind_of (drop i kinds) number ≡ None
-  kind-none h = none-left (drop i kinds) (omega (arith, h, length-drop i kinds))
+-- where the pair that is found gives the kind
+pub kind-mapped : {K : Type 0} (kinds : List (ℕ × K)) (number : ℕ) (found : Option (Bor (ℕ × K))) (named : Option K)
+    → MatchOption found (named ≡ None) (λ pair. named ≡ Some pair.now.1) → option_map (λ pair. pair.now) found ≡ find (λ (p : ℕ × K). eqb p.0 number) kinds → named ≡ kind_of kinds number
+kind-mapped {K} kinds number None named m f = m ∙ ap (λ (o : Option (ℕ × K)). option_map (λ (p : ℕ × K). p.1) o) f ∙ sym (kind-found kinds number)
+kind-mapped {K} kinds number (Some pair) named m f = m ∙ ap (λ (o : Option (ℕ × K)). option_map (λ (p : ℕ × K). p.1) o) f ∙ sym (kind-found kinds number)

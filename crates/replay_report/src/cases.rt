@@ -110,7 +110,8 @@ pub struct Cases {
 impl Cases {
     // A kind with no case yet.
     pub fn new(name: &'static str, title: &'static str) -> Cases
-        ensures { (result.count.cases ≡ 0) × (result.count.agree ≡ 0) × (result.count.differ ≡ 0) × (result.count.refused ≡ replicate 30 0) }
+        ensures named { (result.name ≡ name.entry) × (result.title ≡ title.entry) }
+        ensures none { (result.count.cases ≡ 0) × (result.count.agree ≡ 0) × (result.count.differ ≡ 0) × (result.count.refused ≡ replicate 30 0) }
     {
         Cases {
             name,
@@ -121,6 +122,7 @@ impl Cases {
 
     // One case more; one that differs is printed by its name and its place, from 1. Where that line cannot be written the counts still tell.
     pub fn add(&mut self, rt: &impl Print, judged: Judged)
+        ensures named { (self.new.name ≡ self.old.name) × (self.new.title ≡ self.old.title) }
         ensures cases_value { (self.new.count.cases ≡ one_more self.old.count.cases) × (self.new.count.refused ≡ refused_more self.old.count.refused judged.refusal) }
         ensures agree_value { (self.new.count.agree ≡ cond judged.agrees (one_more self.old.count.agree) self.old.count.agree) × (self.new.count.differ ≡ cond judged.agrees self.old.count.differ (one_more self.old.count.differ)) }
     {
@@ -149,6 +151,7 @@ pub fn after_call<'a, T>(refusal: u64, given: &'a [T], before: &'a [T]) -> &'a [
 }
 
 // The refusal of a stored answer, 0 for none, and what a buffer is to hold after its call.
+// Both are compared with what the call gave: a Result would be taken apart again for that.
 pub fn told_of<'a, T: Drop>(answer: &'a Result<Vec<T>, u64>, before: &'a [T]) -> (u64, &'a [T])
     ensures accepted { IfOk answer.now (λ given. (result.0 ≡ 0) × (result.1.now ≡ given.items)) }
     ensures refused { IfErr answer.now (λ number. (result.0 ≡ number) × (result.1.now ≡ before.now)) }

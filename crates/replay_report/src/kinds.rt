@@ -14,12 +14,10 @@ pub struct UnknownRecord(pub u64);
 pub fn kind_of<K: Copy>(kinds: &[(u64, K)], number: u64) -> Option<K>
     ensures { result ≡ kind_of kinds.now number }
 {
-    for pair in kinds {
-        if pair.0 == number {
-            return Some(pair.1);
-        }
-    }
-    None
+    kinds
+        .iter()
+        .find(|pair| pair.0 == number)
+        .map(|pair| pair.1)
 }
 
 // The same of a record.

@@ -1,3 +1,4 @@
 -- The definitions.
 pub mod Content
 pub mod Open
+pub mod Counted

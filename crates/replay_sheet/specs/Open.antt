@@ -7,7 +7,7 @@ use Rattle.ask.specs.Refusals.{number_of}
 use Rattle.ask.specs.declared.refusal.Refusal.{Refusal}
 use Rattle.open_count.specs.OpenCount.{open_count_answer}
 use Rattle.replay_input.specs.Fields.{count_at, after_count, bits_at, after_bits, whole_at, after_whole, real_at, value_from}
-use Rattle.replay_study.specs.Records.{after_list}
+use Rattle.replay_study.specs.Records.{after_list, counts_at, after_counts}
 
 -- the weights of a list at a place of the text
 abbrev pub open_weights : List ℕ → ℕ → List Float
@@ -17,27 +17,15 @@ open_weights text at = tabulate (min (count_at text at) 256) (value_from real_at
 abbrev pub after_weights : List ℕ → ℕ → ℕ
 after_weights text at = after_list (after_bits text) text at 256
 
--- where the weights of a record stand
+-- where the weights of a record stand: behind its type and its counts
 abbrev pub weights_place : List ℕ → ℕ → ℕ
-weights_place text at = after_whole text (after_whole text (after_whole text (after_whole text (after_whole text at))))
+weights_place text at = after_counts text (after_whole text at)
 
 -- what the call of a record gives
 unfoldable pub open_answer : List ℕ → ℕ → Result ℕ Refusal
 open_answer text at =
-    let triplets = after_whole text at in
-    let points = after_whole text triplets in
-    let bands1 = after_whole text points in
-    let bands2 = after_whole text bands1 in
-    let weights = after_whole text bands2 in
-    open_count_answer (whole_at text at)
-    record {
-      num_triplets = whole_at text triplets;
-      num_band0 = whole_at text points;
-      num_band1 = whole_at text bands1;
-      num_band2 = whole_at text bands2;
-    }
-    (open_weights text weights)
-    (whole_at text (after_weights text weights))
+    let weights = weights_place text at in
+    open_count_answer (whole_at text at) (counts_at text (after_whole text at)) (open_weights text weights) (whole_at text (after_weights text weights))
 
 -- where its stored answer stands
 abbrev pub stored_place : List ℕ → ℕ → ℕ

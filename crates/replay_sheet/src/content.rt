@@ -19,6 +19,7 @@ pub struct Sheet {
 }
 
 // Reads weights, flags and marks into lent buffers.
+// Beside `next_sheet`, which takes memory and can fail for want of it: this one cannot.
 #[tactic(auto, unfolding(crate::specs::Content::SheetRead, crate::specs::Content::flag_from, crate::specs::Content::mark_from, replay_input::specs::Fields::value_from, replay_input::specs::Fields::real_at, replay_input::specs::Fields::real_from, replay_input::specs::Fields::flag_at, replay_input::specs::Fields::whole_from, replay_input::specs::Fields::mark_at))]
 pub fn read_sheet(reader: &mut Reader<'_>, weights: &mut [f64], flags: &mut [i8], marks: &mut [u8])
     ensures text { reader.new ≡ record reader.old { at = reader.new.at } }

@@ -1,6 +1,7 @@
 // What is counted and printed: the answers by kind of call, and the differences.
-ghost use Rattle.std.specs.Prelude.{◌≡◌, cond};
+ghost use Rattle.std.specs.Prelude.{◌≡◌, cond, replicate};
 ghost use Rattle.replay_report.specs.Report.{one_more};
+ghost use Rattle.replay_sheet.specs.Counted.{counted};
 
 use replay_report::cases::one_more;
 use replay_report::kinds::kind_of;
@@ -41,6 +42,12 @@ const CALLS: [(u64, CallKind); 4] = [
 impl TryFrom<u64> for CallKind {
     type Error = UnknownCall;
 
+    ghost use Rattle.std.specs.Prelude.{Some, None, IfOk, IfErr};
+    ghost use Rattle.replay_report.specs.Report.{kind_of};
+    ghost use Rattle.replay_sheet.specs.declared.counts.TheConstants.{CALLS};
+
+    ghost try_from_gives = { λ number r. IfOk r (λ kind. kind_of CALLS number ≡ Some kind) × IfErr r (λ no. (kind_of CALLS number ≡ None) × (no.0 ≡ number)) };
+
     fn try_from(number: u64) -> Result<Self, UnknownCall> {
         kind_of(&CALLS, number).ok_or(UnknownCall(number))
     }
@@ -67,7 +74,7 @@ pub struct AnswerCounts {
 
 impl AnswerCounts {
     pub fn new() -> AnswerCounts
-        ensures { result.differences ≡ 0 }
+        ensures { (counted result ≡ replicate 5 (replicate 30 0)) × (result.differences ≡ 0) }
     {
         AnswerCounts {
             by_kind: [[0; 30]; 5],

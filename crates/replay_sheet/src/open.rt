@@ -11,6 +11,7 @@ use replay_study::counts::next_counts;
 use sheet::Refusal;
 
 // The number of an answer, 0 where the call is done, and the entries that it counts, 0 where it is refused.
+// Both numbers stand in the record: a Result would be taken apart again to compare them.
 fn told(answer: Result<u64, Refusal>) -> (u64, u64)
     ensures { result ≡ (number_of answer, entries_of answer) }
 {

@@ -4,7 +4,7 @@ ghost use Rattle.tetrahedron_method.specs.declared.WeightFunction.TheVariants.{I
 
 use tetrahedron_method::WeightFunction;
 
-// The weight that a stored number names: I by 0, J by any other.
+// The weight that a stored number names: I by 0, J by any other. No From: the numbers are the records', not the type's own.
 pub fn function_of(number: u64) -> WeightFunction
     ensures { result ≡ cond (eqb number 0) I J }
 {

@@ -49,7 +49,7 @@ pub struct OwnGrid {
 }
 
 impl OwnGrid {
-    // The grid as it is lent to a call.
+    // The grid as it is lent to a call. No From: the `lent` of a study, which takes a grid and a table too, could be none.
     pub fn lent(&self) -> Grid<'_>
         ensures { (result.bz_grid_type ≡ self.now.bz_grid_type) × (result.d_diag ≡ self.now.d_diag) × (result.addresses.now ≡ self.now.addresses.items) × (result.gp_map.now ≡ self.now.gp_map.items) }
     {

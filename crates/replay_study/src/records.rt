@@ -23,6 +23,7 @@ pub struct ValuesRecord {
 }
 
 // A grid: kind, mesh, list of addresses, list of the map.
+// Beside `next_grid`, which takes memory and can fail for want of it: this one cannot.
 pub fn read_grid(reader: &mut Reader<'_>, addresses: &mut [i64], map: &mut [i64]) -> GridRecord
     ensures addresses_in_bounds { (result.addresses ≤ length addresses.new) × (result.addresses ≡ length (take result.addresses addresses.new)) }
     ensures map_in_bounds { (result.map ≤ length map.new) × (result.map ≡ length (take result.map map.new)) }
@@ -42,6 +43,7 @@ pub fn read_grid(reader: &mut Reader<'_>, addresses: &mut [i64], map: &mut [i64]
 }
 
 // The values of a study: lists of both frequencies, list of points.
+// Beside `next_values`, which takes memory and can fail for want of it: this one cannot.
 pub fn read_values(
     reader: &mut Reader<'_>,
     frequencies1: &mut [f64],

@@ -28,7 +28,7 @@ fn average_entries<E: Averaged>(by: TripletAverage, entries: &mut [E], channels:
     }
 }
 
-// The weights of the triplet, channel by channel.
+// The weights of the triplet, channel by channel. How many there are is a clause (sheet_step says why).
 pub fn average_weights(by: TripletAverage, weights: &mut [f64])
     requires { length weights.old ≡ by.counts.sizes.channels * by.counts.sizes.cells }
     ensures { weights.new ≡ triplet_averaged by.entry.counts.sizes by.entry.triplet by.entry.degenerate_ids1.now by.entry.degenerate_ids2.now weights.old }

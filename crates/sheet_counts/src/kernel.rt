@@ -24,6 +24,7 @@ fn counts_ok(counts: Counts) -> bool
 }
 
 // Questions 8 and 9. Gives the type.
+#[tactic(auto, unfolding(ask::specs::Ask::first_no))]
 pub fn ask_counts(tp_type: i64, counts: Counts) -> Result<TpType, Refusal>
     ensures { result ≡ answer_of (first_no (count_questions tp_type counts)) (tp_type_of tp_type) }
 {

@@ -11,13 +11,10 @@ use lib.ListN.{length, replicate}
 use Rattle.list_laws.specs.Lists.{rows, tabulate}
 use Rattle.list_laws.proofs.BoolLaws.{and_left, and_right}
 use Rattle.ask.specs.Ask.{asks}
-use Rattle.ask.proofs.AskLaws.{all_yes, after-done, after-refused}
+use Rattle.ask.proofs.AskLaws.{all_yes, after-done}
 use Rattle.triplet_study.specs.Study.{Study}
-use Rattle.std.specs.declared.result.Result.{Result}
-use Rattle.std.specs.declared.result.Result.TheVariants.{Ok, Err}
-use Rattle.ask.specs.Refusals.{answer_of}
-use Rattle.ask.specs.declared.refusal.Refusal.{Refusal}
-use Rattle.ask.proofs.RefusalLaws.{done-is, refused-is, refused-not}
+use Rattle.std.specs.declared.result.Result.TheVariants.{Ok}
+use Rattle.ask.proofs.RefusalLaws.{done-is}
 use Rattle.sheet_tally.specs.declared.Tally.{Tally}
 use Rattle.sheet_tally.specs.Tallies.{sixteen_of}
 use Rattle.sheet_step.specs.Steps.{Sheet, sheet, Call, verdict, step, step_answer}
@@ -96,12 +93,6 @@ list-yes list answers tallies e =
 
 -- what playing a list did, refused by its own question or done
 module _ (g : Study) (s : Sheet) (calls : List Call) (number : ℕ) (answers tallies : List ℕ) where
-  pub play-refused : (why : Refusal) → ◌≡◌ {A = Result (Unit {0}) Refusal} (Err why) (answer_of number tt) → DidPlay g s calls number answers tallies (Err why) (outcome s answers tallies)
-  play-refused why e = record {
-    answers_with = refused-is number number why tt _ e refl;
-    leaves = after-refused number (outcome_of g s calls) (outcome s answers tallies) (refused-not number why tt e);
-  }
-
   -- the buffers end as the list's buffers do
   pub play-done : (t : Tally) (w : List Float) (f : List ℤ) (m a ts : List ℕ) → number ≡ 0 → outcome (sheet w f m t.runs) a ts ≡ outcome_of g s calls
       → {a' ts' : List ℕ} → a' ≡ a → ts' ≡ ts → DidPlay g s calls number answers tallies (Ok t) (outcome (sheet w f m t.runs) a' ts')

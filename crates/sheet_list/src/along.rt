@@ -45,7 +45,7 @@ pub fn play_all(sheet: &mut SheetMut, study: Study, before: Tally, list: &mut Ca
         Ok(tested) => play_tested(sheet, tested, before, list),
         Err(why) => {
             let calls = list.answers.len();
-            asks::fill_with(list.answers, why.number());
+            list.answers.fill(why.number());
             asks::fill_tallies(list.tallies, calls, before);
             before
         }

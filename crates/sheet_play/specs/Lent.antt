@@ -13,7 +13,8 @@ calls_in l = calls_of l.calls.list.now l.calls.ids.now
 abbrev pub outcome_in : Sheet → CallsMut → Outcome
 outcome_in s l = outcome s l.answers.now l.tallies.now
 
--- which buffers are lent stays
+-- the calls, and which buffers are lent, stay
 pub record SameList (before after : CallsMut) : Type 0 where
+  pub calls : after.calls ≡ before.calls
   pub answers : after.answers.ghost_name ≡ before.answers.ghost_name
   pub tallies : after.tallies.ghost_name ≡ before.tallies.ghost_name

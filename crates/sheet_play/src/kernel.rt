@@ -13,7 +13,7 @@ use sheet_fill::{PreparedStudy, Work};
 use sheet_step::SheetMut;
 use sheet_tally::Tally;
 
-// Stores the sixteen counts of a tally.
+// Stores the sixteen counts of a tally: its length, which the copy wants, is asked and shown here once, and a list that is refused stores them too.
 pub fn store_counts(row: &mut [u64], tally: Tally)
     requires { length row.old ≡ 16 }
     ensures { row.new ≡ sixteen_of tally.runs }

@@ -48,3 +48,8 @@ module _ (z : Sizes) (h : Counted z) where
   -- the marks of a tested sheet
   pub marks-held : (marks : List ℕ) → length marks ≡ bytes_for (pieces_of z) → Holds (pieces_of z) marks
   marks-held marks e = holds (pieces_of z) marks pieces-few e
+
+-- by one name, for the attributes of functions
+pub ruleset held_laws = (marks-held)
+
+pub ruleset place_laws = (first-place)

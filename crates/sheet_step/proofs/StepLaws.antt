@@ -198,3 +198,8 @@ module _ (z : Sizes) (weights : List Float) (marks : List ℕ) (t : ℤ) (ids1 i
           ),
         ),
       )
+
+-- by one name, for the attributes of functions
+pub ruleset piece_laws = (piece-on)
+
+pub ruleset below_laws = (below-lt)

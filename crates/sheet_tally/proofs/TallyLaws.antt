@@ -59,3 +59,6 @@ module _ (tally : List ℕ) (worker : ℤ) (runs : ℕ) where
           rw (and_left (non_neg worker) (ltb (mag worker) 16) h, e, p) (get_or-set_same tally w (get_or tally w 0 + runs) 0 l)
       go false e =
           rw (and_left (non_neg worker) (ltb (mag worker) 16) h, e) (get_or-set_other tally (mag worker) w (count_of tally worker + runs) 0 (λ z. eqb-false (mag worker) w e (sym z)) ∙ omega arith)
+
+-- by one name, for the attributes of functions
+pub ruleset worker_laws = (below-lt)

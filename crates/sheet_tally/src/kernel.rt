@@ -24,6 +24,7 @@ fn room_ok(before: u64, runs: u64) -> bool
 }
 
 // Questions 21 and 20.
+#[tactic(auto, using(crate::proofs::TallyLaws::worker_laws), unfolding(ask::specs::Ask::first_no, crate::specs::Tallies::is_worker))]
 pub fn ask_tally(tally: Tally, worker: i64, runs: u64) -> Result<(), Refusal>
     ensures { result ≡ answer_of (first_no (tally_questions tally.runs worker runs)) tt }
 {

@@ -22,6 +22,3 @@ module _ (type b1 b2 : ℤ) (points triplets : ℕ) (e : are_counts b1 b2 (pos p
 
   pub three-small : channels_of type * triplets * points * (mag b1 * mag b2) ≤ 824633720832
   three-small = mul-le-mul two-small bands-small
-
--- what `grind` is given at a function
-pub ruleset small_laws = (one-small, two-small, three-small)

@@ -5,6 +5,7 @@ ghost use Rattle.study_counts.specs.Counts.{few_weights};
 use triplet_types::TpType;
 
 // Question 1, the count of weights.
+#[tactic(auto, using(triplet_types::proofs::TypeLaws::given_laws), unfolding(crate::specs::Counts::few_weights))]
 pub fn weight_count_ok(
     tp_type: i64,
     num_band1: i64,

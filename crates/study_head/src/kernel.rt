@@ -24,7 +24,7 @@ fn head_of(grid: &[i64; 4], diag: &[i64; 1], tp_type: &[i64; 1], bands: &[i64; 2
 }
 
 // The lines that stand once, which come next in a text.
-#[tactic(auto, using(crate::proofs::HeadLaws::head_laws, list_laws::proofs::BoolLaws::yes_of, list_laws::proofs::BoolLaws::no_of))]
+#[tactic(auto, unfolding(crate::specs::Heads::head_part))]
 pub fn parse_head(lines: &mut Lines) -> Option<Head>
     ensures head { head_part (left lines.old) ≡ told_head result (left lines.new) }
     ensures same { lines.new.text ≡ lines.old.text }

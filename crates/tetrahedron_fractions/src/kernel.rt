@@ -42,7 +42,8 @@ pub fn guard(denominator: f64, value: f64) -> f64
     }
 }
 
-// The branch of omega among four sorted values. At a vertex it is the branch above.
+// The branch of omega among four sorted values. At a vertex it is the branch above. A number and no enum: the definitions and the theorems on the paper
+// number the ranges, and each contract would turn an enum into that number.
 #[tactic(auto, unfolding(crate::specs::Branch::branch_of))]
 pub fn branch(omega: f64, v: [f64; 4]) -> usize
     ensures { result ≡ branch_of omega v }

@@ -6,7 +6,7 @@ ghost use Rattle.std.specs.Prelude.{◌≡◌, ◌*◌, ◌≤◌};
 
 pub mod kernel;
 
-// How many rows of four corners a work area holds: at most 96.
+// How many rows of four corners a work area holds: at most 96. Not triplet_values' `CornerCount`, which counts corners.
 #[derive(Clone, Copy)]
 pub struct Rows {
     pub count: usize,

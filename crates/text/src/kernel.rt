@@ -6,6 +6,7 @@ ghost use Rattle.text.specs.Fields.{bits, digit_of, magnitude, negative, positiv
 ghost use Rattle.text.specs.Pieces.{index};
 
 // What a byte counts as a digit; 16 where it is none. The tests are joined before the one branch: which digit it is cannot be foretold.
+// No Option: 16 is no digit of a base up to 16, so that a caller's one test refuses what is no digit and what is none of its base.
 #[tactic(auto, using(crate::proofs::FieldLaws::digit_laws))]
 pub fn digit_of(b: u8) -> u64
     ensures value { result ≡ digit_of b }
@@ -98,13 +99,11 @@ fn index_of(s: &[u8], b: u8) -> usize
     ensures value { result ≡ index b s.now }
     ensures within { result ≤ length s.now }
 {
-    match s.iter().position(|x| *x == b) {
-        Some(i) => i,
-        None => s.len(),
-    }
+    s.iter().position(|x| *x == b).unwrap_or(s.len())
 }
 
-// The index of the first b in s from index p on, or the length of s where there is none.
+// The index of the first b in s from index p on, or the length of s where there is none. A place and not the part from p on: the callers cut at the
+// answer and go on behind it, both in all of s.
 pub fn cut(s: &[u8], p: usize, b: u8) -> usize
     requires { p ≤ length s.now }
     ensures { (result ≡ p + index b (drop p s.now)) × (p ≤ result) × (result ≤ length s.now) }

@@ -15,6 +15,7 @@ mod copies;
 mod normal;
 
 // Whether a triplet is a normal process: its three addresses add to zero in each component. Questions 5 (without the count) and 10.
+#[tactic(auto, unfolding(ask::specs::Ask::first_no))]
 pub fn is_n(triplet: [i64; 3], bz_grid_addresses: &[i64]) -> Result<bool, Refusal>
     ensures { result ≡ answer_of (first_no (is_n_questions triplet bz_grid_addresses.now)) (is_normal triplet bz_grid_addresses.now) }
 {

@@ -3,14 +3,15 @@ ghost use Rattle.std.specs.Prelude.{◌≡◌, true, ◌+◌, ◌*◌, ◌<◌, 
 ghost use Rattle.question_grids.specs.Grids.{triples_in};
 ghost use Rattle.triplet_addresses.specs.Normal.{is_on_grid, component_sum, is_normal};
 
-use numbers::kernel::{is_below, is_nat, magnitude};
+use numbers::kernel::{is_nat, magnitude};
 use question_grids::Triples;
+use question_grids::kernel::steps::grid_points_ok;
 
 // Question 10, of one triplet.
 pub fn on_grid(triplet: [i64; 3], p: usize) -> bool
     ensures { result ≡ is_on_grid p triplet }
 {
-    (is_below(triplet[0], p) & is_below(triplet[1], p)) & is_below(triplet[2], p)
+    grid_points_ok(p, &triplet)
 }
 
 // Component i of the addresses of three points, added. They stay in the flat list that C lends.

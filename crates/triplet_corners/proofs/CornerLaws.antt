@@ -1,16 +1,17 @@
 -- The second copy of the steps is small and whole as the first is, and each corner number is the number of an address. Assumes nothing.
 use mathlib.Core.Path.{◌≡◌, refl, sym, ◌∙◌}
 use mathlib.Core.Bool.{Bool, true, false}
-use mathlib.Core.List.{List}
+use mathlib.Core.List.{List, ◌++◌}
 use Prim.Native.Nat.{ℕ, zero, suc, ◌*◌, ◌%◌, ◌<◌}
 use native.Mathlib.Omega.{arith}
 use borrow.Author.Tests.{leb-true, eq-eqb}
 use lib.IntN.{ℤ, pos, negsuc, neg_ℤ}
-use lib.ListN.{get_or, length, take, length-map, get_or-map}
+use lib.ListN.{get_or, length, take, drop, replicate, length-map, get_or-map}
 use lib.Seq.{ext_get_or}
 use mir.Syntax.{w64}
 use mir.Val.{SFits}
-use Rattle.list_laws.specs.Lists.{at, tabulate}
+use Rattle.std.proofs.lemmas.List.{drop-replicate}
+use Rattle.list_laws.specs.Lists.{at, tabulate, area}
 use Rattle.list_laws.specs.Signed.{within}
 use Rattle.list_laws.proofs.BoolLaws.{and_both}
 use Rattle.list_laws.proofs.BelowLaws.{below_all}
@@ -67,6 +68,11 @@ copy-plain steps = ext_get_or (pos 0) (copy_of false steps) steps (copy-length f
 module _ (tp : TpType) (steps : List ℤ) where
   pub second-length : length (second_steps tp steps) ≡ length steps
   second-length = copy-length (is_negated tp) steps
+
+  -- it written in front of an array of zeros
+  pub second-put : second_steps tp steps ++ drop (length steps) (replicate 1152 (pos 0)) ≡ second_area tp steps
+  unfolding second_area area
+  second-put = rw (← copy-tabulated (is_negated tp) steps, drop-replicate (length steps) 1152 (pos 0))
 
   -- what the array has in front is the second copy
   pub second-front : take (length steps) (second_area tp steps) ≡ second_steps tp steps

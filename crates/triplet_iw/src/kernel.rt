@@ -14,6 +14,7 @@ use triplet_study::{Study, TestedStudy};
 
 // All pieces of triplet `t`: its corners are looked up once. `second` is the second copy of the steps; the work areas are lent.
 // That `t` is one of the study's is a clause, here and wherever a triplet goes by its number: a type for it would hold the study beside it.
+// Why `second` goes beside the study: see `fill_tested`.
 pub fn fill_triplet(
     areas: &mut WorkAreas,
     weights: &mut [f64],
@@ -44,7 +45,8 @@ pub fn fill_triplet(
     }
 }
 
-// All triplets: the second copy of the steps is made once.
+// All triplets: the second copy of the steps is made once. It goes beside the study: sheet_fill's `PreparedStudy`, which holds both, belongs
+// to the calls on a sheet and stands above.
 pub fn fill_tested(weights: &mut [f64], flags: &mut [i8], tested: &TestedStudy)
     requires { are_lengths tested.now.sizes (length weights.old) (length flags.old) ≡ true }
     ensures { ComputesAll (study_of tested.now.study) weights flags }
@@ -65,6 +67,7 @@ pub fn fill_tested(weights: &mut [f64], flags: &mut [i8], tested: &TestedStudy)
 }
 
 // The weights and flags of all triplets of a study. Questions 3 to 12.
+#[tactic(auto, unfolding(ask::specs::Ask::first_no))]
 pub fn fill_study(study: Study, weights: &mut [f64], flags: &mut [i8]) -> Result<(), Refusal>
     ensures { DidFill (study_of study.entry) weights flags result }
 {

@@ -1,7 +1,9 @@
 -- A channel, as std's methods see it. Assumes nothing.
 use mathlib.Core.Path.{◌≡◌, refl}
-use mathlib.Core.Bool.{Bool, true, false, not}
+use mathlib.Core.Bool.{Bool, true, false, not, cond}
 use lib.Ieee.{Float}
+use lib.IntN.{pos}
+use mir.Val.{bool_byte}
 use Rattle.std.proofs.Common.{Option, Some, None}
 use Rattle.std.specs.Option.{is_some, unwrap_or}
 use Rattle.ieee_laws.specs.Zeros.{zero_f}
@@ -16,3 +18,8 @@ closed_is None true e = refl
 closed_is None false e = absurd (cc e)
 closed_is (Some weight) true e = absurd (cc e)
 closed_is (Some weight) false e = refl
+
+-- a test as a number
+pub byte_is : (b : Bool) → pos (bool_byte b) ≡ cond b (pos 1) (pos 0)
+byte_is true = refl
+byte_is false = refl

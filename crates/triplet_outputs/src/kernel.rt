@@ -14,15 +14,11 @@ pub fn is_open(b: ValueBox, f0: f64) -> bool
 }
 
 // The flag is 1 when all channels are closed.
-#[tactic(auto, using(crate::proofs::OptionLaws::closed_is), unfolding(crate::specs::Outputs::flag_of))]
+#[tactic(auto, using(crate::proofs::OptionLaws::closed_is, crate::proofs::OptionLaws::byte_is), unfolding(crate::specs::Outputs::flag_of))]
 fn flag_of(c0: Option<f64>, c1: Option<f64>, c2: Option<f64>) -> i8
     ensures { result ≡ flag_of c0 c1 c2 }
 {
-    if c0.is_none() & c1.is_none() & c2.is_none() {
-        1
-    } else {
-        0
-    }
+    i8::from(c0.is_none() & c1.is_none() & c2.is_none())
 }
 
 // The outputs of three channels, by the type. A channel is closed, `None`, or open with its weight.

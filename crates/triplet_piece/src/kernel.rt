@@ -18,7 +18,8 @@ use triplet_study::{CountedStudy, TestedSteps, TestedStudy};
 use triplet_values::kernel::fill_frequencies;
 use triplet_values::{Band, Combination, CornerCount};
 
-// Looks up the corners of triplet `t`, whose number is a clause (triplet_iw says why); `second` is the second copy of the steps.
+// Looks up the corners of triplet `t`, whose number is a clause (triplet_iw says why); `second` is the second copy of the steps, beside
+// the study for the reason in triplet_iw's `fill_tested`.
 #[tactic(auto, using(crate::proofs::CornersLaws::point_in, crate::proofs::CornersLaws::copy_triples, crate::proofs::CornersLaws::copy_few))]
 pub fn fill_corners(corners: &mut Corners, tested: &TestedStudy, second: &[i64], t: usize)
     requires copied { second.now ≡ second_steps tested.now.sizes.tp tested.now.study.relative_grid_address.now }
@@ -36,7 +37,8 @@ pub fn fill_corners(corners: &mut Corners, tested: &TestedStudy, second: &[i64],
     fill_corner_numbers(&mut corners.second, grid, copy, g2);
 }
 
-// The weight of an output channel.
+// The weight of an output channel. No index: `Outputs` names its weights as the definitions do, and an array there would number them for
+// this one reader.
 #[tactic(auto, unfolding(crate::specs::Layout::channel_of))]
 fn channel_of(o: Outputs, c: usize) -> f64
     ensures { result ≡ channel_of o c }
@@ -50,7 +52,7 @@ fn channel_of(o: Outputs, c: usize) -> f64
     o.w2
 }
 
-// The weights of a cell, in every channel.
+// The weights of a cell, in every channel. The counts stand beside the slice: a type of all three would serve this one call.
 fn put_weights(weights: &mut [f64], cells: usize, channels: usize, cell: usize, o: Outputs)
     requires { (cell < cells) × (length weights.old ≡ channels * cells) }
     ensures { weights.new ≡ cell_weights cells cell o weights.old }
@@ -60,7 +62,8 @@ fn put_weights(weights: &mut [f64], cells: usize, channels: usize, cell: usize, 
     }
 }
 
-// The outputs of the band pair `pair` of triplet `t` at every point, of channels that are ready.
+// The outputs of the band pair `pair` of triplet `t` at every point, of channels that are ready. Why `Fitting` is a clause: see
+// `fill_piece`; why `t` is: see triplet_iw.
 fn fill_points(
     weights: &mut [f64],
     flags: &mut [i8],
@@ -135,6 +138,7 @@ fn prepare(areas: &mut WorkAreas, study: &CountedStudy, corners: &Corners, piece
 }
 
 // Writes a piece: its weights in every channel and its flag, at every point. Its corners and the work areas are lent.
+// `Fitting` is a clause: the counts, the points and the lent buffers come from three places, and a type of all would be made for each call.
 pub fn fill_piece(
     areas: &mut WorkAreas,
     weights: &mut [f64],

@@ -1,6 +1,6 @@
 -- What the questions tell of a study, of its counts and of the lent lists. Assumes nothing.
 use mathlib.Core.Path.{◌≡◌, refl, sym, ◌∙◌}
-use mathlib.Core.Bool.{true, false, ◌&&◌}
+use mathlib.Core.Bool.{true, ◌&&◌}
 use mathlib.Core.List.{List, ◌++◌}
 use Prim.Native.Nat.{ℕ, ◌*◌, ◌%◌, ◌≤◌}
 use native.Mathlib.Nat.{mul-le-mul}
@@ -13,7 +13,7 @@ use lib.ListN.{length}
 use lib.Signed.{mag}
 use Rattle.list_laws.proofs.BoolLaws.{and_left, and_right}
 use Rattle.ask.specs.Ask.{Question, first_no, AllYes, Numbered}
-use Rattle.ask.proofs.AskLaws.{all_yes, group-yes, group-no}
+use Rattle.ask.proofs.AskLaws.{all_yes, group-no}
 use Rattle.question_values.specs.Counts.{are_counts, is_product}
 use Rattle.question_values.specs.Frequencies.{are_frequencies, are_points}
 use Rattle.question_values.specs.Rows.{has_rows}
@@ -77,19 +77,6 @@ module _ (s : Study) where
   pub grid-first-no : (n : ℕ) → n ≡ first_no grid_part → (n ≡ 0 → ⊥) → n ≡ first_no (study_questions s)
   grid-first-no n e h = e ∙ sym (group-no grid_part (table_questions s.steps ++ value_part) (λ z. h (e ∙ z)))
 
-  -- none of them does
-  module _ (n : ℕ) (e : n ≡ first_no grid_part) (h : n ≡ 0) where
-    after-grid : first_no (study_questions s) ≡ first_no (table_questions s.steps ++ value_part)
-    after-grid = group-yes grid_part (table_questions s.steps ++ value_part) grid-numbered (sym e ∙ h)
-
-    pub table-no : is_table s.steps ≡ false → 7 ≡ first_no (study_questions s)
-    unfolding first_no
-    table-no f = sym (after-grid ∙ rw f)
-
-    pub value-no : is_table s.steps ≡ true → (m : ℕ) → m ≡ first_no value_part → m ≡ first_no (study_questions s)
-    unfolding first_no
-    value-no f m q = sym (after-grid ∙ rw f (sym q))
-
   -- ---- what a yes to each of 3 to 11 tells
 
   grid-yes : AllYes (study_questions s) → first_no grid_part ≡ 0
@@ -136,10 +123,6 @@ pub cells_fit : (t p a b : ℕ) → t ≤ 65536 → p ≤ 1024 → a ≤ 64 → 
 cells_fit t p a b ht hp ha hb = mul-le-mul (mul-le-mul ht hp) (mul-le-mul ha hb)
 
 module _ {s : Study} (k : Tested s) where
-  -- what the counts are made from is small
-  pub few-counts : (bands1_in s ≤ 64) × ((bands2_in s ≤ 64) × ((length s.points ≤ 1024) × (triplet_count s ≤ 65536)))
-  few-counts = (k.bands1-high, (k.bands2-high, (k.points-high, k.triplets-high)))
-
   pub counted : Counted (sizes_of s)
   unfolding sizes_by
   counted =
@@ -204,3 +187,6 @@ ready s z w f e c y = ready-made s z w f (tested s e) c y
 -- the counts of a study that is ready
 pub ready-counted : {s : Study} {z : Sizes} {w f : ℕ} → Ready s z w f → Counted z
 ready-counted r = rw r.counts (counted r.tested)
+
+-- by one name, for the attributes of functions
+pub ruleset counts_laws = (counts-say)

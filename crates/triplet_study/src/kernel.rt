@@ -14,6 +14,7 @@ use ask::Refusal;
 pub mod asks;
 
 // Questions 3 to 11 on a study.
+#[tactic(auto, unfolding(ask::specs::Ask::first_no))]
 pub fn ask_study(study: Study) -> Result<(), Refusal>
     ensures { result ≡ answer_of (first_no (study_questions (study_of study.entry))) tt }
 {

@@ -1,5 +1,5 @@
 -- The type that a number names, its output channels, and that they are at most three. Assumes nothing.
-use mathlib.Core.Path.{◌≡◌, refl, ap}
+use mathlib.Core.Path.{◌≡◌, refl, sym, ap, ◌∙◌}
 use mathlib.Core.Bool.{Bool, true, false, cond}
 use Prim.Native.Nat.{ℕ, ◌≤◌}
 use native.Mathlib.Omega.{arith}
@@ -99,6 +99,10 @@ channels-of-type tp = by (is_nat tp 2) (is_nat tp 3)
     by false true = refl
     by false false = refl
 
+-- those of a type that is known to be it
+pub channels-named : (z : ℤ) (tp : TpType) → tp ≡ tp_type_of z → channel_count tp ≡ channels_of z
+channels-named z tp e = ap channel_count e ∙ sym (channels-of-type z)
+
 -- a type has at most three outputs
 pub channel-count-le : (tp : TpType) → channel_count tp ≤ 3
 channel-count-le Type2 = omega arith
@@ -109,3 +113,5 @@ channel-count-le Type4 = omega arith
 pub ruleset type_laws = (names-two, names-three, names-four)
 
 pub ruleset answer_laws = (answers-two, answers-three, answers-four, answers-none)
+
+pub ruleset given_laws = (type-given, type-refused)

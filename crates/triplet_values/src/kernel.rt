@@ -24,7 +24,8 @@ fn corner_frequency(tp: TpType, f: f64) -> f64
     }
 }
 
-// The frequencies of one band at the first corners of one point of a triplet, in front of a work area.
+// The frequencies of one band at the first corners of one point of a triplet, in front of a work area. `Held` ties the corner numbers to a
+// list of frequencies and a band: a type for it would hold all three. grid_point_weights has its own loop, without the clamp.
 pub fn fill_frequencies(
     a: &mut [f64; 384],
     tp: TpType,

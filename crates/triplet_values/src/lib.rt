@@ -6,7 +6,8 @@ ghost use Rattle.std.specs.Prelude.{◌≤◌};
 
 pub mod kernel;
 
-// How many corners a work area holds: at most 384.
+// How many corners a work area holds: at most 384. tetrahedron_sort's `Rows` has this shape, but counts rows, with another bound: one type
+// for both would not tell rows from corners.
 #[derive(Clone, Copy)]
 pub struct CornerCount {
     pub count: usize,

@@ -44,10 +44,7 @@ fn next_stored<T: Field + Default>(
 // A list over and over, up to a length; zeros where it is empty.
 // Beside that of vectors_triplet, which gives nothing of an empty list: tried as one, and the proof of its contract did not close.
 fn repeated<T: Copy + Default>(list: &[T], room: u64, alloc: Global) -> Result<Vec<T>, AllocError> {
-    let mut all = Vec::new(alloc);
-    for _ in 0..room {
-        all.push(T::default())?;
-    }
+    let mut all = vec![in alloc; T::default(); room as usize]?;
     for (entry, value) in all.iter_mut().zip(list.iter().cycle()) {
         *entry = *value;
     }
@@ -83,14 +80,6 @@ fn after<T: Copy + Default>(
     }
 }
 
-// The flags of a list of numbers; no other than these occurs.
-fn flags_of(numbers: &[i64], alloc: Global) -> Result<Vec<i8>, AllocError> {
-    numbers
-        .iter()
-        .map(|n| i8::try_from(*n).unwrap_or(i8::MIN))
-        .collect(alloc)
-}
-
 #[derive(Debug, Default, Drop)]
 struct Averages;
 
@@ -103,7 +92,7 @@ impl Case for Averages {
         let ids1 = next_list(reader, alloc)?;
         let ids2 = next_list(reader, alloc)?;
         let weights: Stored<f64> = next_stored(reader, alloc)?;
-        let flags: Stored<i64> = next_stored(reader, alloc)?;
+        let flags: Stored<i8> = next_stored(reader, alloc)?;
         let averaging = Averaging {
             degenerate_ids1: &ids1,
             degenerate_ids2: &ids2,
@@ -112,10 +101,10 @@ impl Case for Averages {
             tp_type,
         };
         let mut iw = before(&weights, alloc)?;
-        let mut iw_zero = flags_of(&before(&flags, alloc)?, alloc)?;
+        let mut iw_zero = before(&flags, alloc)?;
         let answer = average_weights_over_degenerate_sets(averaging, &mut iw, &mut iw_zero);
         let weights_after = after(&weights, refusal, alloc)?;
-        let flags_after = flags_of(&after(&flags, refusal, alloc)?, alloc)?;
+        let flags_after = after(&flags, refusal, alloc)?;
         let agrees = answer.map_err(|why| why.number()) == stored(refusal, ())
             && agree(&iw, &weights_after)
             && iw_zero == flags_after;

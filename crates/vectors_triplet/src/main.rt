@@ -117,27 +117,7 @@ fn repeated<T: Copy + Drop>(
     list: &[T],
     length: usize,
 ) -> Result<Vec<T>, AllocError> {
-    let mut all = Vec::new(alloc);
-    if list.is_empty() {
-        return Ok(all);
-    }
-    for i in 0..length {
-        all.push(list[i % list.len()])?;
-    }
-    Ok(all)
-}
-
-// The flags that stored numbers are.
-fn flags_of(alloc: Global, numbers: &[i64]) -> Result<Vec<i8>, AllocError> {
-    let mut flags = Vec::new(alloc);
-    for number in numbers {
-        flags.push(match number {
-            0 => 0,
-            1 => 1,
-            _ => -1,
-        })?;
-    }
-    Ok(flags)
+    list.iter().copied().cycle().take(length).collect(alloc)
 }
 
 // ---- the buffers
@@ -209,8 +189,7 @@ impl Kept {
         let room = reader.next_count() as usize;
         let places = reader.next_count() as usize;
         let weights: Vec<f64> = next_list(reader, alloc)?;
-        let numbers: Vec<i64> = next_list(reader, alloc)?;
-        let flags = flags_of(alloc, &numbers)?;
+        let flags: Vec<i8> = next_list(reader, alloc)?;
         let stored = Buffers {
             weights: repeated(alloc, &weights, room)?,
             flags: repeated(alloc, &flags, places)?,

@@ -187,25 +187,18 @@ fn exact_case(reader: &mut Reader<'_>, whole: bool) -> Judged {
     accepted(weight.is_ok_and(|w| least <= w && w <= greatest))
 }
 
-// The numbers of a table among the four.
-fn table_of(tables: &[i64; 1152], number: u64) -> &[i64] {
-    match number {
-        0 => &tables[..288],
-        1 => &tables[288..576],
-        2 => &tables[576..864],
-        _ => &tables[864..],
-    }
-}
-
 // A refused choice is stored with the number 0.
 fn table_agrees(answer: Result<NeighbourTable, Refusal>, refusal: u64, number: u64) -> bool {
     match answer {
         Ok(chosen) => {
-            let tables = relative_grid_address::all_relative_grid_address();
+            let all = relative_grid_address::all_relative_grid_address();
+            let (tables, _) = all.as_chunks::<288>();
             let numbers = chosen.numbers;
             refusal == 0
                 && chosen.index as u64 == number
-                && agree(&numbers, table_of(&tables, number))
+                && tables
+                    .get(chosen.index)
+                    .is_some_and(|table| agree(&numbers, table))
         }
         Err(why) => why.number() == refusal && number == 0,
     }
@@ -257,10 +250,7 @@ struct Kept {
 impl Kept {
     // None before any record of them.
     fn vertices(&self) -> &[f64] {
-        match &self.vertices {
-            Some(vertices) => vertices,
-            None => &[],
-        }
+        self.vertices.as_deref().unwrap_or(&[])
     }
 }
 

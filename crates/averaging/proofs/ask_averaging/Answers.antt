@@ -1,28 +1,22 @@
 -- `averaging::ask_averaging` meets its contract: what each test found, in order.
-use mathlib.Core.Path.{◌≡◌, ap, sym, ◌∙◌}
+use mathlib.Core.Path.{◌≡◌, ap, ◌∙◌}
 use mathlib.Core.Bool.{true, ◌&&◌}
-use Prim.Native.Nat.{ℕ, ◌*◌, ◌≤◌}
+use Prim.Native.Nat.{ℕ, ◌*◌}
 use borrow.Author.Rules.{rules}
-use native.Mathlib.Omega.{arith}
 use lib.Dec.{eqb}
 use lib.IntN.{pos}
 use lib.ListN.{length}
 use lib.Signed.{mag}
 use mir.Syntax.{w64}
 use mir.ValLaws.{to_z-of_z}
+use Rattle.list_laws.proofs.SignedLaws.{mag-given}
 use Rattle.list_laws.proofs.BoolLaws.{yes_of, no_of}
-use Rattle.std.proofs.lemmas.Result.{err_from_is_err_and}
 use Rattle.ask.specs.Ask.{first_no}
-use Rattle.ask.proofs.AskLaws.{group-no}
-use Rattle.ask.proofs.RefusalLaws.{refused-is, refused-not}
-use Rattle.triplet_types.specs.Types.{tp_type_of, type_questions, channel_count}
-use Rattle.triplet_types.proofs.TypeLaws.{type-given, channels-of-type}
+use Rattle.triplet_types.specs.Types.{tp_type_of}
+use Rattle.triplet_types.proofs.TypeLaws.{type-given, channels-named}
 use Rattle.question_values.specs.Averages.{are_degenerate_ids}
 use Rattle.question_values.specs.Counts.{are_counts, cell_count}
 use Rattle.question_values.specs.TpTypes.{is_tp_type, channels_of}
-use Rattle.degenerate_sets.proofs.SizeLaws.{square_le, flags-le, weights-le}
-use Rattle.question_values.proofs.TypeLaws.{channels-le}
-use Rattle.averaging.proofs.AnswerLaws.{counts-le}
 use Rattle.averaging.proofs.ask_averaging.Goals.{After-num_channels, After-degenerate_ids_ok-2, After-magnitude, After-magnitude-bands, After-signed_counts_ok, In_ok-tp, Else-not-degenerate_ids_ok, Else-not-iw-all, Else-not-signed_counts_ok}
 use Rattle.averaging.proofs.ask_averaging.Goals as goal
 
@@ -41,27 +35,14 @@ told-9 c =
 yes-9 : (c : Else-not-signed_counts_ok) → are_counts c.args.averaging.num_band c.args.averaging.num_band c.args.averaging.num_band0 (pos 1) ≡ true
 yes-9 c = yes_of (told-9 (goal.at.Else-not-signed_counts_ok c).After-signed_counts_ok) c.if-not-signed_counts_ok.false
 
-few : (c : Else-not-signed_counts_ok) → (mag c.args.averaging.num_band ≤ 64) × (mag c.args.averaging.num_band0 ≤ 1024)
-few c =
-    counts-le c.args.averaging.num_band0 c.args.averaging.num_band (yes-9 c)
-
 bands-are : (c : After-magnitude-bands) → c.magnitude-bands.result ≡ mag c.args.averaging.num_band
-bands-are c = c.magnitude-bands.ensures ∙ ap mag (to_z-of_z w64 c.args.averaging.num_band (search rules))
+bands-are c = mag-given c.args.averaging.num_band (search rules) c.magnitude-bands.ensures
 
 points-are : (c : After-magnitude) → c.magnitude.result ≡ mag c.args.averaging.num_band0
-points-are c = c.magnitude.ensures ∙ ap mag (to_z-of_z w64 c.args.averaging.num_band0 (search rules))
+points-are c = mag-given c.args.averaging.num_band0 (search rules) c.magnitude.ensures
 
 channels-are : (c : After-num_channels) → c.num_channels.result ≡ channels_of c.args.averaging.tp_type
-channels-are c = c.num_channels.ensures ∙ ap channel_count (told-8 (goal.at.After-num_channels c).In_ok-tp).1 ∙ sym (channels-of-type c.args.averaging.tp_type)
-
-few-bands : (c : After-magnitude-bands) → c.magnitude-bands.result ≤ 64
-few-bands c = omega (arith, bands-are c, few (goal.at.After-magnitude-bands c).Else-not-signed_counts_ok)
-
-few-points : (c : After-magnitude) → c.magnitude.result ≤ 1024
-few-points c = omega (arith, points-are c, few (goal.at.After-magnitude c).Else-not-signed_counts_ok)
-
-few-channels : (c : After-num_channels) → c.num_channels.result ≤ 3
-few-channels c = omega (arith, channels-are c, channels-le c.args.averaging.tp_type)
+channels-are c = c.num_channels.ensures ∙ channels-named _ _ (told-8 (goal.at.After-num_channels c).In_ok-tp).1
 
 told-12 : (c : After-num_channels) → let size = c.magnitude.result * (c.magnitude-bands.result * c.magnitude-bands.result) in
     (eqb (length c.args.iw.now) (c.num_channels.result * size) && eqb (length c.args.iw_zero.now) size)
@@ -83,25 +64,6 @@ told-17 c =
 
 yes-17 : (c : Else-not-degenerate_ids_ok) → (are_degenerate_ids (mag c.args.averaging.num_band) c.args.averaging.degenerate_ids1.now && are_degenerate_ids (mag c.args.averaging.num_band) c.args.averaging.degenerate_ids2.now) ≡ true
 yes-17 c = yes_of (told-17 (goal.at.Else-not-degenerate_ids_ok c).After-degenerate_ids_ok-2) c.if-not-degenerate_ids_ok.false
-
-pub returns-in_err-tp : goal.returns-in_err-tp
-returns-in_err-tp c =
-    let told : _ = rw (to_z-of_z w64 c.args.averaging.tp_type (search rules), c.in_err-tp.was) at c.try_from.ensures in
-    let p = err_from_is_err_and c.from_residual.result c.from_residual.ensures.1 in
-    rw (p.1, p.2) (refused-is _ _ _ _ (tp_type_of c.args.averaging.tp_type) told (group-no (type_questions c.args.averaging.tp_type) _ (refused-not _ _ (tp_type_of c.args.averaging.tp_type) told)))
-
-pub returns-then-not-signed_counts_ok : goal.returns-then-not-signed_counts_ok
-unfolding first_no
-returns-then-not-signed_counts_ok c = rw (yes-8 (goal.at.returns-then-not-signed_counts_ok c).In_ok-tp, no_of (told-9 (goal.at.returns-then-not-signed_counts_ok c).After-signed_counts_ok) c.if-not-signed_counts_ok.true)
-
-pub overflow_mul-size : goal.overflow_mul-size
-overflow_mul-size c = omega (arith, square_le {a = c.magnitude-bands.result} {b = c.magnitude-bands.result} (few-bands (goal.at.overflow_mul-size c).After-magnitude-bands) (few-bands (goal.at.overflow_mul-size c).After-magnitude-bands))
-
-pub overflow_mul-size-2 : goal.overflow_mul-size-2
-overflow_mul-size-2 c = omega (arith, flags-le (few-points (goal.at.overflow_mul-size-2 c).After-magnitude) (few-bands (goal.at.overflow_mul-size-2 c).After-magnitude-bands))
-
-pub overflow_mul-all : goal.overflow_mul-all
-overflow_mul-all c = omega (arith, weights-le (few-channels (goal.at.overflow_mul-all c).After-num_channels) (few-points (goal.at.overflow_mul-all c).After-magnitude) (few-bands (goal.at.overflow_mul-all c).After-magnitude-bands))
 
 pub returns-then-not-iw-all : goal.returns-then-not-iw-all
 unfolding first_no

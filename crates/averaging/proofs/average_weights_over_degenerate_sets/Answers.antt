@@ -1,18 +1,15 @@
 -- `averaging::average_weights_over_degenerate_sets` meets its contract.
-use mathlib.Core.Path.{◌≡◌, sym, ap, ◌∙◌}
-use Prim.Native.Nat.{◌≤◌, ◌*◌}
+use mathlib.Core.Path.{◌≡◌, sym, ◌∙◌}
+use Prim.Native.Nat.{◌*◌}
 use borrow.Author.Rules.{rules}
 use native.Mathlib.Omega.{arith}
 use lib.Signed.{mag}
-use mir.Syntax.{w64}
-use mir.ValLaws.{to_z-of_z}
+use Rattle.list_laws.proofs.SignedLaws.{mag-given}
 use Rattle.question_values.specs.TpTypes.{channels_of}
 use Rattle.ask.proofs.RefusalLaws.{given-is}
-use Rattle.triplet_types.specs.Types.{tp_type_of, channel_count}
-use Rattle.triplet_types.proofs.TypeLaws.{channels-of-type}
+use Rattle.triplet_types.specs.Types.{tp_type_of}
+use Rattle.triplet_types.proofs.TypeLaws.{channels-named}
 use Rattle.averaging.specs.Lent.{no_in}
-use Rattle.degenerate_sets.proofs.SizeLaws.{points-le}
-use Rattle.question_values.proofs.TypeLaws.{channels-le}
 use Rattle.averaging.proofs.AnswerLaws.{Accepted, accepted}
 use Rattle.averaging.proofs.average_weights_over_degenerate_sets.Goals.{After-num_channels, After-magnitude-bands, After-magnitude-points, In_ok-tp}
 use Rattle.averaging.proofs.average_weights_over_degenerate_sets.Goals as goal
@@ -27,21 +24,13 @@ facts c =
     (told c).0
 
 bands-are : (c : After-magnitude-bands) → c.magnitude-bands.result ≡ mag c.args.averaging.num_band
-bands-are c = c.magnitude-bands.ensures ∙ ap mag (to_z-of_z w64 c.args.averaging.num_band (search rules))
+bands-are c = mag-given c.args.averaging.num_band (search rules) c.magnitude-bands.ensures
 
 points-are : (c : After-magnitude-points) → c.magnitude-points.result ≡ mag c.args.averaging.num_band0
-points-are c = c.magnitude-points.ensures ∙ ap mag (to_z-of_z w64 c.args.averaging.num_band0 (search rules))
+points-are c = mag-given c.args.averaging.num_band0 (search rules) c.magnitude-points.ensures
 
 channels-are : (c : After-num_channels) → c.num_channels.result ≡ channels_of c.args.averaging.tp_type
-channels-are c = c.num_channels.ensures ∙ ap channel_count (told (goal.at.After-num_channels c).In_ok-tp).1 ∙ sym (channels-of-type c.args.averaging.tp_type)
-
-few-channels : (c : After-num_channels) → c.num_channels.result ≤ 3
-few-channels c = omega (arith, channels-are c, channels-le c.args.averaging.tp_type)
-
-pub overflow_mul-all_points : goal.overflow_mul-all_points
-overflow_mul-all_points c =
-    let f = facts (goal.at.overflow_mul-all_points c).In_ok-tp in
-    omega (arith, points-le {points = c.magnitude-points.result} (few-channels (goal.at.overflow_mul-all_points c).After-num_channels) (omega (arith, points-are (goal.at.overflow_mul-all_points c).After-magnitude-points, f.counts)))
+channels-are c = c.num_channels.ensures ∙ channels-named _ _ (told (goal.at.After-num_channels c).In_ok-tp).1
 
 pub average_points-requires-clause-m_len : goal.average_points-requires-clause-m_len
 average_points-requires-clause-m_len c =
@@ -50,26 +39,12 @@ average_points-requires-clause-m_len c =
     let b = bands-are at.After-magnitude-bands in
     (f.weights ∙ sym (λ i. channels-are at.After-num_channels i * points-are at.After-magnitude-points i * (b i * b i)), omega (arith, b, f.counts))
 
-pub average_points-requires-clause-ids1_len : goal.average_points-requires-clause-ids1_len
-average_points-requires-clause-ids1_len c =
-    let at = goal.at.average_points-requires-clause-ids1_len c in
-    let f = facts at.In_ok-tp in
-    let b = bands-are at.After-magnitude-bands in
-    (f.rows ∙ sym b, f.columns ∙ sym b)
-
 pub average_points-requires-2-clause-m_len : goal.average_points-requires-2-clause-m_len
 average_points-requires-2-clause-m_len c =
     let at = goal.at.average_points-requires-2-clause-m_len c in
     let f = facts at.In_ok-tp in
     let b = bands-are at.After-magnitude-bands in
     (f.flags ∙ sym (λ i. points-are at.After-magnitude-points i * (b i * b i)), omega (arith, b, f.counts))
-
-pub average_points-requires-2-clause-ids1_len : goal.average_points-requires-2-clause-ids1_len
-average_points-requires-2-clause-ids1_len c =
-    let at = goal.at.average_points-requires-2-clause-ids1_len c in
-    let f = facts at.In_ok-tp in
-    let b = bands-are at.After-magnitude-bands in
-    (f.rows ∙ sym b, f.columns ∙ sym b)
 
 pub returns-clause-iw_after : goal.returns-clause-iw_after
 returns-clause-iw_after c =

@@ -13,7 +13,7 @@ fn row_has_zero(row: &[i8]) -> bool
     row.contains(&0)
 }
 
-// Whether one of a block's flags is 0.
+// Whether one of a block's flags is 0. A loop: tried as `any`, and the proof did not close.
 fn block_has_zero(block: &Block<'_, i8>) -> bool
     ensures { result ≡ part_has_zero block.now }
 {

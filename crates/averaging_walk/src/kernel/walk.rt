@@ -10,7 +10,7 @@ use crate::kernel::block::{Averaged, Block};
 use degenerate_sets::kernel::sets::sets_of;
 use std::ops::Range;
 
-// Stores a value at each entry.
+// Stores a value at each entry. A loop: tried as `fill`, and the proof did not close, since nothing says that the clone of an `E` cannot fail.
 fn fill_row<E: Averaged>(row: &mut [E], value: E)
     ensures { row.new ≡ replicate (length row.old) value }
 {
@@ -65,7 +65,8 @@ fn average_rows<E: Averaged>(m: &mut [E], ids2: &[i64], rows: &Range<usize>)
     }
 }
 
-// Averages a square matrix over the blocks of two id lists.
+// Averages a square matrix over the blocks of two id lists. They are two parameters, here and above: the library takes them so, and each is asked and
+// read by itself.
 fn average_matrix<E: Averaged>(m: &mut [E], ids1: &[i64], ids2: &[i64])
     requires m_len { (length m.old ≡ length ids1.now * length ids1.now) × (length ids1.now ≤ 64) }
     requires ids_len { length ids2.now ≡ length ids1.now }
@@ -77,7 +78,7 @@ fn average_matrix<E: Averaged>(m: &mut [E], ids1: &[i64], ids2: &[i64])
 }
 
 // Averages each of `points` matrices of bands by bands, over the blocks of two id lists. Parts by their index: behind a chunk that is lent, a proof
-// knows its length alone.
+// knows its length alone. `bands` stands beside the lists: the callers' counts have it, and their contracts count with it.
 pub fn average_points<E: Averaged>(
     m: &mut [E],
     ids1: &[i64],

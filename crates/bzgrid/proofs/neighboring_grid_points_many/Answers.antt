@@ -5,10 +5,9 @@ use lib.ListN.{length}
 use mathlib.Core.List.{◌++◌, List}
 use mathlib.Core.Path.{◌∙◌, ◌≡◌}
 use native.Mathlib.Omega.{arith}
-use Rattle.std.proofs.lemmas.Result.{err_from_is_err_and}
 use Rattle.bzgrid_lookup.proofs.CallLaws.{grid-numbered}
 use Rattle.ask.proofs.AskLaws.{after-done, all_yes, group-no, group-yes, kept}
-use Rattle.ask.proofs.RefusalLaws.{done-is, given-is, refused-is, refused-not}
+use Rattle.ask.proofs.RefusalLaws.{done-is, given-is, handed-on, refused-is, refused-not}
 use Rattle.ask.specs.Ask.{AllYes, first_no, Question}
 use Rattle.question_grids.specs.Grids.{triples_in, grid_questions}
 use Rattle.bzgrid.proofs.neighboring_grid_points_many.Goals.{Start}
@@ -33,16 +32,14 @@ returns-in_err-ask_grid c =
     let s : _ = (goal.at.returns-in_err-ask_grid c).Start in
     let g : _ = rw c.in_err-ask_grid.was at c.ask_grid.ensures in
     let e : first_no (grids s ++ others s) ≡ first_no (grids s) = group-no (grids s) (others s) (refused-not _ _ tt g) in
-    let p = err_from_is_err_and c.from_residual.result c.from_residual.ensures.1 in
-    (rw (p.1, p.2) (refused-is _ _ _ _ tt g e), kept _ _ _ _ e (refused-not _ _ tt g))
+    (rw (handed-on _ c.from_residual.ensures.1) (refused-is _ _ _ _ tt g e), kept _ _ _ _ e (refused-not _ _ tt g))
 
 pub returns-in_err-ask_points : goal.returns-in_err-ask_points
 returns-in_err-ask_points c =
     let s : _ = (goal.at.returns-in_err-ask_points c).Start in
     let z : first_no (grids s) ≡ 0 = (given-is _ _ tt (rw c.in_ok-ask_grid.was at c.ask_grid.ensures)).0 in
     let g : _ = rw (c.in_err-ask_points.was) at c.ask_points.ensures in
-    let p = err_from_is_err_and c.from_residual-in_err-ask_points.result c.from_residual-in_err-ask_points.ensures.1 in
-    (rw (p.1, p.2) (refused-is _ _ _ _ tt g (later s z)), kept _ _ _ _ (later s z) (refused-not _ _ tt g))
+    (rw (handed-on _ c.from_residual-in_err-ask_points.ensures.1) (refused-is _ _ _ _ tt g (later s z)), kept _ _ _ _ (later s z) (refused-not _ _ tt g))
 
 pub fill_many-requires : goal.fill_many-requires
 fill_many-requires c =

@@ -14,12 +14,9 @@ pub fn set_end(ids: &[i64], b: usize) -> usize
     requires b_in { b < length ids.now }
     ensures { result ≡ end_of (starts_at ids.now) (length ids.now) b }
 {
-    for e in b + 1..ids.len() {
-        if is_nat(ids[e], e) {
-            return e;
-        }
-    }
-    ids.len()
+    (b + 1..ids.len())
+        .find(|&e| is_nat(ids[e], e))
+        .unwrap_or(ids.len())
 }
 
 // The sets of an id list that start at `start` or later, in order.

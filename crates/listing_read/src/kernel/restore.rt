@@ -11,7 +11,8 @@ use crate::kernel::{FIRST, next_place};
 use listing_line::kernel::{flag_at, pass_numbers, weight_at};
 use reading::kernel::Reader;
 
-// Restores the weights of entry number e of `cells`, which stand where a reader is, and goes behind them.
+// Restores the weights of entry number e of `cells`, which stand where a reader is, and goes behind them. Both counts stand beside the weights, and how
+// many these are is a clause (sheet_step says why).
 fn restore_weights(
     reader: &mut Reader<'_>,
     weights: &mut [f64],

@@ -1,16 +1,17 @@
 -- `open_count::open_count` meets its contract.
 use lib.ListN.{length}
 use lib.Signed.{mag}
-use mathlib.Core.Path.{◌∙◌, ◌≡◌, ap, sym}
+use mathlib.Core.Path.{◌∙◌, ◌≡◌}
 use mir.Syntax.{w64}
 use mir.ValLaws.{to_z-of_z}
 use native.Mathlib.Omega.{arith}
+use Rattle.list_laws.proofs.SignedLaws.{mag-given}
 use Rattle.question_values.specs.TpTypes.{channels_of}
 use Rattle.sheet_counts.proofs.SheetCountLaws.{all-cells-le}
 use Rattle.ask.specs.Ask.{first_no}
 use Rattle.ask.proofs.RefusalLaws.{given-is}
-use Rattle.triplet_types.specs.Types.{tp_type_of, channel_count}
-use Rattle.triplet_types.proofs.TypeLaws.{channels-of-type}
+use Rattle.triplet_types.specs.Types.{tp_type_of}
+use Rattle.triplet_types.proofs.TypeLaws.{channels-named}
 use Rattle.open_count.specs.OpenCount.{open_questions}
 use Rattle.open_count.proofs.OpenLaws.{Accepted, accepted}
 use Rattle.open_count.proofs.open_count.Goals.{After-num_channels, After-magnitude, In_ok-tp}
@@ -26,11 +27,11 @@ asked c =
 
 channels-are : (c : After-num_channels) → c.num_channels.result ≡ channels_of c.args.tp_type
 channels-are c =
-    c.num_channels.ensures ∙ ap channel_count (told (goal.at.After-num_channels c).In_ok-tp).1 ∙ sym (channels-of-type c.args.tp_type)
+    c.num_channels.ensures ∙ channels-named _ _ (told (goal.at.After-num_channels c).In_ok-tp).1
 
 triplet-is : (c : After-magnitude) → c.magnitude.result ≡ mag c.args.triplet
 triplet-is c =
-    c.magnitude.ensures ∙ ap mag (to_z-of_z w64 c.args.triplet c.ranges.triplet)
+    mag-given c.args.triplet c.ranges.triplet c.magnitude.ensures
 
 pub cells_of-requires : goal.cells_of-requires
 cells_of-requires c = (asked (goal.at.cells_of-requires c).In_ok-tp).counted

@@ -125,7 +125,7 @@ pub fn map_ok(bz_grid_type: i64, n: usize, p: usize, gp_map: &[i64]) -> bool
 }
 
 // Questions 3 to 6, of every call on a grid.
-#[tactic(auto, using(list_laws::proofs::BoolLaws::yes_of, list_laws::proofs::BoolLaws::no_of, numbers::proofs::MeshLaws::wider), unfolding(ask::specs::Ask::first_no))]
+#[tactic(auto, using(crate::proofs::GridLaws::mesh_laws), unfolding(ask::specs::Ask::first_no))]
 pub fn ask_grid(grid: Grid) -> Result<(), Refusal>
     ensures { result ≡ answer_of (first_no (questions_on grid.entry)) tt }
 {

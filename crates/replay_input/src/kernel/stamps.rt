@@ -1,5 +1,5 @@
 // What a buffer holds before a call, so that a refused call is seen to leave it as it was. Whole numbers and floats by functions of their own: one for
-// both would take a trait, two impls and a law for each, in place of four loops of one line.
+// both would take a trait, two impls and a law for each, in place of four loops of one line. The loops go by index: each entry is what its place gives.
 ghost use Rattle.std.specs.Prelude.{◌≡◌, length};
 ghost use Rattle.list_laws.specs.Lists.{tabulate};
 ghost use Rattle.replay_input.specs.Stamps.{stamp_at, is_stamped, mark_at, is_marked};

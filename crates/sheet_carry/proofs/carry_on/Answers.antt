@@ -1,23 +1,22 @@
 -- `sheet_carry::carry_on` meets its contract.
 use mathlib.Core.Path.{◌≡◌}
-use Rattle.std.proofs.lemmas.Result.{err_from_is_err_and}
-use Rattle.ask.proofs.RefusalLaws.{given-is}
+use Rattle.ask.proofs.RefusalLaws.{given-is, handed-on}
 use Rattle.sheet_step.proofs.EntryLaws.{tested-yes}
 use Rattle.sheet_step.proofs.StepLaws.{common-refused}
 use Rattle.triplet_study.specs.Lent.{study_of}
-use Rattle.sheet_step.specs.Steps.{Sheet, sheet, carry}
+use Rattle.sheet_step.specs.Lent.{sheet_of}
+use Rattle.sheet_step.specs.Steps.{Sheet, carry}
 use Rattle.sheet_carry.proofs.carry_on.Goals.{Start}
 use Rattle.sheet_carry.proofs.carry_on.Goals as goal
 
 -- the sheet that the call takes
 abbrev start : Start → Sheet
-start s = sheet s.args.sheet.now.weights.now s.args.sheet.now.flags.now s.args.sheet.now.marks.now s.args.tally.runs
+start s = sheet_of s.args.sheet.now s.args.tally.runs
 
 pub returns-in_err-tested-clause-did : goal.returns-in_err-tested-clause-did
 returns-in_err-tested-clause-did c =
     let told : _ = rw (c.marks.ensures, c.in_err-tested.was) at c.ask_common.ensures.asked in
-    let p = err_from_is_err_and c.from_residual.result c.from_residual.ensures.1 in
-    rw (p.1, p.2) (common-refused (study_of c.args.study) (start (goal.at.returns-in_err-tested-clause-did c).Start) (carry c.args.worker) _ told)
+    rw (handed-on _ c.from_residual.ensures.1) (common-refused (study_of c.args.study) (start (goal.at.returns-in_err-tested-clause-did c).Start) (carry c.args.worker) _ told)
 
 pub carry_asked-requires : goal.carry_asked-requires
 carry_asked-requires c =

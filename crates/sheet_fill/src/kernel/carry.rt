@@ -30,7 +30,7 @@ fn piece_at(tested: &TestedStudy, q: usize) -> Piece
     }
 }
 
-// All open pieces.
+// All open pieces. Why `Fitting` is a clause: see triplet_piece.
 pub fn fill_open(work: &mut Work, weights: &mut [f64], flags: &mut [i8], marks: &mut [u8])
     requires fits { Fitting work.old.prepared.tested.sizes (length work.old.prepared.tested.study.frequency_points.now) (length weights.old) (length flags.old) }
     requires held { Holds (pieces_of work.old.prepared.tested.sizes) marks.old }

@@ -9,7 +9,7 @@ use crate::Work;
 use triplet_piece::Piece;
 use triplet_piece::kernel::{fill_corners, fill_piece};
 
-// Keeps the corners of triplet `t`: nothing is looked up where they are kept already.
+// Keeps the corners of triplet `t`: nothing is looked up where they are kept already. Why `t` is a clause: see triplet_iw.
 fn keep_corners(work: &mut Work, t: usize)
     requires { t < work.old.prepared.tested.sizes.triplets }
     ensures study { work.new.prepared ≡ work.old.prepared }
@@ -24,7 +24,8 @@ fn keep_corners(work: &mut Work, t: usize)
     work.held = Some(t);
 }
 
-// Writes a piece at every point and in every channel. The corners kept are then those of its triplet.
+// Writes a piece at every point and in every channel. The corners kept are then those of its triplet. Why `Fitting` is a clause: see
+// triplet_piece.
 pub fn fill_named(work: &mut Work, weights: &mut [f64], flags: &mut [i8], piece: Piece)
     requires fits { Fitting work.old.prepared.tested.sizes (length work.old.prepared.tested.study.frequency_points.now) (length weights.old) (length flags.old) }
     requires on_sheet { IsPiece work.old.prepared.tested.sizes piece }

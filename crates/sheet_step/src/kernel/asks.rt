@@ -16,7 +16,9 @@ use question_values::kernel::averages::{degenerate_ids_ok, weights_ok};
 use sheet_tally::Tally;
 use triplet_study::{CountedSizes, Study, TestedStudy};
 
-// Questions 12 and 13, of a sheet's lengths and marks.
+// Questions 12 and 13, of a sheet's lengths and marks. `weights` and `flags` count what is not read here: lists in their place would ask more of the
+// caller.
+#[tactic(auto, using(crate::proofs::CountLaws::held_laws), unfolding(ask::specs::Ask::first_no, crate::specs::Steps::are_sheet_lengths))]
 fn ask_sheet(
     counts: CountedSizes,
     weights: usize,
@@ -36,7 +38,8 @@ fn ask_sheet(
     Ok(())
 }
 
-// Questions 3 to 13, which every call asks. Gives the tested study.
+// Questions 3 to 13, which every call asks. Gives the tested study. Counts of weights and flags, as for 12 and 13.
+#[tactic(auto, unfolding(ask::specs::Ask::first_no))]
 pub fn ask_common<'a>(
     study: Study<'a>,
     weights: usize,
@@ -60,7 +63,8 @@ fn piece_ok(counts: CountedSizes, piece: NamedPiece) -> bool
         & is_below(piece.b2, counts.sizes.bands2)
 }
 
-// Questions 14, 15, 21 and 20, of a run.
+// Questions 14, 15, 21 and 20, of a run. That the marks are those of the pieces is a clause (marks says why).
+#[tactic(auto, using(crate::proofs::CountLaws::place_laws, crate::proofs::StepLaws::piece_laws), unfolding(ask::specs::Ask::first_no))]
 pub fn ask_run(
     counts: CountedSizes,
     marks: &[u8],
@@ -81,7 +85,8 @@ pub fn ask_run(
     sheet_tally::kernel::ask_tally(tally, worker, 1)
 }
 
-// Question 19, of triplet `t`, whose number is a clause (triplet_iw says why).
+// Question 19, of triplet `t`, whose number is a clause (triplet_iw says why). How many weights there are is one too, here and where weights are
+// written: a type of weights and counts, as open_count has one to read, would be made anew for each call.
 fn triplet_weights_ok(counts: CountedSizes, t: usize, weights: &[f64]) -> bool
     requires { (t < counts.sizes.triplets) × (length weights.now ≡ counts.sizes.channels * counts.sizes.cells) }
     ensures { result ≡ are_triplet_weights counts.sizes t weights.now }
@@ -99,7 +104,8 @@ fn triplet_weights_ok(counts: CountedSizes, t: usize, weights: &[f64]) -> bool
     ok
 }
 
-// Questions 14 to 19, of an averaging.
+// Questions 14 to 19, of an averaging. Clauses as for a run and for question 19.
+#[tactic(auto, using(crate::proofs::CountLaws::place_laws, crate::proofs::StepLaws::below_laws), unfolding(ask::specs::Ask::first_no, crate::specs::Steps::are_id_lists))]
 pub fn ask_average(
     counts: CountedSizes,
     weights: &[f64],

@@ -7,7 +7,8 @@ use crate::kernel::row::sorted_row_weight;
 use tetrahedron_sort::Rows;
 use tetrahedron_sort::kernel::sort_omegas;
 
-// Each row of a work area put in order, and the place of its first value told.
+// Each row of a work area put in order, and the place of its first value told. Rows by their index: of `as_chunks_mut`, std does not say what the array
+// ends as.
 pub fn sort_rows(area: &mut [f64; 384], places: &mut [usize; 96], rows: Rows)
     ensures { InOrder area.old rows.count area.new places.new }
 {

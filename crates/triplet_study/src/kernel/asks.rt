@@ -45,6 +45,7 @@ fn study_frequencies_ok(
 }
 
 // Questions 8 to 11 of a study's lists, on a grid of `p` addresses.
+#[tactic(auto, using(crate::proofs::StudyLaws::counts_laws), unfolding(ask::specs::Ask::first_no))]
 pub fn ask_values(study: Study, p: usize) -> Result<(), Refusal>
     ensures { result ≡ answer_of (first_no (values_asked p (study_of study.entry))) tt }
 {

@@ -2,10 +2,10 @@
 use mathlib.Core.Path.{◌∙◌, ◌≡◌, ap, refl, sym}
 use Rattle.answer_weights.proofs.ListedLaws.{wrote_so}
 use Rattle.answer_weights.specs.Asked.{questions_of}
-use Rattle.answer.proofs.AnswerLaws.{answer-listed, answer-refused}
+use Rattle.answer.proofs.AnswerLaws.{answer-refused}
 use Rattle.ask.specs.Ask.{first_no}
 use Rattle.ask.specs.Refusals.{number_of, refusal_number}
-use Rattle.ask.proofs.RefusalLaws.{first-low, given-is, number-is, refused-not}
+use Rattle.ask.proofs.RefusalLaws.{first-low, number-is, refused-not}
 use Rattle.triplet_study.specs.Lent.{study_of}
 use Rattle.answer.proofs.asking.put_answer.Goals.{In-Err}
 use Rattle.answer.proofs.asking.put_answer.Goals as goal
@@ -14,11 +14,6 @@ use Rattle.answer.proofs.asking.put_answer.Goals as goal
 told : (c : In-Err) → refusal_number c.in-Err.why ≡ first_no (questions_of (study_of c.args.study))
 told c =
     ap number_of c.in-Err.ensures ∙ number-is (first_no (questions_of (study_of c.args.study))) tt (first-low (questions_of (study_of c.args.study)) refl)
-
-pub returns-in-Ok : goal.returns-in-Ok
-returns-in-Ok c =
-    wrote_so _ _ _ _ _ c.put_study.ensures.0 c.put_study.ensures.1
-    (answer-listed (study_of c.args.study) (first_no (questions_of (study_of c.args.study))) refl (given-is (first_no (questions_of (study_of c.args.study))) tt tt c.in-Ok.ensures).0)
 
 pub returns-in-Err : goal.returns-in-Err
 returns-in-Err c =

@@ -1,12 +1,11 @@
 -- `grid_point_weights::asks::ask_weights` meets its contract: the questions on the grid, and then the others.
-use Rattle.ask.proofs.AskLaws.{group-no, group-yes}
-use Rattle.ask.proofs.RefusalLaws.{given-is, refused-not, refused-is}
+use Rattle.ask.proofs.AskLaws.{group-yes}
+use Rattle.ask.proofs.RefusalLaws.{given-is, group-refused, handed-on}
 use Rattle.ask.specs.Ask.{Question}
 use Rattle.ask.specs.Refusals.{answer_of}
 use Rattle.bzgrid_lookup.proofs.CallLaws.{grid-numbered}
 use Rattle.grid_point_weights.specs.Calls.{call_of, points_asked}
 use Rattle.question_grids.specs.Grids.{questions_on}
-use Rattle.std.proofs.lemmas.Result.{err_from_is_err_and}
 use Prim.Native.Nat.{ℕ}
 use lib.ListN.{length}
 use mathlib.Core.List.{List}
@@ -21,8 +20,7 @@ others s = points_asked (call_of s.args.study s.args.grid_points.now) (length s.
 pub returns-in_err-ask_grid : goal.returns-in_err-ask_grid
 returns-in_err-ask_grid c =
     let g : _ = rw c.in_err-ask_grid.was at c.ask_grid.ensures in
-    let p = err_from_is_err_and c.from_residual.result c.from_residual.ensures.1 in
-    rw (p.1, p.2) (refused-is _ _ _ tt tt g (group-no (questions_on c.args.study.grid) (others (goal.at.returns-in_err-ask_grid c).Start) (refused-not _ _ tt g)))
+    rw (handed-on _ c.from_residual.ensures.1) (group-refused (questions_on c.args.study.grid) (others (goal.at.returns-in_err-ask_grid c).Start) _ tt tt g)
 
 pub returns : goal.returns
 returns c =

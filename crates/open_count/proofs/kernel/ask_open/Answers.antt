@@ -3,22 +3,20 @@ use borrow.Author.Rules.{rules}
 use borrow.Author.Tests.{eq-eqb, ne_eqb}
 use lib.Signed.{mag}
 use mathlib.Core.Bool.{true}
-use mathlib.Core.Path.{◌≡◌}
+use mathlib.Core.Path.{◌≡◌, ◌∙◌}
 use mir.Syntax.{w64}
 use mir.ValLaws.{to_z-of_z}
 use native.Mathlib.Omega.{arith}
 use Prim.Native.Nat.{◌*◌}
-use Rattle.std.proofs.lemmas.Result.{err_from_is_err_and}
 use Rattle.list_laws.proofs.BoolLaws.{no_of, yes_of}
 use Rattle.list_laws.proofs.SignedLaws.{back}
 use Rattle.list_laws.specs.Signed.{is_below}
-use Rattle.ask.proofs.AskLaws.{group-no}
-use Rattle.ask.proofs.RefusalLaws.{given-is, refused-not, refused-is}
+use Rattle.ask.proofs.RefusalLaws.{given-is}
 use Rattle.ask.specs.Ask.{first_no}
 use Rattle.sheet_counts.proofs.SheetCountLaws.{both-yes, weights-le}
 use Rattle.question_values.specs.TpTypes.{is_tp_type}
 use Rattle.triplet_types.specs.Types.{tp_type_of}
-use Rattle.triplet_types.proofs.TypeLaws.{channels-of-type}
+use Rattle.triplet_types.proofs.TypeLaws.{channels-named}
 use Rattle.sheet_counts.specs.SheetCounts.{are_sheet_counts, count_questions, weight_count_of}
 use Rattle.open_count.proofs.kernel.ask_open.Goals.{After-cells_of, After-is_below, In_ok-tp}
 use Rattle.open_count.proofs.kernel.ask_open.Goals as goal
@@ -31,21 +29,12 @@ yes c = both-yes c.args.tp_type c.args.counts (told c).0
 
 weights-are : (c : After-cells_of) → c.num_channels.result * c.cells_of.result ≡ weight_count_of c.args.tp_type c.args.counts
 weights-are c =
-    rw (c.num_channels.ensures, c.cells_of.ensures, (told (goal.at.After-cells_of c).In_ok-tp).1, channels-of-type c.args.tp_type)
+    rw (c.num_channels.ensures ∙ channels-named _ _ (told (goal.at.After-cells_of c).In_ok-tp).1, c.cells_of.ensures)
 
 on-sheet : (c : After-is_below) → c.is_below.result ≡ is_below c.args.triplet (mag c.args.counts.num_triplets)
 on-sheet c =
     let n : _ = rw (back c.args.counts.num_triplets (search rules)) at c.magnitude.ensures in
     rw (to_z-of_z w64 c.args.triplet c.ranges.triplet, n) at c.is_below.ensures
-
-pub returns-in_err-tp : goal.returns-in_err-tp
-returns-in_err-tp c =
-    let told : _ = rw (to_z-of_z w64 c.args.tp_type c.ranges.tp_type, c.in_err-tp.was) at c.ask_counts.ensures in
-    let p = err_from_is_err_and c.from_residual.result c.from_residual.ensures.1 in
-    rw (p.1, p.2) (refused-is _ _ _ _ (tp_type_of c.args.tp_type) told (group-no (count_questions c.args.tp_type c.args.counts) _ (refused-not _ _ (tp_type_of c.args.tp_type) told)))
-
-pub cells_of-requires : goal.cells_of-requires
-cells_of-requires c = (yes (goal.at.cells_of-requires c).In_ok-tp).1
 
 pub overflow_mul-num_channels : goal.overflow_mul-num_channels
 overflow_mul-num_channels c =

@@ -1,16 +1,17 @@
 -- `sheet_averaging::kernel::average_asked` meets its contract.
 use lib.ListN.{length}
 use lib.Signed.{mag}
-use mathlib.Core.Path.{◌∙◌, ◌≡◌, ap}
+use mathlib.Core.Path.{◌≡◌}
 use mir.Syntax.{w64}
 use mir.ValLaws.{to_z-of_z}
 use Prim.Native.Nat.{◌<◌}
-use Rattle.std.proofs.lemmas.Result.{err_from_is_err_and}
+use Rattle.list_laws.proofs.SignedLaws.{mag-given}
 use Rattle.ask.specs.Ask.{first_no}
-use Rattle.ask.proofs.RefusalLaws.{given-is}
+use Rattle.ask.proofs.RefusalLaws.{given-is, handed-on}
 use Rattle.sheet_turn.proofs.TurnLaws.{long-yes}
 use Rattle.sheet_averaging.proofs.AveragingLaws.{average-done, average-refused, average-on, average-place}
 use Rattle.sheet_step.proofs.StepLaws.{done-did}
+use Rattle.sheet_step.specs.Lent.{sheet_of}
 use Rattle.sheet_step.specs.Steps.{Sheet, sheet, average, average_questions}
 use Rattle.triplet_study.specs.Lent.{study_of}
 use Rattle.triplet_study.proofs.TestedLaws.{tested-counted}
@@ -18,7 +19,7 @@ use Rattle.sheet_averaging.proofs.kernel.average_asked.Goals.{Start, After-magni
 use Rattle.sheet_averaging.proofs.kernel.average_asked.Goals as goal
 
 abbrev start : Start → Sheet
-start s = sheet s.args.sheet.now.weights.now s.args.sheet.now.flags.now s.args.sheet.now.marks.now s.args.tally.runs
+start s = sheet_of s.args.sheet.now s.args.tally.runs
 
 -- 14 to 19 say yes
 yes : (c : After-magnitude-t) → first_no (average_questions c.args.tested.now.sizes c.args.sheet.now.weights.now c.args.sheet.now.marks.now c.args.triplet c.args.ids1.now c.args.ids2.now) ≡ 0
@@ -28,7 +29,7 @@ yes c =
 
 -- the triplet by its number
 number : (c : After-magnitude-t) → c.magnitude-t.result ≡ mag c.args.triplet
-number c = c.magnitude-t.ensures ∙ ap mag (to_z-of_z w64 c.args.triplet c.ranges.triplet)
+number c = mag-given c.args.triplet c.ranges.triplet c.magnitude-t.ensures
 
 on : (c : After-magnitude-t) → ((c.magnitude-t.result < c.args.tested.now.sizes.triplets) × (c.args.tested.now.sizes.bands1 ≡ c.args.tested.now.sizes.bands2))
     × ((length c.args.ids1.now ≡ c.args.tested.now.sizes.bands1) × (length c.args.ids2.now ≡ c.args.tested.now.sizes.bands1))
@@ -42,8 +43,7 @@ ask_average-requires c =
 pub returns-in_err-ask_average-clause-did : goal.returns-in_err-ask_average-clause-did
 returns-in_err-ask_average-clause-did c =
     let told : _ = rw (to_z-of_z w64 c.args.triplet c.ranges.triplet, c.weights.ensures, c.marks.ensures, c.counted_sizes-counts.ensures, c.in_err-ask_average.was) at c.ask_average.ensures in
-    let p = err_from_is_err_and c.from_residual.result c.from_residual.ensures.1 in
-    rw (p.1, p.2) (average-refused (study_of c.args.tested.now.study) (start (goal.at.returns-in_err-ask_average-clause-did c).Start) c.requires c.args.tested.now.counts c.args.triplet c.args.ids1.now c.args.ids2.now _ told)
+    rw (handed-on _ c.from_residual.ensures.1) (average-refused (study_of c.args.tested.now.study) (start (goal.at.returns-in_err-ask_average-clause-did c).Start) c.requires c.args.tested.now.counts c.args.triplet c.args.ids1.now c.args.ids2.now _ told)
 
 pub invariant_of-by : goal.invariant_of-by
 invariant_of-by c =

@@ -1,11 +1,12 @@
 -- `sheet_carry::kernel::carry_asked` meets its contract.
+use Rattle.ask.proofs.RefusalLaws.{handed-on}
 use mir.Syntax.{w64}
 use mir.ValLaws.{to_z-of_z}
 use native.Mathlib.Omega.{arith}
-use Rattle.std.proofs.lemmas.Result.{err_from_is_err_and}
 use Rattle.marks.proofs.BytesLaws.{held-few}
 use Rattle.sheet_fill.specs.Kept.{study_in}
-use Rattle.sheet_step.specs.Steps.{Sheet, sheet, pieces_of}
+use Rattle.sheet_step.specs.Lent.{sheet_of}
+use Rattle.sheet_step.specs.Steps.{Sheet, pieces_of}
 use Rattle.sheet_turn.proofs.TurnLaws.{long-yes, ready_made}
 use Rattle.sheet_carry.proofs.CarryLaws.{carry-done, carry-full}
 use Rattle.sheet_carry.proofs.kernel.carry_asked.Goals.{Start}
@@ -13,7 +14,7 @@ use Rattle.sheet_carry.proofs.kernel.carry_asked.Goals as goal
 
 -- the sheet that the call takes
 abbrev start : Start → Sheet
-start s = sheet s.args.sheet.now.weights.now s.args.sheet.now.flags.now s.args.sheet.now.marks.now s.args.tally.runs
+start s = sheet_of s.args.sheet.now s.args.tally.runs
 
 pub overflow_mul-pieces : goal.overflow_mul-pieces
 overflow_mul-pieces c =
@@ -26,8 +27,7 @@ open_pieces-count-requires c =
 pub returns-in_err-added-clause-did : goal.returns-in_err-added-clause-did
 returns-in_err-added-clause-did c =
     let told : _ = rw (to_z-of_z w64 c.args.worker c.ranges.worker, c.open_pieces-count.ensures, c.marks.ensures, c.in_err-added.was) at c.add.ensures in
-    let p = err_from_is_err_and c.from_residual.result c.from_residual.ensures.1 in
-    rw (p.1, p.2) (carry-full (study_in c.args.work.now.prepared) (start (goal.at.returns-in_err-added-clause-did c).Start) c.requires.common c.args.work.now.prepared.tested.counts c.args.worker _ told)
+    rw (handed-on _ c.from_residual.ensures.1) (carry-full (study_in c.args.work.now.prepared) (start (goal.at.returns-in_err-added-clause-did c).Start) c.requires.common c.args.work.now.prepared.tested.counts c.args.worker _ told)
 
 pub fill_open-requires-clause-fits : goal.fill_open-requires-clause-fits
 fill_open-requires-clause-fits c = (ready_made (study_in c.args.work.now.prepared) (start (goal.at.fill_open-requires-clause-fits c).Start) c.requires.common c.args.work.now.prepared.tested.counts).fits

@@ -1,11 +1,10 @@
 -- `sheet_tally::kernel::with_runs` meets its contract.
 use lib.ListN.{get_or}
 use lib.Signed.{mag}
-use mathlib.Core.Path.{◌∙◌, ◌≡◌, ap}
-use mir.Syntax.{w64}
-use mir.ValLaws.{to_z-of_z}
+use mathlib.Core.Path.{◌≡◌}
 use native.Mathlib.Omega.{arith}
 use Prim.Native.Nat.{◌+◌, ◌<◌, ◌^◌}
+use Rattle.list_laws.proofs.SignedLaws.{mag-given}
 use Rattle.sheet_tally.proofs.TallyLaws.{tally-yes}
 use Rattle.sheet_tally.proofs.kernel.with_runs.Goals.{After-magnitude-w}
 use Rattle.sheet_tally.proofs.kernel.with_runs.Goals as goal
@@ -13,7 +12,7 @@ use Rattle.sheet_tally.proofs.kernel.with_runs.Goals as goal
 -- the worker's place, which lies among the sixteen, and the room of its count
 place : (c : After-magnitude-w) → c.magnitude-w.result ≡ mag c.args.worker
 place c =
-    c.magnitude-w.ensures ∙ ap mag (to_z-of_z w64 c.args.worker c.ranges.worker)
+    mag-given c.args.worker c.ranges.worker c.magnitude-w.ensures
 
 room : (c : After-magnitude-w) → (c.magnitude-w.result < 16) × (get_or c.args.tally.runs c.magnitude-w.result 0 + c.args.runs < 2 ^ 63)
 room c =

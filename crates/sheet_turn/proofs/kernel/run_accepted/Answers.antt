@@ -1,15 +1,16 @@
 -- `sheet_turn::kernel::run_accepted` meets its contract.
 use lib.Signed.{mag}
-use mathlib.Core.Path.{◌∙◌, ◌≡◌, ap}
+use mathlib.Core.Path.{◌≡◌}
 use borrow.Author.Rules.{rules}
 use mir.Syntax.{w64}
-use mir.Val.{SFits}
 use mir.ValLaws.{to_z-of_z}
 use native.Mathlib.Omega.{arith}
 use Prim.Native.Nat.{◌+◌, ◌*◌, ◌<◌}
+use Rattle.list_laws.proofs.SignedLaws.{mag-given}
 use Rattle.marks.proofs.BytesLaws.{small-mark}
 use Rattle.sheet_step.proofs.StepLaws.{run-yes}
-use Rattle.sheet_step.specs.Steps.{Sheet, sheet}
+use Rattle.sheet_step.specs.Lent.{sheet_of}
+use Rattle.sheet_step.specs.Steps.{Sheet}
 use Rattle.sheet_turn.proofs.TurnLaws.{ready_made, run-done, run_on, run-place, run_small}
 use Rattle.sheet_fill.specs.Kept.{study_in}
 use Rattle.sheet_turn.proofs.kernel.run_accepted.Goals.{After-magnitude-n2, Start}
@@ -17,20 +18,20 @@ use Rattle.sheet_turn.proofs.kernel.run_accepted.Goals as goal
 
 -- what the call takes
 abbrev start : Start → Sheet
-start s = sheet s.args.sheet.now.weights.now s.args.sheet.now.flags.now s.args.sheet.now.marks.now s.args.tally.runs
+start s = sheet_of s.args.sheet.now s.args.tally.runs
 
 -- the piece by its three numbers
 nt : (c : After-magnitude-n2) → c.magnitude-t.result ≡ mag c.args.piece.triplet
-nt c = c.magnitude-t.ensures ∙ ap mag (to_z-of_z w64 c.args.piece.triplet (let f : SFits w64 c.args.piece.triplet = search rules in f))
+nt c = mag-given c.args.piece.triplet (search rules) c.magnitude-t.ensures
 
 n1 : (c : After-magnitude-n2) → c.magnitude-n1.result ≡ mag c.args.piece.b1
-n1 c = c.magnitude-n1.ensures ∙ ap mag (to_z-of_z w64 c.args.piece.b1 (let f : SFits w64 c.args.piece.b1 = search rules in f))
+n1 c = mag-given c.args.piece.b1 (search rules) c.magnitude-n1.ensures
 
 n2 : (c : After-magnitude-n2) → c.magnitude-n2.result ≡ mag c.args.piece.b2
-n2 c = c.magnitude-n2.ensures ∙ ap mag (to_z-of_z w64 c.args.piece.b2 (let f : SFits w64 c.args.piece.b2 = search rules in f))
+n2 c = mag-given c.args.piece.b2 (search rules) c.magnitude-n2.ensures
 
 small : (c : After-magnitude-n2) → c.magnitude-t.result * c.args.work.now.prepared.tested.sizes.pairs + (c.magnitude-n1.result * c.args.work.now.prepared.tested.sizes.bands2 + c.magnitude-n2.result) < 268435456
-small c = run_small (study_in c.args.work.now.prepared) ((sheet c.args.sheet.now.weights.now c.args.sheet.now.flags.now c.args.sheet.now.marks.now c.args.tally.runs)) c.requires.common c.args.work.now.prepared.tested.counts c.args.worker c.args.piece.triplet c.args.piece.b1 c.args.piece.b2 c.requires.own _ _ _ ((c.magnitude-t.ensures ∙ ap mag (to_z-of_z w64 c.args.piece.triplet (let f : SFits w64 c.args.piece.triplet = search rules in f)))) ((c.magnitude-n1.ensures ∙ ap mag (to_z-of_z w64 c.args.piece.b1 (let f : SFits w64 c.args.piece.b1 = search rules in f)))) ((c.magnitude-n2.ensures ∙ ap mag (to_z-of_z w64 c.args.piece.b2 (let f : SFits w64 c.args.piece.b2 = search rules in f))))
+small c = run_small (study_in c.args.work.now.prepared) (sheet_of c.args.sheet.now c.args.tally.runs) c.requires.common c.args.work.now.prepared.tested.counts c.args.worker c.args.piece.triplet c.args.piece.b1 c.args.piece.b2 c.requires.own _ _ _ (nt c) (n1 c) (n2 c)
 
 pub fill_named-requires-clause-fits : goal.fill_named-requires-clause-fits
 fill_named-requires-clause-fits c = (ready_made (study_in c.args.work.now.prepared) (start (goal.at.fill_named-requires-clause-fits c).Start) c.requires.common c.args.work.now.prepared.tested.counts).fits

@@ -1,34 +1,29 @@
--- `degenerate_sets::kernel::sets::set_end` meets its contract: what is left to look for starts at e.
+-- `degenerate_sets::kernel::sets::set_end` meets its contract.
 use borrow.Author.Rules.{rules}
-use mathlib.Core.Path.{◌≡◌, sym, ap, ◌∙◌}
-use lib.IntN.{ℤ}
-use lib.ListN.{length}
+use borrow.Author.Tests.{tests}
+use mathlib.Core.Bool.{Bool}
+use mathlib.Core.Path.{◌≡◌, ◌∙◌, ap, refl, sym}
+use Prim.Native.Nat.{ℕ, ◌+◌, ◌-◌}
 use native.Mathlib.Omega.{arith}
-use Rattle.list_laws.specs.Lists.{at}
-use Rattle.list_laws.specs.Signed.{is_nat}
-use Rattle.list_laws.proofs.SignedLaws.{back}
+use lib.ListN.{length}
+use Rattle.std.proofs.lemmas.Iterator.{YieldsList-from_range}
+use Rattle.std.proofs.lemmas.Iterator.Adapters.{option_map_id}
+use Rattle.std.proofs.lemmas.Iterator.Search.{find_from_yields_List}
+use Rattle.std.specs.List.{find, range_with_len}
+use Rattle.std.specs.Option.{option_map, unwrap_or}
+use Rattle.std.specs.declared.option.Option.{Option}
+use Rattle.list_laws.proofs.FirstLaws.{find-first}
 use Rattle.degenerate_sets.specs.Sets.{starts_at}
-use Rattle.degenerate_sets.proofs.SetLaws.{next-hit, next-step, next-end, end-first}
-use Rattle.degenerate_sets.proofs.kernel.sets.set_end.Goals.{After-is_nat}
+use Rattle.degenerate_sets.proofs.SetLaws.{end-first, next-found}
 use Rattle.degenerate_sets.proofs.kernel.sets.set_end.Goals as goal
 
-pub loop-e-init : goal.loop-e-init
-loop-e-init c = end-first _ _ _
-
--- the test tells whether e starts a set
-told : (c : After-is_nat) → starts_at c.args.ids.now c.loop-e.e ≡ c.is_nat.result
-unfolding starts_at
-told c = sym (c.is_nat.ensures ∙ ap (λ (z : ℤ). is_nat z c.loop-e.e) (back (at c.args.ids.now c.loop-e.e) (search rules)))
-
-pub returns-then-is_nat : goal.returns-then-is_nat
-returns-then-is_nat c =
-    sym (c.loop-e.invariant ∙ next-hit _ _ c.loop-e.e (told (goal.at.returns-then-is_nat c).After-is_nat ∙ c.if-is_nat.true))
-
-pub loop-e-preserved : goal.loop-e-preserved
-loop-e-preserved c =
-    c.loop-e.invariant ∙ next-step _ _ c.loop-e.e (omega arith) (told (goal.at.loop-e-preserved c).After-is_nat ∙ c.if-is_nat.false)
-
 pub returns : goal.returns
+unfolding starts_at
 returns c =
-    let all : length c.args.ids.now ≡ c.loop-e.e = omega arith in
-    all ∙ sym (c.loop-e.invariant ∙ next-end _ _ c.loop-e.e (omega arith))
+    let n : ℕ = length c.args.ids.now in
+    let first : ℕ = c.args.b + 1 in
+    let test : ℕ → Bool = starts_at c.args.ids.now in
+    let f : option_map (λ (x : ℕ). x) c.find.result ≡ find test (range_with_len first (n - first)) =
+    find_from_yields_List test _ _ c.find.result c.find.ensures.ran (YieldsList-from_range first n (n - first) refl refl) (λ x b q k. search (rules, tests)) in
+    c.unwrap_or.ensures ∙ ap (λ (r : Option ℕ). unwrap_or r n) (sym (option_map_id c.find.result) ∙ f) ∙ find-first test first (n - first) n
+    ∙ next-found test n (n - first) first (omega arith) ∙ sym (end-first test n c.args.b)
