@@ -1,13 +1,13 @@
 #!/usr/bin/env python3
-"""Shows that the judge can fail: each change below of the Rust, of the judge's questions, of its open count, of its test frequencies or of its
-reader of listings must be seen.
+"""Shows that the judge can fail: each change below of the Rust, of the judge's questions, of its open count, of its test frequencies, of its
+reader of listings, of its ways along edges or of the generated tables that the library gives must be seen.
 
-    mutants.py SOURCES OUT [SEED [FILE]]      # FILE: the changes of that file alone
+    mutants.py SOURCES OUT [SEED [FILE]]      # FILE: the changes of that file alone, or those that are tied to the kind of that name
 
 SOURCES is the folder of the original's Rust sources, OUT a folder as build.sh leaves it (its proved side is used as it is; its judge is
 replaced). For each change a judge is built and run (`times 1`); it must tell differences, and its status must not be 0 (where the
-questions take too much, the Rust may panic on it afterwards). The kinds that saw the change are printed. The status is 1 where a change
-was not seen.
+questions take too much, the Rust may panic on it afterwards). Some changes are tied to a kind, which must tell differences, and some to
+another that must tell none. The kinds that saw the change are printed. The status is 1 where a change was not seen so.
 """
 import pathlib
 import shutil
@@ -29,9 +29,18 @@ WEIGHTS = "        (12, &room),\n"
 TRIPLET = "        (14, &|| within(triplet, 0, t - 1)),\n"
 LISTING = "        (22, printed),\n"
 
+# Of the Rust's tables the first two rows, the last row of the first, and the first of the second.
+FIRST = "        [[0, 0, 0], [1, 0, 0], [1, 1, 0], [1, 1, 1]],\n"
+SECOND = "        [[0, 0, 0], [1, 0, 0], [1, 0, 1], [1, 1, 1]],\n"
+LAST = "        [[0, 0, 0], [-1, -1, -1], [-1, -1, 0], [-1, 0, 0]],\n"
+OTHER = "        [[0, 0, 0], [1, 0, 0], [0, 1, 0], [0, 1, 1]],\n"
+BETWEEN = "    ],\n    [\n"
+IN_USE, GENERATED = "the four tables", "the generated tables"
+GENERATE = "unsafe { c::pelmetsavory_generated_relative_grid_address(all) }"
+
 # The judge's own files; the others are the Rust's.
-OWN = ("asks", "listings", "loads", "sheets")
-# file, old text, new text, and which of its places (the first where none is told)
+OWN = ("asks", "calls", "listings", "loads", "sheets", "tables")
+# file, old text, new text, which of its places (the first where none is told), the kind that must see it (any), a kind that must not
 CHANGES = [
     ("tetrahedron_method", "THM_EPSILON: f64 = 1e-10", "THM_EPSILON: f64 = 1.1e-10"),
     ("tetrahedron_method", "if min_length > length", "if min_length >= length"),
@@ -40,7 +49,15 @@ CHANGES = [
     ("tetrahedron_method", "sum / (tetrahedra_omegas.len() as f64 / 4.0)", "sum * (4.0 / tetrahedra_omegas.len() as f64)"),
     ("tetrahedron_method", "1.0 - _f(0, 3, omega, v) * _f(1, 3, omega, v) * _f(2, 3, omega, v)",
      "1.0 - _f(0, 3, omega, v) * (_f(1, 3, omega, v) * _f(2, 3, omega, v))"),
-    ("tetrahedron_method", "[-1, -1, -1], [-1, -1, 0], [-1, 0, 0]]", "[-1, -1, -1], [-1, -1, 0], [0, -1, 0]]"),
+    ("tetrahedron_method", "[-1, -1, -1], [-1, -1, 0], [-1, 0, 0]]", "[-1, -1, -1], [-1, -1, 0], [0, -1, 0]]", 0, GENERATED),
+    # Tables: rows of two exchanged; a row twice, another never; corners 0 and 1 exchanged; two tables exchanged. Two rows of one table
+    # and corners 2 and 3 of a row exchanged are the same collection.
+    ("tetrahedron_method", LAST + BETWEEN + OTHER, OTHER + BETWEEN + LAST, 0, GENERATED),
+    ("tetrahedron_method", FIRST + SECOND, FIRST + FIRST, 0, GENERATED),
+    ("tetrahedron_method", FIRST, FIRST.replace("[0, 0, 0], [1, 0, 0]", "[1, 0, 0], [0, 0, 0]"), 0, GENERATED),
+    ("tetrahedron_method", "    DB_RELATIVE_GRID_ADDRESS\n", "    let [a, b, c, d] = DB_RELATIVE_GRID_ADDRESS;\n    [a, c, b, d]\n", 0, GENERATED),
+    ("tetrahedron_method", FIRST + SECOND, SECOND + FIRST, 0, IN_USE, GENERATED),
+    ("tetrahedron_method", FIRST, FIRST.replace("[1, 1, 0], [1, 1, 1]", "[1, 1, 1], [1, 1, 0]"), 0, IN_USE, GENERATED),
     ("tetrahedron_method", "iw_chunk[j * num_band + bi]", "iw_chunk[bi * num_fp + j]"),
     ("tetrahedron_method", "a[0] * a[0] + a[1] * a[1] + a[2] * a[2]", "a[0] * a[0] + (a[1] * a[1] + a[2] * a[2])"),
     ("bzgrid", STEPS, STEPS.replace("[2] +", "[2] -")),
@@ -123,6 +140,28 @@ CHANGES = [
     ("listings", "for k in [3, 2, 1] {", "for k in [3, 2, 0] {"),
     ("listings", "channels.concat()", "(0..channels.concat().len()).map(|k| channels[k % channels.len()][k / channels.len()]).collect()"),
     ("listings", 'b"1" => Some(1)', 'b"1" => Some(-1)'),
+    # The ways along edges: one taken twice, another never; one that runs along one edge all the time; ways back along their first edge;
+    # diagonals of faces for edges; a vertex left out; the last place never at zero; only the first; corner 0 where it was passed; a
+    # diagonal's end at 1, 1, 1; the first diagonal for all; a sign, so that the third diagonal comes again; two diagonals exchanged.
+    ("tables", "ways.push(way)", "ways.push(if ways.len() == 5 { ways[0] } else { way })", 0, GENERATED),
+    ("tables", "ways.push(way)", "ways.push(if ways.len() == 3 { [start, a, start, a] } else { way })", 0, GENERATED),
+    ("tables", "way.windows(2)", "way[..3].windows(2)", 0, GENERATED),
+    ("tables", ".count() == 1", ".count() <= 2", 0, GENERATED),
+    ("tables", "(0..8).map", "(0..7).map", 0, GENERATED),
+    ("tables", "[0, 1, 2, 3].map", "[0, 1, 2, 2].map", 0, GENERATED),
+    ("tables", "minus(place, way[zero])", "minus(place, way[0])", 0, GENERATED),
+    ("tables", "row.swap(0, zero)", "row.swap(zero, zero)", 0, GENERATED),
+    ("tables", "(d > 0) as i64", "d * d", 0, GENERATED),
+    ("tables", "ends(diagonal);", "ends(diagonal.map(i64::abs));", 0, GENERATED),
+    ("tables", "[1, 1, -1]]", "[-1, 1, -1]]", 0, GENERATED),
+    ("tables", "[-1, 1, 1], [1, -1, 1]", "[1, -1, 1], [-1, 1, 1]", 0, GENERATED),
+    # What the library gives: a row twice, another never; rows of two tables exchanged; the last number not written; one behind the last
+    # written; an order that depends on what the buffer held.
+    ("calls", GENERATE, GENERATE + "\n    all.copy_within(..12, 12)", 0, GENERATED),
+    ("calls", GENERATE, GENERATE + "\n    (0..12).for_each(|k| all.swap(k, 288 + k))", 0, GENERATED),
+    ("calls", GENERATE, "let held = all[1151];\n    " + GENERATE + "\n    all[1151] = held", 0, GENERATED),
+    ("calls", GENERATE, GENERATE + "\n    unsafe { *all.as_mut_ptr().add(1152) = 0 }", 0, GENERATED),
+    ("calls", GENERATE, "let held = all[0];\n    " + GENERATE + "\n    (0..12).for_each(|k| all.swap(k, k + 12 * (held & 1) as usize))", 0, GENERATED),
 ]
 
 
@@ -138,13 +177,18 @@ def changed(path, old, new, place=0):
 
 
 def seen_by(said):
-    """The kinds of a judge's lines that differ."""
+    """The kinds of a judge's lines that differ, and how often."""
     lines = [l.split("\t") for l in said.split("\n") if l.startswith("kind\t")]
-    return ["%s %s" % (l[1], l[5]) for l in lines if l[5] != "0"]
+    return {l[1]: l[5] for l in lines if l[5] != "0"}
+
+
+def enough(kinds, must=None, never=None):
+    """Whether the kind saw the change that must, any where none is told, and none that must not."""
+    return (must in kinds if must else kinds != {}) and never not in kinds
 
 
 def tried(sources, out, seed, change):
-    """Whether the judge saw the change."""
+    """Whether the judge saw the change as it must."""
     with tempfile.TemporaryDirectory() as room:
         room = pathlib.Path(room)
         shutil.copytree(sources, room / "sources")
@@ -152,19 +196,20 @@ def tried(sources, out, seed, change):
             shutil.copytree(REPO / part, room / part)
         module = change[0]
         own = room / "compare/judge" / (module + ".rs")
-        changed(own if module in OWN else source_file(room / "sources", module), *change[1:])
+        changed(own if module in OWN else source_file(room / "sources", module), *change[1:4])
         subprocess.run([room / "compare/build.sh", "--other-sources", room / "sources", out, "judge"], check=True, stdout=subprocess.DEVNULL)
         end = subprocess.run([out / "judge", str(seed), "times", "1"], stdout=subprocess.PIPE, stderr=subprocess.DEVNULL, text=True)
         kinds = seen_by(end.stdout)
-        seen = end.returncode != 0 and kinds != []
-        print("%s\t%s: %s\t%s" % ("seen" if seen else "NOT SEEN", module, " ".join(change[2].split()), "; ".join(kinds)), flush=True)
+        seen = end.returncode != 0 and enough(kinds, *change[4:])
+        told = "; ".join("%s %s" % kind for kind in kinds.items())
+        print("%s\t%s: %s\t%s" % ("seen" if seen else "NOT SEEN", module, " ".join(change[2].split()), told), flush=True)
         return seen
 
 
 def main():
     sources, out = (pathlib.Path(p).resolve() for p in sys.argv[1:3])
     seed = int(sys.argv[3]) if len(sys.argv) > 3 else 1
-    changes = [c for c in CHANGES if c[0] in sys.argv[4:] or len(sys.argv) < 5]
+    changes = [c for c in CHANGES if len(sys.argv) < 5 or {c[0], *c[4:]} & set(sys.argv[4:])]
     missed = [c for c in changes if not tried(sources, out, seed, c)]
     print("%d changes, %d not seen" % (len(changes), len(missed)))
     return 1 if missed else 0

@@ -1,11 +1,12 @@
 #!/usr/bin/env python3
-"""Makes the stored cases of the crate `vectors_weight`: sort, weights, choice of the table, tables, exact integrals, products.
+"""Makes the stored cases of the crate `vectors_weight`: sort, weights, choice of the table, tables, generated tables, exact integrals, products.
 
     vectors_weight.py DRIVER CRATE_FOLDER [SEED]
 
 Writes CRATE_FOLDER/stdin and CRATE_FOLDER/stdout. The answer of an accepted call is the Rust's. Whether a call is accepted, and its
 number where it is not, comes from the questions of document 01 (scope.py, and below). The exact integrals come from neither: they are
-divided differences in fractions, and the Rust's own answers are held against them too.
+divided differences in fractions, and the Rust's own answers are held against them too. The generated tables come from the words of request
+6, and must be the Rust's as collections.
 """
 import itertools
 import math
@@ -310,14 +311,48 @@ def product_cases(r, c):
             c.product(l, [1, -2, r.pick(beyond)])                        # 2 is asked before 7
 
 
-NAMES = {"sort": "sort", "weight": "weight", "lattice": "choice of the table", "tables": "tables", "exact": "exact integral",
-         "whole": "exact sum of the four vertices", "product": "lattice times vector"}
+DIAGONALS = [(1, 1, 1), (-1, 1, 1), (1, -1, 1), (1, 1, -1)]
+
+
+def places(diagonal, axes):
+    """The vertices of the cell that a way passes, from one end of the diagonal to the other, an edge along each axis."""
+    out = [tuple(int(d < 0) for d in diagonal)]
+    for axis in axes:
+        out.append(tuple(p + d * (k == axis) for k, (p, d) in enumerate(zip(out[-1], diagonal))))
+    return out
+
+
+def generated_rows(diagonal):
+    """The 24 rows of request 6. Ways: an axis first, then the others going round forwards, then backwards; of each way the four places
+    in turn at zero; a row has the place at zero first, then those after it, then those before it."""
+    ways = [[(first + turn * n) % 3 for n in range(3)] for first in range(3) for turn in (1, -1)]
+    for passed in (places(diagonal, axes) for axes in ways):
+        for s in range(4):
+            yield [tuple(a - b for a, b in zip(passed[(s + c) % 4], passed[s])) for c in range(4)]
+
+
+def generated(tables):
+    """The numbers of all four; as collections of sets of corners they must be the Rust's tables."""
+    made = [list(generated_rows(d)) for d in DIAGONALS]
+    for rows, table in zip(made, tables):
+        corners = [tuple(table[3 * k:3 * k + 3]) for k in range(96)]
+        theirs = [frozenset(corners[4 * k:4 * k + 4]) for k in range(24)]
+        ours = [frozenset(row) for row in rows]
+        assert len(set(ours)) == len(set(theirs)) == 24 and set(ours) == set(theirs)
+    return [x for rows in made for row in rows for corner in row for x in corner]
+
+
+NAMES = {"sort": "sort", "weight": "weight", "lattice": "choice of the table", "tables": "tables",
+         "generated": "generated tables", "exact": "exact integral", "whole": "exact sum of the four vertices", "product": "lattice times vector"}
 
 
 def make(driver, crate, seed):
     r, c = Rng(seed), Cases(driver, NAMES)
+    tables = records.tables(driver)
     c.counts["tables"].append(0)
-    c.group(line(6, records.flat(records.tables(driver))))
+    c.counts["generated"].append(0)
+    c.group(line(6, records.flat(tables)))
+    c.group(line(10, generated(tables)))
     sort_cases(r, c)
     weight_cases(r, c)
     refused_weights(r, c)

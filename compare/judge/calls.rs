@@ -292,8 +292,19 @@ pub fn choice(lattice: &[f64; 9], table: &mut [i64; 288], index: &mut usize) -> 
     unsafe { c::pelmetsavory_relative_grid_address(lattice, table, index) }
 }
 
-pub fn all_tables(all: &mut [i64; 1152]) {
+/// The numbers of the four tables: 24 rows of four corners each.
+pub const TABLES: usize = 1152;
+
+/// No number: nothing is asked.
+pub fn all_tables(all: &mut [i64]) {
+    let all: &mut [i64; TABLES] = all.try_into().expect("a buffer of that length");
     unsafe { c::pelmetsavory_all_relative_grid_address(all) }
+}
+
+/// No number: nothing is asked.
+pub fn generated_tables(all: &mut [i64]) {
+    let all: &mut [i64; TABLES] = all.try_into().expect("a buffer of that length");
+    unsafe { c::pelmetsavory_generated_relative_grid_address(all) }
 }
 
 pub fn weight(omega: f64, vertices: &[f64], letter: u8, weight: &mut f64) -> u64 {

@@ -1,4 +1,4 @@
-//! Grid index; choice of the table; lattice times vector; the four tables.
+//! Grid index; choice of the table; lattice times vector.
 use crate::lent::{same, Word};
 use crate::report::{Kind, Seen};
 use crate::rng::{Rng, FAR};
@@ -6,13 +6,12 @@ use crate::{asks, calls};
 use phonors::common::{matvec_di, MatD};
 use phonors::grgrid::grid_index_from_address;
 use phonors::probe::probe_diagonal_length;
-use phonors::tetrahedron_method::{all_relative_grid_address, relative_grid_address};
+use phonors::tetrahedron_method::relative_grid_address;
 
-pub const KINDS: [Kind; 4] = [
+pub const KINDS: [Kind; 3] = [
     Kind::new("grid index", &[4]),
     Kind::new("choice of the table", &[2]),
     Kind::new("lattice times vector", &[2, 7]),
-    Kind::new("the four tables", &[]),
 ];
 
 pub fn cases(r: &mut Rng, seen: &mut [Seen]) {
@@ -20,9 +19,6 @@ pub fn cases(r: &mut Rng, seen: &mut [Seen]) {
         index(r, &mut seen[0]);
         choice(r, &mut seen[1]);
         matvec(r, &mut seen[2]);
-    }
-    if seen[3].cases() == 0 {
-        tables(&mut seen[3]);
     }
 }
 
@@ -195,14 +191,5 @@ fn matvec(r: &mut Rng, seen: &mut Seen) {
     let answer = calls::matvec(&l, v, &mut got);
     seen.note(no, answer == no && same(&got, &want), || {
         format!("{l:?} times {v:?}: {answer}, {got:?} for {want:?}")
-    });
-}
-
-fn tables(seen: &mut Seen) {
-    let mut got = [0; 1152];
-    calls::all_tables(&mut got);
-    let want: Vec<i64> = all_relative_grid_address().concat().concat().concat();
-    seen.note(0, got.as_slice() == want, || {
-        "a number of a table".to_string()
     });
 }

@@ -26,6 +26,7 @@ mod rng;
 mod sheets;
 mod studies;
 mod study;
+mod tables;
 mod triplets;
 mod values;
 mod weights;
@@ -44,12 +45,12 @@ struct Group {
     share: u64,
 }
 
-static GROUPS: [Group; 11] = [
+static GROUPS: [Group; 12] = [
     Group {
         kinds: &lattices::KINDS,
         cases: lattices::cases,
         rounds: 2500,
-        share: 5,
+        share: 4,
     },
     Group {
         kinds: &neighbours::KINDS,
@@ -110,6 +111,12 @@ static GROUPS: [Group; 11] = [
         cases: listings::cases,
         rounds: 1000,
         share: 4,
+    },
+    Group {
+        kinds: &tables::KINDS,
+        cases: tables::cases,
+        rounds: 100,
+        share: 1,
     },
 ];
 

@@ -50,10 +50,6 @@ impl Seen {
         }
     }
 
-    pub fn cases(&self) -> u64 {
-        self.cases
-    }
-
     /// A case: the number that is right, 0 for acceptance, and whether answer and buffers are as they should be.
     pub fn note(&mut self, number: u64, right: bool, show: impl FnOnce() -> String) {
         self.cases += 1;

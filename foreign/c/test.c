@@ -45,6 +45,51 @@ static int listed(const pelmetsavory_sheet *s)
     return same;
 }
 
+/* whether two rows have corner 0 at zero, and the same corners 1 to 3 in any order */
+static int same_row(const int64_t *a, const int64_t *b)
+{
+    static const int orders[6][3] = {{1, 2, 3}, {1, 3, 2}, {2, 1, 3}, {2, 3, 1}, {3, 1, 2}, {3, 2, 1}};
+    static const int64_t zero[3];
+    if (memcmp(a, zero, 24) || memcmp(b, zero, 24)) return 0;
+    for (int k = 0; k < 6; k++) {
+        int same = 1;
+        for (int c = 1; c < 4; c++) same = same && !memcmp(a + 3 * c, b + 3 * orders[k][c - 1], 24);
+        if (same) return 1;
+    }
+    return 0;
+}
+
+/* how many of the 24 rows of a table are that row */
+static int times(const int64_t *row, const int64_t *rows)
+{
+    int n = 0;
+    for (int k = 0; k < 24; k++) n += same_row(row, rows + 12 * k);
+    return n;
+}
+
+/* The generated tables: of each diagonal the rows of the constant table, each once, in another order; nothing is written beside them. */
+static void generated_tables(const int64_t *all)
+{
+    int64_t buffer[1154], *made = buffer + 1, guard;
+    memset(buffer, 0x5a, sizeof buffer); memset(&guard, 0x5a, sizeof guard);
+    pelmetsavory_generated_relative_grid_address(made);
+    YES(buffer[0] == guard && buffer[1153] == guard);
+    for (int t = 0; t < 4; t++)
+        for (int k = 0; k < 24; k++) {
+            YES(times(made + 288 * t + 12 * k, all + 288 * t) == 1);
+            YES(times(all + 288 * t + 12 * k, made + 288 * t) == 1);
+        }
+    YES(memcmp(made, all, 1152 * sizeof *made));
+    /* by hand: along x, y, z from 0,0,0 to 1,1,1 one passes 1,0,0 and 1,1,0, and along y, x, z from 1,0,0 to 0,1,1, which is the diagonal -1,1,1,
+     * one passes 1,1,0 and 0,1,0; each with its first place at zero, and with its third */
+    const int64_t xyz[2][12] = {{0, 0, 0, 1, 0, 0, 1, 1, 0, 1, 1, 1}, {0, 0, 0, -1, -1, 0, 0, -1, 0, 0, 0, 1}};
+    const int64_t yxz[2][12] = {{0, 0, 0, 0, 1, 0, -1, 1, 0, -1, 1, 1}, {0, 0, 0, 1, -1, 0, 1, 0, 0, 0, 0, 1}};
+    const int64_t around[12] = {0, 0, 0, 1, 0, 0, 1, 1, 0, 0, 1, 0}; /* along x, y and back along x: on no way */
+    for (int k = 0; k < 2; k++) YES(times(xyz[k], made) == 1 && times(yxz[k], made + 288) == 1);
+    for (int t = 0; t < 4; t++) YES(times(around, made + 288 * t) == 0);
+    name("generated"); wholes(made, 1152); end();
+}
+
 /* The open count refuses in its order and keeps what is behind `count`; which weights count, and each entry once. */
 static void open_counts(pelmetsavory_counts counts, const double *weights)
 {
@@ -194,6 +239,7 @@ static void calls(void)
     WANT(0, pelmetsavory_relative_grid_address(unit, chosen, &which));
     pelmetsavory_all_relative_grid_address(all);
     name("tables"); number((long long)which); wholes(chosen, 288); wholes(all, 1152); end();
+    generated_tables(all);
     unit[4] = 2147483648.0;
     WANT(2, pelmetsavory_relative_grid_address(unit, chosen, &which));
     const double lattice[9] = {0.1, 0.2, 0.3, 1, 2, 3, -4, 0, 4};
@@ -584,6 +630,7 @@ static void *deep(void *sheet)
     WANT(0, pelmetsavory_integration_weights_at_grid_points(at, 18, two, 2, table, 288, three, 3, frequencies1, 12, 3, 4, grid, addresses, 36, gp_map, 9, irreducible, 12, 'I'));
     WANT(0, pelmetsavory_relative_grid_address(unit, which, &index));
     pelmetsavory_all_relative_grid_address(all);
+    pelmetsavory_generated_relative_grid_address(all);
     pelmetsavory_fill_frequencies(0, at, 9, weights, ENTRIES, w1, 135);
     WANT(0, pelmetsavory_read_listing(listing, listing_length, 3, small_counts, weights, ENTRIES, flags, CELLS));
     return NULL;

@@ -7,7 +7,9 @@
  * Any values in arrays and structs are taken: what is wrong is told by the status, 0 or the number of the first question that is
  * answered no (pelmetsavory_question gives its words). After a refusal every buffer and all counts of the tally are as they were.
  * pelmetsavory_answer has no status but the length of its answer, and writes a refusal as a line of text;
- * pelmetsavory_all_relative_grid_address and pelmetsavory_fill_frequencies refuse nothing, and have no status.
+ * pelmetsavory_all_relative_grid_address, pelmetsavory_generated_relative_grid_address and pelmetsavory_fill_frequencies refuse nothing, and
+ * have no status. The generated tables show where the others come from: never take them for weights that are to agree in every bit, since
+ * their rows stand in another order, and sums depend on it.
  * pelmetsavory_read_listing takes a whole listing, as pelmetsavory_answer and the program `weights` print it, without a limit of size; its
  * buffers are those of a sheet of the type and counts: triplets * points * b1 * b2 flags, and as many weights for each output of the type
  * (pelmetsavory_num_channels). A listing of another length, or with a byte that the writer would not print, is refused by question 22.

@@ -5,7 +5,7 @@
 #include <stdint.h>
 
 /* The interface version that this header was made for: that of the library must be the same (pelmetsavory_ready). */
-#define PELMETSAVORY_INTERFACE_VERSION 6
+#define PELMETSAVORY_INTERFACE_VERSION 7
 
 /* A piece as a caller names it: any numbers. */
 typedef struct {
@@ -270,6 +270,10 @@ uint64_t pelmetsavory_relative_grid_address(
 
 /* All four tables, one after the other. */
 void pelmetsavory_all_relative_grid_address(
+    int64_t all[1152]);
+
+/* All four tables, made from the main diagonals: the rows of those above, in an order of their own. */
+void pelmetsavory_generated_relative_grid_address(
     int64_t all[1152]);
 
 /* One weight over directly given vertices, behind `weight`; `letter` 'I' (73) asks for the density's weight, any other byte for that of the number of states, J. Questions 7, 11. */

@@ -82,7 +82,7 @@ def test_every_public_name_has_words_and_hints():
 
 
 def test_examples():
-    for module, examples in (pm, 9), (pm._functions, 5), (pm._loads, 5), (pm._listing, 4):
+    for module, examples in (pm, 9), (pm._functions, 8), (pm._loads, 5), (pm._listing, 4):
         result = doctest.testmod(module)
         assert result.failed == 0 and result.attempted >= examples, (module, result)
 

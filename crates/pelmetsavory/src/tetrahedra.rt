@@ -3,6 +3,7 @@ ghost use Rattle.std.specs.Prelude.{◌≡◌, ◌/◌, length};
 ghost use Rattle.tetrahedron_tables.specs.Tables.{table_of, flat};
 ghost use Rattle.relative_grid_address.specs.Diagonal.{main_diagonal_of};
 ghost use Rattle.relative_grid_address.specs.Answer.{all_tables, lattice_questions};
+ghost use Rattle.cell_tetrahedra.specs.Rows.{generated_tables};
 ghost use Rattle.tetrahedron_method.specs.Answer.{weight_questions};
 ghost use Rattle.tetrahedron_method.specs.Weight.{weight_of};
 ghost use Rattle.ask.specs.Ask.{first_no, after_call};
@@ -73,6 +74,14 @@ pub extern "C" fn pelmetsavory_all_relative_grid_address(all: &mut [i64; 1152])
     ensures { all.new ≡ all_tables }
 {
     *all = relative_grid_address::all_relative_grid_address();
+}
+
+// All four tables, made from the main diagonals: the rows of those above, in an order of their own.
+#[unsafe(no_mangle)]
+pub extern "C" fn pelmetsavory_generated_relative_grid_address(all: &mut [i64; 1152])
+    ensures { all.new ≡ generated_tables }
+{
+    *all = generated_tables::generated_relative_grid_address();
 }
 
 // One weight over directly given vertices, behind `weight`; `letter` 'I' (73) asks for the density's weight, any other byte for that of the

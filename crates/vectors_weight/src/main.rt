@@ -10,6 +10,7 @@
 //   7  exact integral: function, omega, the row's four values, least, greatest
 //   8  exact integral of the whole row: the same
 //   9  product: the lattice's nine values, row by row, the vector, refusal, the product's three values
+//  10  the four tables by the generator, which the Rust does not have, in its order: list of numbers
 //
 // Function 0 is I, 1 is J. Refusal 0 is an accepted call. Each block has its own vertices. Floats are compared by their bits, but for
 // 7 and 8, where the weight over 24 equal rows, or the sum of those of the four vertices in turn, lies from the least to the greatest.
@@ -18,7 +19,8 @@
 
 use anyhow::Result;
 use ask::Refusal;
-use relative_grid_address::NeighbourTable;
+use generated_tables::generated_relative_grid_address;
+use relative_grid_address::{NeighbourTable, all_relative_grid_address};
 use replay_compare::kernel::agree;
 use replay_input::reader::Reader;
 use replay_report::blocks::{Replay, replay_blocks};
@@ -39,12 +41,13 @@ enum Record {
     EqualRows,
     Lattice,
     Tables,
+    GeneratedTables,
     Exact,
     ExactSum,
     Product,
 }
 
-const RECORDS: [(u64, Record); 9] = [
+const RECORDS: [(u64, Record); 10] = [
     (1, Record::Sort),
     (2, Record::Vertices),
     (3, Record::Weight),
@@ -54,6 +57,7 @@ const RECORDS: [(u64, Record); 9] = [
     (7, Record::Exact),
     (8, Record::ExactSum),
     (9, Record::Product),
+    (10, Record::GeneratedTables),
 ];
 
 // What is counted.
@@ -63,6 +67,7 @@ struct Counts {
     weight: Cases,
     lattice: Cases,
     tables: Cases,
+    generated: Cases,
     exact: Cases,
     exact_sum: Cases,
     product: Cases,
@@ -75,6 +80,7 @@ impl Counts {
             weight: Cases::new("weight", "weight"),
             lattice: Cases::new("lattice", "choice of the table"),
             tables: Cases::new("tables", "tables"),
+            generated: Cases::new("generated tables", "generated tables"),
             exact: Cases::new("exact integral", "exact integral"),
             exact_sum: Cases::new("exact sum", "exact sum of the four vertices"),
             product: Cases::new("product", "lattice times vector"),
@@ -89,11 +95,12 @@ impl fmt::Display for Counts {
             weight,
             lattice,
             tables,
+            generated,
             exact,
             exact_sum,
             product,
         } = self;
-        writeln!(f, "{sort}\n{weight}\n{lattice}\n{tables}")?;
+        writeln!(f, "{sort}\n{weight}\n{lattice}\n{tables}\n{generated}")?;
         write!(f, "{exact}\n{exact_sum}\n{product}")
     }
 }
@@ -191,7 +198,7 @@ fn exact_case(reader: &mut Reader<'_>, whole: bool) -> Judged {
 fn table_agrees(answer: Result<NeighbourTable, Refusal>, refusal: u64, number: u64) -> bool {
     match answer {
         Ok(chosen) => {
-            let all = relative_grid_address::all_relative_grid_address();
+            let all = all_relative_grid_address();
             let (tables, _) = all.as_chunks::<288>();
             let numbers = chosen.numbers;
             refusal == 0
@@ -215,9 +222,13 @@ fn lattice_case(reader: &mut Reader<'_>) -> Judged {
     }
 }
 
-fn tables_case(reader: &mut Reader<'_>, alloc: Global) -> Result<Judged, AllocError> {
+// The four tables as a call gives them.
+fn tables_case(
+    reader: &mut Reader<'_>,
+    alloc: Global,
+    all: [i64; 1152],
+) -> Result<Judged, AllocError> {
     let tables = next_list(reader, alloc)?;
-    let all = relative_grid_address::all_relative_grid_address();
     Ok(accepted(agree(&all, &tables)))
 }
 
@@ -271,7 +282,14 @@ impl Replay for Kept {
             Record::Weight => counts.weight.add(rt, weight_case(reader, self.vertices())),
             Record::EqualRows => counts.weight.add(rt, row_case(reader)),
             Record::Lattice => counts.lattice.add(rt, lattice_case(reader)),
-            Record::Tables => counts.tables.add(rt, tables_case(reader, alloc)?),
+            Record::Tables => counts.tables.add(
+                rt,
+                tables_case(reader, alloc, all_relative_grid_address())?,
+            ),
+            Record::GeneratedTables => counts.generated.add(
+                rt,
+                tables_case(reader, alloc, generated_relative_grid_address())?,
+            ),
             Record::Exact => counts.exact.add(rt, exact_case(reader, false)),
             Record::ExactSum => counts.exact_sum.add(rt, exact_case(reader, true)),
             Record::Product => counts.product.add(rt, product_case(reader)),

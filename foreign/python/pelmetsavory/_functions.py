@@ -146,6 +146,23 @@ def all_relative_grid_address() -> np.ndarray:
     return out
 
 
+def generated_relative_grid_address() -> np.ndarray:
+    """The four tables (4, 24, 4, 3), made from the main diagonals: the six ways along three different edges from one end to the other, each shifted
+    so that each of its four places in turn lies at zero.
+
+    The rows are those of `all_relative_grid_address`, each once, but the order of the rows and of corners 1 to 3 is another. Sums depend on the order:
+    never take these tables for weights that are to agree in every bit.
+
+    >>> made, constant = generated_relative_grid_address(), all_relative_grid_address()
+    >>> rows = lambda table: sorted(sorted(row) for row in table.tolist())  # in any order
+    >>> [rows(a) == rows(b) for a, b in zip(made, constant)], np.array_equal(made, constant)
+    ([True, True, True, True], False)
+    """
+    out = np.zeros((4, 24, 4, 3), np.int64)
+    LIBRARY.pelmetsavory_generated_relative_grid_address(output(out, 8)[0])
+    return out
+
+
 def matvec_di(a: ArrayLike, b: ArrayLike) -> np.ndarray:
     """A lattice (3, 3) times a vector (3,) of whole numbers."""
     m, out = numbers("a", np.float64, a, 3, 3), np.zeros(3)

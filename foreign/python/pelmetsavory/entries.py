@@ -2,7 +2,7 @@
 import ctypes
 
 # the interface version that this module was made for
-INTERFACE_VERSION = 6
+INTERFACE_VERSION = 7
 
 
 class Piece(ctypes.Structure):
@@ -284,6 +284,9 @@ ENTRIES = {
         ("index", "mut", ctypes.c_size_t, None),
     ]),
     "pelmetsavory_all_relative_grid_address": (None, [
+        ("all", "mut", ctypes.c_int64, 1152),
+    ]),
+    "pelmetsavory_generated_relative_grid_address": (None, [
         ("all", "mut", ctypes.c_int64, 1152),
     ]),
     "pelmetsavory_tetrahedra_integration_weight": (ctypes.c_uint64, [

@@ -1,7 +1,7 @@
 // made by foreign/bindings.py from the Rattle source and foreign/questions.txt: do not edit
 
 /// The interface version that this crate was made for: that of the library must be the same.
-pub const INTERFACE_VERSION: u64 = 6;
+pub const INTERFACE_VERSION: u64 = 7;
 
 /// A piece as a caller names it: any numbers.
 #[repr(C)]
@@ -335,6 +335,9 @@ entries! {
         index: *mut usize,
     ) -> u64;
     pub fn pelmetsavory_all_relative_grid_address(
+        all: *mut [i64; 1152],
+    );
+    pub fn pelmetsavory_generated_relative_grid_address(
         all: *mut [i64; 1152],
     );
     pub fn pelmetsavory_tetrahedra_integration_weight(

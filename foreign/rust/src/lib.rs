@@ -394,6 +394,15 @@ pub fn all_relative_grid_address() -> [i64; 1152] {
     all
 }
 
+/// All four tables, made from the main diagonals: the six ways along three edges from end to end, each shifted to each of its four places. The rows
+/// are those of [`all_relative_grid_address`], in another order, and so are corners 1 to 3. Sums depend on the order: never take these for weights
+/// that are to agree in every bit.
+pub fn generated_relative_grid_address() -> [i64; 1152] {
+    let mut all = [0; 1152];
+    unsafe { c::pelmetsavory_generated_relative_grid_address(&mut all) };
+    all
+}
+
 /// One weight over directly given vertices, four a row.
 pub fn tetrahedra_integration_weight(omega: f64, vertices: &[f64], function: Function) -> Result<f64, Refused> {
     let mut weight = 0.0;

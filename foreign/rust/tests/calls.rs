@@ -175,6 +175,7 @@ fn every_entry_and_every_refusal() {
     let mut unit = [1., 0., 0., 0., 1., 0., 0., 0., 1.];
     let (table, index) = relative_grid_address(&unit).unwrap();
     say(&mut out, "tables", vec![text(&[index]), text(&table), text(&all_relative_grid_address())]);
+    generated_tables(&mut out);
     unit[4] = f64::INFINITY;
     assert_eq!(relative_grid_address(&unit), Err(Refused(2)));
     let lattice = [0.1, 0.2, 0.3, 1., 2., 3., -4., 0., 4.];
@@ -206,6 +207,38 @@ fn every_entry_and_every_refusal() {
     if let Ok(path) = std::env::var("PELMETSAVORY_OUT") {
         std::fs::write(path, out).unwrap();
     }
+}
+
+/// The rows of each of four tables, corner 0 as it is and corners 1 to 3 sorted, in the order of the table.
+fn rows_of(all: &[i64; 1152]) -> Vec<Vec<[[i64; 3]; 4]>> {
+    let corner = |row: &[i64], c: usize| [row[3 * c], row[3 * c + 1], row[3 * c + 2]];
+    let row = |numbers: &[i64]| {
+        let mut row = [0, 1, 2, 3].map(|c| corner(numbers, c));
+        row[1..].sort_unstable();
+        row
+    };
+    all.chunks_exact(288).map(|table| table.chunks_exact(12).map(row).collect()).collect()
+}
+
+/// The generated tables: of each diagonal the rows of the constant table, each once, in another order.
+fn generated_tables(out: &mut String) {
+    let (all, made) = (all_relative_grid_address(), generated_relative_grid_address());
+    let (constant, generated) = (rows_of(&all), rows_of(&made));
+    for (given, found) in constant.iter().zip(&generated) {
+        assert!(given.len() == 24 && found.len() == 24 && found.iter().all(|row| row[0] == [0; 3]));
+        let times = |row: &[[i64; 3]; 4], rows: &[[[i64; 3]; 4]]| rows.iter().filter(|other| *other == row).count();
+        assert!(found.iter().all(|row| times(row, given) == 1) && given.iter().all(|row| times(row, found) == 1));
+    }
+    assert!(made != all && made == generated_relative_grid_address());
+
+    // by hand, corners 1 to 3 sorted: along x, z, y from 0,0,0 to 1,1,1 one passes 1,0,0 and 1,0,1, and along z, x, y from 0,0,1 to 1,1,0, which is
+    // the diagonal 1,1,-1, one passes 0,0,0 and 1,0,0; each with its second place at zero, and with its last
+    let xzy = [[[0, 0, 0], [-1, 0, 0], [0, 0, 1], [0, 1, 1]], [[0, 0, 0], [-1, -1, -1], [0, -1, -1], [0, -1, 0]]];
+    let zxy = [[[0, 0, 0], [0, 0, 1], [1, 0, 0], [1, 1, 0]], [[0, 0, 0], [-1, -1, 0], [-1, -1, 1], [0, -1, 0]]];
+    assert!(xzy.iter().all(|row| generated[0].contains(row)) && zxy.iter().all(|row| generated[3].contains(row)));
+    let around = [[0, 0, 0], [0, 1, 0], [1, 0, 0], [1, 1, 0]]; // along x, y and back along x: on no way
+    assert!(!generated.concat().contains(&around));
+    say(out, "generated", vec![text(&made)]);
 }
 
 const IDS: [i64; 6] = [0, 0, 2, 0, 1, 1];
