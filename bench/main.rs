@@ -6,12 +6,15 @@
 //!     listing ROUNDS LOAD   bytes of the sheet's listing, and milliseconds to read it back, the median of the rounds
 //!     weights COUNT ROUNDS  nanoseconds of one weight over 24 rows, the variants in turn, medians of the rounds
 //!     weight VARIANT COUNT  so many weights of one variant
+//!     checks COUNT ROUNDS   microseconds of one check of a customer's table, the median of the rounds
+//!     check COUNT           so many checks
 //!
 //! LOAD is four numbers: triplets, bands, points, and how many points are drawn; the rest of the points repeat these. A fifth is the mesh,
 //! 12 without it.
 #[path = "../compare/judge/calls.rs"]
 #[allow(dead_code)]
 mod calls;
+mod check;
 mod clock;
 mod listing;
 #[path = "../compare/judge/kernels.rs"]
@@ -245,6 +248,8 @@ fn main() {
                 .expect("a variant");
             println!("{:e}", weight::Inputs::new().run(v, whole(2)));
         }
-        _ => panic!("compare, time, work, listing, weights or weight"),
+        "checks" => println!("{:.2}", check::time(whole(1), whole(2))),
+        "check" => check::run(&check::tables(), whole(1)),
+        _ => panic!("compare, time, work, listing, weights, weight, checks or check"),
     }
 }

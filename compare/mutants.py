@@ -1,6 +1,6 @@
 #!/usr/bin/env python3
 """Shows that the judge can fail: each change below of the Rust, of the judge's questions, of its open count, of its test frequencies, of its
-reader of listings, of its ways along edges or of the generated tables that the library gives must be seen.
+reader of listings, of its ways along edges, of the generated tables that the library gives or of its calls for a customer's table must be seen.
 
     mutants.py SOURCES OUT [SEED [FILE]]      # FILE: the changes of that file alone, or those that are tied to the kind of that name
 
@@ -38,8 +38,22 @@ BETWEEN = "    ],\n    [\n"
 IN_USE, GENERATED = "the four tables", "the generated tables"
 GENERATE = "unsafe { c::pelmetsavory_generated_relative_grid_address(all) }"
 
+CUSTOMER, CUSTOMER_I, CUSTOMER_J = "a customer's table", "weights by a customer's table I", "weights by a customer's table J"
+PLAIN_I = "grid-point weights I"
+COUNT, GOOD, PAIRED, CONE = ("        (%s, &|| %s(t)),\n" % q for q in ((7, "table"), (23, "good_rows"), (24, "paired"), (25, "one_cone")))
+IN_TURN = "then(then(grid(g), fan), || at_grid_points(g, c, room))"
+SIDES = "s.len() == 2 && s[0] + s[1] == 0"
+CHECK = "unsafe { c::pelmetsavory_check_relative_grid_address(t.0, t.1) }"
+CHECKED = """    at_grid_points!(
+        pelmetsavory_checked_integration_weights_at_grid_points,
+        g,
+        x,
+        weights,
+        letter
+    )"""
+
 # The judge's own files; the others are the Rust's.
-OWN = ("asks", "calls", "listings", "loads", "sheets", "tables")
+OWN = ("asks", "calls", "fans", "gridpoints", "listings", "loads", "sheets", "tables")
 # file, old text, new text, which of its places (the first where none is told), the kind that must see it (any), a kind that must not
 CHANGES = [
     ("tetrahedron_method", "THM_EPSILON: f64 = 1e-10", "THM_EPSILON: f64 = 1.1e-10"),
@@ -162,6 +176,41 @@ CHANGES = [
     ("calls", GENERATE, "let held = all[1151];\n    " + GENERATE + "\n    all[1151] = held", 0, GENERATED),
     ("calls", GENERATE, GENERATE + "\n    unsafe { *all.as_mut_ptr().add(1152) = 0 }", 0, GENERATED),
     ("calls", GENERATE, "let held = all[0];\n    " + GENERATE + "\n    (0..12).for_each(|k| all.swap(k, k + 12 * (held & 1) as usize))", 0, GENERATED),
+    # A customer's table, its rows: only determinant 1; components -1 to 1, -3 to 3; any first corner; 48 rows.
+    ("fans", "[1, -1].contains", "[1].contains", 0, CUSTOMER),
+    ("fans", "(-2..=2)", "(-1..=1)", 0, CUSTOMER),
+    ("fans", "(-2..=2)", "(-3..=3)", 0, CUSTOMER),
+    ("fans", "row[0] == [0; 3]", "row[0] != [3; 3]", 0, CUSTOMER),
+    ("fans", "table.len() == 24 * 12", "table.len() <= 48 * 12", 0, CUSTOMER),
+    # Its faces: without sides; any even number of rows; one row will do; by the order of their corners; sides by the order of corners alone;
+    # a row that comes twice counted once.
+    ("fans", SIDES, "s.len() == 2", 0, CUSTOMER),
+    ("fans", SIDES, "s.iter().sum::<i64>() == 0", 0, CUSTOMER),
+    ("fans", SIDES, "s.len() == 1 || " + SIDES, 0, CUSTOMER),
+    ("fans", "if p < q {", "if p != q {", 0, CUSTOMER),
+    ("fans", "solved(&row).determinant.signum()", "1", 0, CUSTOMER),
+    ("fans", "in rows(table) {", "in rows(table).into_iter().collect::<std::collections::BTreeSet<_>>() {", 0, CUSTOMER),
+    # Its cones: at least one; the first row's alone; one factor not asked; a row of determinant -1 turned inside out.
+    ("fans", ".count() == 1", ".count() >= 1", 0, CUSTOMER),
+    ("fans", "rows(table).iter().filter", "rows(table)[..1].iter().filter", 0, CUSTOMER),
+    ("fans", "factors.iter()", "factors[..2].iter()", 0, CUSTOMER),
+    ("fans", "|x| *x > 0", "|x| *x * solved(row).determinant > 0", 0, CUSTOMER),
+    # The order of its questions: 7 after 23, 23 after 24, 24 after 25; with a study 23 after 9 to 12, and before 3 to 6; only 7.
+    ("asks", COUNT + GOOD, GOOD + COUNT, 0, CUSTOMER),
+    ("asks", GOOD + PAIRED, PAIRED + GOOD, 0, CUSTOMER),
+    ("asks", PAIRED + CONE, CONE + PAIRED, 0, CUSTOMER),
+    ("asks", IN_TURN, "let rows = || first_no(&[(7, &|| table(&c.table))]);\n    "
+     "then(then(then(grid(g), rows), || at_grid_points(g, c, room)), fan)", 0, CUSTOMER_I, PLAIN_I),
+    ("asks", IN_TURN, "then(then(fan(), || grid(g)), || at_grid_points(g, c, room))", 0, CUSTOMER_I, PLAIN_I),
+    ("asks", "let fan = || customer_table(&c.table);", "let fan = || first_no(&[(7, &|| table(&c.table))]);", 0, CUSTOMER_I, PLAIN_I),
+    # What the library answers: the first 24 rows alone; the weights of the call that asks only 7; a refused call that writes; weights under
+    # a table with its rows in the other order, and under a built-in table.
+    ("calls", CHECK, CHECK.replace("t.1", "t.1.min(288)"), 0, CUSTOMER),
+    ("calls", CHECKED, CHECKED.replace("checked_", ""), 0, CUSTOMER_I, PLAIN_I),
+    ("calls", CHECKED, "let no = " + CHECKED.lstrip() + ";\n    if no > 22 && !weights.is_empty() {\n        weights[0] = 0.0;\n    }\n    no",
+     0, CUSTOMER_I, PLAIN_I),
+    ("gridpoints", "&rows(&c.table)", "&rows(&c.table).into_iter().rev().collect::<Vec<_>>()", 0, CUSTOMER_J),
+    ("gridpoints", "&rows(&c.table)", "&phonors::tetrahedron_method::all_relative_grid_address()[0]", 0, CUSTOMER_I),
 ]
 
 

@@ -1,4 +1,4 @@
-"""Document 01 in Python, as far as more than one script needs it: questions, grid index, neighbours.
+"""Document 01 in Python, as far as more than one script needs it: questions, grid index, neighbours. And request 7's, of a customer's table.
 
 A grid is (kind, mesh, addresses, map), its addresses flat, three numbers each. Floats are Python's.
 """
@@ -41,6 +41,51 @@ def grid_refusal(grid):
 
 def table_ok(table):
     return len(table) in (288, 576, 864, 1152) and small(table)
+
+
+def corner_rows(table):
+    """The rows of a table, four corners each."""
+    corners = [tuple(table[k:k + 3]) for k in range(0, len(table), 3)]
+    return [corners[k:k + 4] for k in range(0, len(corners), 4)]
+
+
+def normal(p, q):
+    return p[1] * q[2] - p[2] * q[1], p[2] * q[0] - p[0] * q[2], p[0] * q[1] - p[1] * q[0]
+
+
+def determinant(row):
+    return sum(a * n for a, n in zip(row[1], normal(row[2], row[3])))
+
+
+def good_rows(table):
+    """Question 23."""
+    return len(table) == 288 and all(row[0] == (0, 0, 0) and abs(determinant(row)) == 1 and all(-2 <= x <= 2 for corner in row for x in corner)
+                                     for row in corner_rows(table))
+
+
+def steps_round(table):
+    """Of each row the three faces, each as its corners in the order in which they lie when the row is gone round with determinant 1."""
+    rows = [(a, b, c) if determinant(row) > 0 else (a, c, b) for row in corner_rows(table) for _, a, b, c in [row]]
+    return [((a, b), (b, c), (c, a)) for a, b, c in rows]
+
+
+def faces_pair(table):
+    """Question 24: a face is gone along twice, there and back; rows that go along it in the same order lie on the same side."""
+    steps = [step for row in steps_round(table) for step in row]
+    once = set(steps)
+    return len(once) == len(steps) and once == {(q, p) for p, q in steps}
+
+
+def in_one_cone(table):
+    """Question 25. A normal has components up to 8, so 1, 100, 10000 lies on the side that the last of them tells that is not 0."""
+    inside = [all(normal(p, q)[::-1] > (0, 0, 0) for p, q in row) for row in steps_round(table)]
+    return inside.count(True) == 1
+
+
+def customer_refusal(table):
+    """Questions 7 and 23 to 25: the number of the first that is answered no, or 0."""
+    asked = ((7, table_ok), (23, good_rows), (24, faces_pair), (25, in_one_cone))
+    return next((number for number, yes in asked if not yes(table)), 0)
 
 
 def frequency_ok(x):

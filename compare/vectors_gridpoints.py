@@ -1,16 +1,18 @@
 #!/usr/bin/env python3
-"""Makes the stored cases of the crate `vectors_gridpoints`: weights at grid points, normal triplets, copies of a neighbour table.
+"""Makes the stored cases of the crate `vectors_gridpoints`: weights at grid points, normal triplets, copies of a neighbour table, customers'
+tables and weights under them.
 
     vectors_gridpoints.py DRIVER CRATE_FOLDER [SEED]
 
 Writes CRATE_FOLDER/stdin and CRATE_FOLDER/stdout. The answer of an accepted call is the Rust's. Whether a call is accepted, and its
-number where it is not, comes from the questions of document 01 (scope.py, and below); the Rust has no such checks. Normal triplets and
-copies are also compared with the plain definitions below.
+number where it is not, comes from the questions of document 01 and of request 7 (scope.py, and below); the Rust has no such checks. Normal
+triplets and copies are also compared with the plain definitions below.
 """
+import customer_tables
 import records
 import vectors_grid as grids
 from records import FAR, Rng, down, flat, grid_request, line, request, unhexed, up
-from scope import (GREATEST, GREATEST_POINT, LEAST, LEAST_POINT, frequency_ok, grid_refusal, point_ok, small, table_ok)
+from scope import (GREATEST, GREATEST_POINT, LEAST, LEAST_POINT, customer_refusal, frequency_ok, grid_refusal, point_ok, small, table_ok)
 from vectors_grid import make_grid
 
 NAN, INFINITE = float("nan"), float("inf")
@@ -18,13 +20,15 @@ NAN, INFINITE = float("nan"), float("inf")
 
 # ---- document 01: the questions
 
-def refusal(call):
+def table_refusal(table):
+    return 0 if table_ok(table) else 7
+
+
+def refusal(call, of_table=table_refusal):
     """The number of the first question that is answered no, or 0."""
-    no = grid_refusal(call["grid"])
+    no = grid_refusal(call["grid"]) or of_table(call["table"])
     if no:
         return no
-    if not table_ok(call["table"]):
-        return 7
     p = len(call["grid"][2]) // 3
     bands, points, gps, r = call["bands"], call["points"], call["gps"], call["r"]
     if not 1 <= bands <= 64 or not 1 <= len(points) <= 1024 or len(gps) > 65536:
@@ -57,6 +61,10 @@ def copies_refusal(table, tp_type, room):
 
 # ---- cases
 
+# Of the records of weights, what they count as and the questions of the table.
+WEIGHTS = {3: ("weights", table_refusal), 8: ("customer weights", customer_refusal)}
+
+
 class Cases(records.Cases):
     def request(self, call, which):
         return grid_request(call["grid"]) + [
@@ -73,15 +81,16 @@ class Cases(records.Cases):
         self.seen["weight 0"] += weights.count(0.0)
         self.seen["weight other than 0"] += len(weights) - weights.count(0.0)
 
-    def weights(self, call, functions=(0, 1)):
+    def weights(self, call, functions=(0, 1), record=3):
         """A call, with I and with J."""
         if call.get("room") is None:
             call["room"] = len(call["gps"]) * len(call["points"]) * call["bands"]
-        no = refusal(call)
+        kind, of_table = WEIGHTS[record]
+        no = refusal(call, of_table)
         self.head(call)
         for which in functions:
-            self.counts["weights"].append(no)
-            start = (3, no, which, call["bands"], call["r"], list(call["gps"]), call["room"])
+            self.counts[kind].append(no)
+            start = (record, no, which, call["bands"], call["r"], list(call["gps"]), call["room"])
             if no or not call["gps"]:
                 if not no:
                     self.met(call, which, [])
@@ -142,6 +151,12 @@ class Cases(records.Cases):
             self.seen["%d rows, type %d" % (len(table) // 12, tp_type)] += 1
             return line(6, 0, tp_type, list(table), room, values)
         self.wait([request("row", *table), request("?copies", tp_type)], made)
+
+    def customer_table(self, table, number):
+        """A customer's table alone; the number that it is made for must be that of the questions."""
+        assert customer_refusal(table) == number, (customer_refusal(table), number, table)
+        self.counts["customer tables"].append(number)
+        self.groups.append([line(7, number, table)])
 
 
 # ---- weights at grid points
@@ -390,7 +405,41 @@ def copies_cases(r, c, tables):
     c.copies(table[:-1], 5, 0)
 
 
-NAMES = {"weights": "weights at grid points", "normal": "normal triplets", "copies": "copies of a table"}
+# ---- customers' tables, and weights under them
+
+def customer_table_cases(r, c, tables):
+    for table in customer_tables.sound(r, tables):
+        c.customer_table(table, 0)
+    for number, table in customer_tables.wrong(r, tables):
+        c.customer_table(table, number)
+
+
+def small_call(r, tables, kind, style):
+    return make_call(r, tables, kind, 24, style, mesh=r.pick([(1, 1, 1), (2, 1, 1), (2, 2, 1)]), bands=r.between(1, 2), points=3, gps=1)
+
+
+def customer_weight_cases(r, c, tables):
+    sound = list(customer_tables.sound(r, tables))
+    for k, table in enumerate(sound[1::2]):
+        c.weights(dict(small_call(r, tables, 1 + k % 2, STYLES[k % 7]), table=table), record=8)
+    bad = dict(customer_tables.wrong(r, tables))
+    for number in (7, 23, 24, 25):
+        c.weights(dict(small_call(r, tables, 1 + number % 2, "unit"), table=bad[number]), functions=(number // 2 % 2,), record=8)
+    for number, hurt in HURTS:                          # a fault alone, and beside a table that 24 or 25 turns down
+        if number == 7:
+            continue
+        no = 0
+        while no != number:
+            call = damaged(r, tables, [hurt])
+            call["table"] = call["table"][:288]
+            no = refusal(call, customer_refusal)
+        which = number % 2
+        c.weights(call, functions=(which,), record=8)
+        c.weights(dict(call, table=bad[24 + which]), functions=(which,), record=8)
+
+
+NAMES = {"weights": "weights at grid points", "normal": "normal triplets", "copies": "copies of a table",
+         "customer tables": "customers' tables", "customer weights": "weights under customers' tables"}
 
 
 def make(driver, crate, seed):
@@ -399,6 +448,8 @@ def make(driver, crate, seed):
     refused_cases(r, c, tables)
     normal_cases(r, c)
     copies_cases(r, c, tables)
+    customer_table_cases(r, c, tables)
+    customer_weight_cases(r, c, tables)
     c.write(crate, seed)
 
 

@@ -1,6 +1,8 @@
-//! The questions of document 01, of request 2 that of the worker, those of request 4's open count and of request 5's reader, written from
-//! their text: each call's own, in the order in which they are asked. Nothing here is shared with the proved side or with the Rust.
+//! The questions of document 01, of request 2 that of the worker, those of request 4's open count, of request 5's reader and of request 7's
+//! tables (fans.rs), written from their text: each call's own, in the order in which they are asked. Nothing here is shared with the proved
+//! side or with the Rust.
 use crate::calls::GridPoints;
+use crate::fans::{good_rows, one_cone, paired};
 use crate::study::{Grid, Study};
 
 /// The number of the first question that is answered no, or 0. A question may rely on the yes of those before it.
@@ -169,7 +171,8 @@ pub fn channels(tp: i64) -> u64 {
     first_no(&[(8, &|| known_type(tp))])
 }
 
-pub fn grid_points(g: &Grid, c: &GridPoints, room: usize) -> u64 {
+/// Questions 9 to 12 of a call for weights at grid points.
+fn at_grid_points(g: &Grid, c: &GridPoints, room: usize) -> u64 {
     let frequencies = || {
         c.irreducible > 0
             && long(c.frequencies.len(), &[c.irreducible, c.bands])
@@ -178,19 +181,35 @@ pub fn grid_points(g: &Grid, c: &GridPoints, room: usize) -> u64 {
             && c.of_point.iter().all(|v| within(*v, 0, c.irreducible - 1))
             && points(&c.points)
     };
-    then(grid(g), || {
-        first_no(&[
-            (7, &|| table(&c.table)),
-            (9, &|| {
-                counts(&[c.bands], c.points.len() as i64, c.gps.len() as i64)
-            }),
-            (10, &|| on_grid(g, &c.gps)),
-            (11, &frequencies),
-            (12, &|| {
-                long(room, &[c.gps.len() as i64, c.points.len() as i64, c.bands])
-            }),
-        ])
-    })
+    first_no(&[
+        (9, &|| {
+            counts(&[c.bands], c.points.len() as i64, c.gps.len() as i64)
+        }),
+        (10, &|| on_grid(g, &c.gps)),
+        (11, &frequencies),
+        (12, &|| {
+            long(room, &[c.gps.len() as i64, c.points.len() as i64, c.bands])
+        }),
+    ])
+}
+
+pub fn grid_points(g: &Grid, c: &GridPoints, room: usize) -> u64 {
+    let rows = || first_no(&[(7, &|| table(&c.table))]);
+    then(then(grid(g), rows), || at_grid_points(g, c, room))
+}
+
+pub fn customer_table(t: &[i64]) -> u64 {
+    first_no(&[
+        (7, &|| table(t)),
+        (23, &|| good_rows(t)),
+        (24, &|| paired(t)),
+        (25, &|| one_cone(t)),
+    ])
+}
+
+pub fn checked_grid_points(g: &Grid, c: &GridPoints, room: usize) -> u64 {
+    let fan = || customer_table(&c.table);
+    then(then(grid(g), fan), || at_grid_points(g, c, room))
 }
 
 /// Question 9: band counts, points, and triplets or grid points.

@@ -26,6 +26,28 @@ macro_rules! of_study {
     };
 }
 
+/// A call for weights at grid points.
+macro_rules! at_grid_points {
+    ($name:ident, $g:expr, $x:expr, $weights:expr, $letter:expr) => {
+        unsafe {
+            c::$name(
+                $weights.as_mut_ptr(), $weights.len(),
+                $x.points.as_ptr(), $x.points.len(),
+                $x.table.as_ptr(), $x.table.len(),
+                $x.gps.as_ptr(), $x.gps.len(),
+                $x.frequencies.as_ptr(), $x.frequencies.len(),
+                $x.bands,
+                $x.irreducible,
+                grid_of($g),
+                $g.addresses.as_ptr(), $g.addresses.len(),
+                $g.map.as_ptr(), $g.map.len(),
+                $x.of_point.as_ptr(), $x.of_point.len(),
+                $letter,
+            )
+        }
+    };
+}
+
 fn read<T>(s: &[T]) -> (*const T, usize) {
     (s.as_ptr(), s.len())
 }
@@ -206,34 +228,30 @@ pub struct GridPoints {
 }
 
 pub fn grid_points(g: &Grid, x: &GridPoints, weights: &mut [f64], letter: u8) -> u64 {
-    let w = write(weights);
-    let (points, table, gps) = (read(&x.points), read(&x.table), read(&x.gps));
-    let (frequencies, of_point) = (read(&x.frequencies), read(&x.of_point));
-    let (addresses, map) = (read(&g.addresses), read(&g.map));
-    unsafe {
-        c::pelmetsavory_integration_weights_at_grid_points(
-            w.0,
-            w.1,
-            points.0,
-            points.1,
-            table.0,
-            table.1,
-            gps.0,
-            gps.1,
-            frequencies.0,
-            frequencies.1,
-            x.bands,
-            x.irreducible,
-            grid_of(g),
-            addresses.0,
-            addresses.1,
-            map.0,
-            map.1,
-            of_point.0,
-            of_point.1,
-            letter,
-        )
-    }
+    at_grid_points!(
+        pelmetsavory_integration_weights_at_grid_points,
+        g,
+        x,
+        weights,
+        letter
+    )
+}
+
+/// Under a customer's table.
+pub fn checked_grid_points(g: &Grid, x: &GridPoints, weights: &mut [f64], letter: u8) -> u64 {
+    at_grid_points!(
+        pelmetsavory_checked_integration_weights_at_grid_points,
+        g,
+        x,
+        weights,
+        letter
+    )
+}
+
+/// A customer's table alone.
+pub fn check_table(table: &[i64]) -> u64 {
+    let t = read(table);
+    unsafe { c::pelmetsavory_check_relative_grid_address(t.0, t.1) }
 }
 
 pub fn normal(triplet: [i64; 3], addresses: &[i64], normal: &mut u8) -> u64 {

@@ -20,7 +20,7 @@ pub const KINDS: [Kind; 2] = [
     Kind::telling("grid-point weights J", NUMBERS, NOT_ZERO),
 ];
 
-fn sound(r: &mut Rng, g: &Grid) -> GridPoints {
+fn sound(r: &mut Rng, g: &Grid, table: fn(&mut Rng) -> Vec<i64>) -> GridPoints {
     let p = g.count();
     let irreducible = r.between(1, p as i64);
     let bands = if r.one_in(200) { 64 } else { r.between(1, 3) };
@@ -90,18 +90,54 @@ fn spoil_frequencies(r: &mut Rng, c: &mut GridPoints) {
     }
 }
 
+/// An entry for weights at grid points: its questions, the call, its tables, and the faults that they get.
+pub struct Entry {
+    pub asks: fn(&Grid, &GridPoints, usize) -> u64,
+    pub call: fn(&Grid, &GridPoints, &mut [f64], u8) -> u64,
+    pub table: fn(&mut Rng) -> Vec<i64>,
+    pub faults: &'static [fn(&mut Rng, &mut Vec<i64>)],
+}
+
+const ENTRY: Entry = Entry {
+    asks: asks::grid_points,
+    call: calls::grid_points,
+    table,
+    faults: &[spoil_table],
+};
+
+/// What a call takes, the length of its buffer too.
+pub struct Case {
+    grid: Grid,
+    call: GridPoints,
+    room: usize,
+}
+
+impl Case {
+    pub fn table(&self) -> &[i64] {
+        &self.call.table
+    }
+}
+
 pub fn cases(r: &mut Rng, seen: &mut [Seen]) {
+    let case = case(r, &ENTRY);
+    judge(r, &case, &ENTRY, seen);
+}
+
+pub fn case(r: &mut Rng, entry: &Entry) -> Case {
     let mut g = grid(r);
-    let mut c = sound(r, &g);
+    let mut c = sound(r, &g, entry.table);
     let mut shorter = false;
-    for k in r.faults(9) {
+    let tables = entry.faults.len();
+    for k in r.faults(8 + tables) {
         match k {
             0..=3 => grids::FAULTS[k](r, &mut g),
-            4 => spoil_table(r, &mut c.table),
-            5 => spoil_counts(r, &mut c),
-            6 => spoil_points(r, &g, &mut c),
-            7 => spoil_frequencies(r, &mut c),
-            _ => shorter = true,
+            k if k < 4 + tables => entry.faults[k - 4](r, &mut c.table),
+            k => match k - tables {
+                4 => spoil_counts(r, &mut c),
+                5 => spoil_points(r, &g, &mut c),
+                6 => spoil_frequencies(r, &mut c),
+                _ => shorter = true,
+            },
         }
     }
     let right = c.gps.len() * c.points.len() * c.bands.clamp(0, 64) as usize;
@@ -111,16 +147,30 @@ pub fn cases(r: &mut Rng, seen: &mut [Seen]) {
     } else {
         right
     };
-    let i = r.one_in(2);
-    one(r, &g, &c, room, i, &mut seen[1 - i as usize]);
+    Case {
+        grid: g,
+        call: c,
+        room,
+    }
 }
 
-fn one(r: &mut Rng, g: &Grid, c: &GridPoints, room: usize, i: bool, seen: &mut Seen) {
-    let no = asks::grid_points(g, c, room);
-    let mut want: Vec<f64> = any(r, room);
+/// The call with I, or with J; `seen` has both.
+pub fn judge(r: &mut Rng, case: &Case, entry: &Entry, seen: &mut [Seen]) {
+    let i = r.one_in(2);
+    one(r, case, entry, i, &mut seen[1 - i as usize]);
+}
+
+fn one(r: &mut Rng, case: &Case, entry: &Entry, i: bool, seen: &mut Seen) {
+    let Case {
+        grid: g,
+        call: c,
+        room,
+    } = case;
+    let no = (entry.asks)(g, c, *room);
+    let mut want: Vec<f64> = any(r, *room);
     let mut out = Lent::new(r, &want);
     let letter = if i { b'I' } else { r.pick(b"J\0i\xff") };
-    let answer = calls::grid_points(g, c, out.lend(), letter);
+    let answer = (entry.call)(g, c, out.lend(), letter);
     if no == 0 {
         rust(
             g,

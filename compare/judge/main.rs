@@ -11,6 +11,9 @@ mod asks;
 mod averages;
 #[allow(dead_code)]
 mod calls;
+mod customer;
+mod customer_tables;
+mod fans;
 mod gridpoints;
 mod grids;
 mod kernels;
@@ -45,7 +48,7 @@ struct Group {
     share: u64,
 }
 
-static GROUPS: [Group; 12] = [
+static GROUPS: [Group; 13] = [
     Group {
         kinds: &lattices::KINDS,
         cases: lattices::cases,
@@ -62,13 +65,13 @@ static GROUPS: [Group; 12] = [
         kinds: &weights::KINDS,
         cases: weights::cases,
         rounds: 25000,
-        share: 18,
+        share: 16,
     },
     Group {
         kinds: &gridpoints::KINDS,
         cases: gridpoints::cases,
         rounds: 2000,
-        share: 10,
+        share: 7,
     },
     Group {
         kinds: &triplets::KINDS,
@@ -117,6 +120,12 @@ static GROUPS: [Group; 12] = [
         cases: tables::cases,
         rounds: 100,
         share: 1,
+    },
+    Group {
+        kinds: &customer::KINDS,
+        cases: customer::cases,
+        rounds: 2000,
+        share: 5,
     },
 ];
 

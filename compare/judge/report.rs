@@ -26,7 +26,7 @@ impl Kind {
 }
 
 /// One more than the greatest number of a question.
-const NUMBERS: usize = 23;
+const NUMBERS: usize = 26;
 
 pub struct Seen {
     kind: &'static Kind,

@@ -6,6 +6,11 @@
 static pelmetsavory_study y;
 static FILE *out;
 
+/* what the calls at grid points take */
+static const pelmetsavory_grid grid = {2, {2, 2, 2}};
+static const double two[2] = {0.5, 1.25};
+static const int64_t three[3] = {0, 7, 11}, irreducible[12] = {0, 1, 2, 3, 0, 1, 2, 3, 0, 1, 2, 3};
+
 static void name(const char *s) { if (out) fputs(s, out); }
 static void floats(const double *x, int n) { for (int k = 0; k < n; k++) { uint64_t b; memcpy(&b, x + k, 8); if (out) fprintf(out, "\t%016llx", (unsigned long long)b); } }
 static void number(long long x) { if (out) fprintf(out, "\t%lld", x); }
@@ -88,6 +93,119 @@ static void generated_tables(const int64_t *all)
     for (int k = 0; k < 2; k++) YES(times(xyz[k], made) == 1 && times(yxz[k], made + 288) == 1);
     for (int t = 0; t < 4; t++) YES(times(around, made + 288 * t) == 0);
     name("generated"); wholes(made, 1152); end();
+}
+
+/* the weights at grid points under a table: its rows are taken, or checked before */
+static uint64_t weighed(double *at, const int64_t *rows, size_t n, uint8_t letter)
+{
+    return pelmetsavory_integration_weights_at_grid_points(at, 18, two, 2, rows, n, three, 3, frequencies1, 12, 3, 4, grid, addresses, 36, gp_map, 9, irreducible, 12, letter);
+}
+
+static uint64_t weighed_checked(double *at, const int64_t *rows, size_t n, uint8_t letter)
+{
+    return pelmetsavory_checked_integration_weights_at_grid_points(at, 18, two, 2, rows, n, three, 3, frequencies1, 12, 3, 4, grid, addresses, 36, gp_map, 9, irreducible, 12, letter);
+}
+
+/* The status of a table, which lies in memory of its own length, and is written down. The weights under it have the same status: where it is 0 they
+ * are those of the call that does not check, otherwise the buffer stays. */
+static uint64_t judged(const int64_t *numbers, size_t n)
+{
+    double at[18], want[18];
+    int64_t *rows = n ? malloc(n * 8) : NULL;
+    if (n) { YES(rows); memcpy(rows, numbers, n * 8); }
+    const uint64_t status = pelmetsavory_check_relative_grid_address(rows, n);
+    for (int k = 0; k < 2; k++) {
+        memset(at, 0x5a, sizeof at); memset(want, 0x5a, sizeof want);
+        WANT(status, weighed_checked(at, rows, n, "IJ"[k]));
+        if (!status) WANT(0, weighed(want, rows, n, "IJ"[k]));
+        YES(!memcmp(at, want, sizeof at));
+    }
+    if (n) YES(!memcmp(rows, numbers, n * 8));
+    free(rows);
+    number((long long)status);
+    return status;
+}
+
+/* of a table of 24 rows in which one number is another */
+static uint64_t edited_table(const int64_t *table, int row, int corner, int component, int64_t by)
+{
+    int64_t rows[288];
+    memcpy(rows, table, sizeof rows);
+    rows[12 * row + 3 * corner + component] = by;
+    return judged(rows, 288);
+}
+
+/* a table whose corners are those of another times whole numbers of determinant 1 */
+static void sheared(const int64_t *table, int64_t *to)
+{
+    for (int k = 0; k < 288; k++) to[k] = table[k] + (k % 3 == 1 ? table[k - 1] : 0);
+}
+
+/* Three vectors, and what makes their sum zero, close a fan of four rows, each of three of the four: six fans fill the room around zero six times. */
+static const int64_t fans[6][9] = {
+    {1, 0, 0, 0, 1, 0, 0, 0, 1}, {1, 0, 0, 0, -1, 0, 0, 0, -1}, {-1, 0, 0, 0, 1, 0, 0, 0, -1}, {-1, 0, 0, 0, -1, 0, 0, 0, 1},
+    {1, 1, 0, 0, 1, 1, -1, -1, -1}, {-1, -1, 0, 0, -1, -1, 1, 1, 1},
+};
+
+static void fan(const int64_t *three_of_them, int64_t *rows)
+{
+    int64_t all[4][3];
+    memcpy(all, three_of_them, 72);
+    for (int k = 0; k < 3; k++) all[3][k] = -all[0][k] - all[1][k] - all[2][k];
+    memset(rows, 0, 48 * sizeof *rows);
+    for (int left = 0; left < 4; left++)
+        for (int c = 1, v = 0; v < 4; v++) if (v != left) memcpy(rows + 12 * left + 3 * c++, all[v], 24);
+}
+
+/* Tables of the caller's, by both entries: which are accepted, each refusal and two at once, and where 7, 23, 24 and 25 stand among the others. */
+static void customer_tables(const int64_t *all)
+{
+    int64_t skew[576], six[576], rows[288];
+    sheared(all, skew); memcpy(skew + 288, skew, 288 * 8);
+    for (int k = 0; k < 12; k++) fan(fans[k % 6], six + 48 * k);
+    name("judged");
+    for (int t = 0; t < 4; t++) { sheared(all + 288 * t, rows); WANT(0, judged(all + 288 * t, 288)); WANT(0, judged(rows, 288)); }
+    for (int k = 0; k < 24; k++) /* backwards, and with corners 1 and 3 exchanged: each determinant is negated */
+        for (int c = 0; c < 4; c++) memcpy(rows + 12 * k + 3 * c, skew + 12 * (23 - k) + 3 * (c % 2 ? 4 - c : c), 24);
+    WANT(0, judged(rows, 288));
+    const size_t lengths[6] = {0, 12, 276, 287, 289, 300};
+    for (int k = 0; k < 6; k++) WANT(7, judged(skew, lengths[k]));
+    const int64_t far[4] = {4097, -4097, INT64_MIN, INT64_MAX}, near[4] = {3, -3, 4096, -4096};
+    for (int k = 0; k < 4; k++) { WANT(7, edited_table(skew, 23, k, k % 3, far[k])); WANT(23, edited_table(skew, 23 * (k % 2), k, 2, near[k])); }
+    WANT(23, judged(skew, 576));
+    for (int k = 0; k < 3; k++) { WANT(23, edited_table(skew, 7, 0, k, 1)); WANT(23, edited_table(six, 23, 0, k, -2)); }
+    WANT(23, edited_table(six, 0, 1, 1, 2)); /* determinant 2, of the row 0, 1, 0 and 0, 0, 1 and -1, -1, -1 */
+    WANT(23, edited_table(six, 0, 1, 1, 0)); /* and 0 */
+    memcpy(rows, skew, sizeof rows); memcpy(rows + 60, rows + 72, 96); WANT(24, judged(rows, 288)); /* a row twice, and a gap */
+    memcpy(rows, skew, sizeof rows); for (int k = 60; k < 72; k++) rows[k] *= -1;
+    WANT(24, judged(rows, 288)); /* a row on the other side */
+    memcpy(rows, six, sizeof rows); memcpy(rows + 240, rows, 48 * 8); WANT(24, judged(rows, 288)); /* a fan twice */
+    memcpy(rows, six, sizeof rows); for (int k = 0; k < 9; k++) rows[144 + k / 3 * 12 + 9 + k % 3] *= -1;
+    WANT(24, judged(rows, 288)); /* a folded fan: each face is in two rows, some on the same side */
+    WANT(25, judged(six, 288));
+    /* two at once; the two components leave the determinant as it is */
+    WANT(7, judged(six, 276)); WANT(23, judged(six, 576)); WANT(23, edited_table(six, 9, 3, 0, 3)); WANT(23, edited_table(six, 9, 3, 0, -3));
+    WANT(24, edited_table(six, 0, 1, 2, 1));
+    end();
+
+    double at[18], other[18], kept[18];
+    for (int k = 0; k < 2; k++) {
+        WANT(0, weighed_checked(at, skew, 288, "IJ"[k])); WANT(0, weighed(other, all, 288, "IJ"[k]));
+        YES(memcmp(at, other, sizeof at)); /* another table, other weights */
+        name("checked"); floats(at, 18); end();
+    }
+    memcpy(kept, at, sizeof at); /* 6 is asked before the four, 9 to 12 after them */
+#define CHECKED(n, rows, points, bands, map) \
+    pelmetsavory_checked_integration_weights_at_grid_points(at, n, two, 2, rows, 288, points, 3, frequencies1, 12, bands, 4, grid, addresses, 36, gp_map, map, irreducible, 12, 'I')
+    const int64_t outside[3] = {0, 7, 12};
+    WANT(6, CHECKED(17, six, outside, 0, 8));
+    WANT(25, CHECKED(17, six, outside, 0, 9));
+    WANT(9, CHECKED(17, skew, outside, 0, 9));
+    WANT(10, CHECKED(17, skew, outside, 2, 9));
+    WANT(11, CHECKED(17, skew, three, 2, 9));
+    WANT(12, CHECKED(17, skew, three, 3, 9));
+    YES(!memcmp(at, kept, sizeof at));
+    WANT(0, CHECKED(18, skew, three, 3, 9));
 }
 
 /* The open count refuses in its order and keeps what is behind `count`; which weights count, and each entry once. */
@@ -196,15 +314,12 @@ static void calls(void)
     YES(!memcmp(f1, s.flags + 45, 45));
 
     /* the other entries */
-    const pelmetsavory_grid grid = {2, {2, 2, 2}};
-    const double two[2] = {0.5, 1.25};
-    const int64_t three[3] = {0, 7, 11};
-    int64_t irreducible[12], outside[12];
+    int64_t outside[12];
     double at[18], rows[96], one;
-    for (int k = 0; k < 12; k++) { irreducible[k] = k % 4; outside[k] = 4; }
+    for (int k = 0; k < 12; k++) outside[k] = 4;
     for (int k = 0; k < 96; k++) rows[k] = k % 4 ? 4 : 0;
     for (int k = 0; k < 2; k++) {
-        WANT(0, pelmetsavory_integration_weights_at_grid_points(at, 18, two, 2, table, 288, three, 3, frequencies1, 12, 3, 4, grid, addresses, 36, gp_map, 9, irreducible, 12, "IJ"[k]));
+        WANT(0, weighed(at, table, 288, "IJ"[k]));
         name("grid-points"); floats(at, 18); end();
         WANT(0, pelmetsavory_tetrahedra_integration_weight(2, rows, 96, "IJ"[k], &one));
         YES(one == (k ? 0.3125 : 0.375));
@@ -240,6 +355,7 @@ static void calls(void)
     pelmetsavory_all_relative_grid_address(all);
     name("tables"); number((long long)which); wholes(chosen, 288); wholes(all, 1152); end();
     generated_tables(all);
+    customer_tables(all);
     unit[4] = 2147483648.0;
     WANT(2, pelmetsavory_relative_grid_address(unit, chosen, &which));
     const double lattice[9] = {0.1, 0.2, 0.3, 1, 2, 3, -4, 0, 4};
@@ -449,7 +565,7 @@ static void texts(void)
     text[5] = '7'; answered(text, n, "refused\t3\n", 10); text[5] = '2';
     text[n - 4] = '2'; answered(text, n, "refused\t10\n", 11); text[n - 4] = '1';
     end();
-    YES(pelmetsavory_question(1) && pelmetsavory_question(22) && !pelmetsavory_question(23));
+    YES(pelmetsavory_question(1) && pelmetsavory_question(25) && !pelmetsavory_question(26));
 }
 
 static const pelmetsavory_counts small_counts = {TRIPLETS, POINTS, BANDS, BANDS};
@@ -618,16 +734,16 @@ static void *deep(void *sheet)
     static int8_t flags[CELLS], f1[45];
     static int64_t all[1152], which[288];
     static size_t index;
-    static const double two[2] = {0.5, 1.25}, unit[9] = {1, 0, 0, 0, 1, 0, 0, 0, 1};
-    static const int64_t three[3] = {0, 7, 11}, irreducible[12];
-    static const pelmetsavory_grid grid = {2, {2, 2, 2}};
+    static const double unit[9] = {1, 0, 0, 0, 1, 0, 0, 0, 1};
     static const pelmetsavory_triple second = {{3, 5, 6}};
     WANT(0, pelmetsavory_sheet_run_piece(&y, sheet, 0, piece_at(0)));
     WANT(0, pelmetsavory_sheet_carry_on(&y, sheet, 0));
     WANT(0, pelmetsavory_sheet_average_triplet(&y, sheet, 0, ids1, 3, ids2, 3));
     WANT(0, pelmetsavory_integration_weight(PELMETSAVORY_STUDY(&y), triplets, 9, weights, ENTRIES, flags, CELLS));
     WANT(0, pelmetsavory_integration_weight_per_triplet(PELMETSAVORY_STUDY(&y), second, w1, 135, f1, 45));
-    WANT(0, pelmetsavory_integration_weights_at_grid_points(at, 18, two, 2, table, 288, three, 3, frequencies1, 12, 3, 4, grid, addresses, 36, gp_map, 9, irreducible, 12, 'I'));
+    WANT(0, weighed(at, table, 288, 'I'));
+    WANT(0, weighed_checked(at, table, 288, 'I'));
+    WANT(0, pelmetsavory_check_relative_grid_address(table, 288));
     WANT(0, pelmetsavory_relative_grid_address(unit, which, &index));
     pelmetsavory_all_relative_grid_address(all);
     pelmetsavory_generated_relative_grid_address(all);

@@ -5,7 +5,7 @@
 #include <stdint.h>
 
 /* The interface version that this header was made for: that of the library must be the same (pelmetsavory_ready). */
-#define PELMETSAVORY_INTERFACE_VERSION 7
+#define PELMETSAVORY_INTERFACE_VERSION 8
 
 /* A piece as a caller names it: any numbers. */
 typedef struct {
@@ -262,6 +262,34 @@ uint64_t pelmetsavory_integration_weights_at_grid_points(
     size_t gp2irgp_map_len,
     uint8_t letter);
 
+/* The weights at grid points as above under a table of the caller's, which must be one that `pelmetsavory_check_relative_grid_address` accepts. Questions 3 to 7, 23 to 25, 9 to 12. */
+uint64_t pelmetsavory_checked_integration_weights_at_grid_points(
+    double *iw,
+    size_t iw_len,
+    const double *frequency_points,
+    size_t frequency_points_len,
+    const int64_t *relative_grid_address,
+    size_t relative_grid_address_len,
+    const int64_t *grid_points,
+    size_t grid_points_len,
+    const double *frequencies,
+    size_t frequencies_len,
+    int64_t num_band,
+    int64_t num_ir,
+    pelmetsavory_grid grid,
+    const int64_t *addresses,
+    size_t addresses_len,
+    const int64_t *gp_map,
+    size_t gp_map_len,
+    const int64_t *gp2irgp_map,
+    size_t gp2irgp_map_len,
+    uint8_t letter);
+
+/* Whether a table of the caller's is accepted: 24 rows of four corners of three small whole numbers, which close around the point without gap or overlap. Questions 7, 23, 24, 25. */
+uint64_t pelmetsavory_check_relative_grid_address(
+    const int64_t *relative_grid_address,
+    size_t relative_grid_address_len);
+
 /* The table whose main diagonal is shortest, the first on a tie, and its number behind `index`. The columns of `rec_lattice` are the edges of one cell of the mesh: column j is reciprocal basis vector j divided by mesh number j, as phono3py has it. A diagonal is `rec_lattice` times 1,1,1 or -1,1,1 or 1,-1,1 or 1,1,-1: the three columns added, none or one of them negated. Question 2. */
 uint64_t pelmetsavory_relative_grid_address(
     const double rec_lattice[9],
@@ -391,6 +419,9 @@ static inline const char *pelmetsavory_question(uint64_t status)
     case 20: return "Does the worker's count stay below 2^63 after all runs of this call?";
     case 21: return "Is the worker 0 to 15?";
     case 22: return "Are the listing's header, lines, field forms and order those of the writer?";
+    case 23: return "Are there 24 rows, each with first corner zero, components -2 to 2 and determinant 1 or -1?";
+    case 24: return "Is each face in exactly two rows, on opposite sides?";
+    case 25: return "Is the direction 1, 100, 10000 strictly inside exactly one row's cone?";
     default: return NULL;
     }
 }

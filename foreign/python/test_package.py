@@ -82,22 +82,25 @@ def test_every_public_name_has_words_and_hints():
 
 
 def test_examples():
-    for module, examples in (pm, 9), (pm._functions, 8), (pm._loads, 5), (pm._listing, 4):
+    for module, examples in (pm, 9), (pm._functions, 14), (pm._loads, 5), (pm._listing, 4), (pm._tables, 1):
         result = doctest.testmod(module)
         assert result.failed == 0 and result.attempted >= examples, (module, result)
 
 
 def test_a_refusal_says_its_question():
-    assert sorted(pm.QUESTIONS) == list(range(1, 23))
+    assert sorted(pm.QUESTIONS) == list(range(1, 26))
     for number, words in pm.QUESTIONS.items():
         assert str(pm.Refused(number)) == f"question {number} is answered no: {words}" and pm.Refused(number).number == number
 
 
-def test_a_weight_takes_less_than_3_microseconds():
+def test_a_weight_takes_less_than_100_empty_calls():
+    """3 microseconds where an empty call takes 0.03: by the interpreter's own pace, since machines differ."""
     vertices, calls = np.random.default_rng(1).random((24, 4)), 1000
-    seconds = timeit.repeat(lambda: pm.tetrahedra_integration_weight(0.5, vertices), number=calls, repeat=40, timer=time.process_time)
-    print(f"python: a weight in {min(seconds) / calls * 1e6:.1f} microseconds")
-    assert min(seconds) / calls < 3e-6
+    weight, empty = (
+        min(timeit.repeat(call, number=calls, repeat=40, timer=time.process_time)) / calls for call in (lambda: pm.tetrahedra_integration_weight(0.5, vertices), lambda: None)
+    )
+    print(f"python: a weight in {weight * 1e6:.1f} microseconds, an empty call in {empty * 1e6:.2f}")
+    assert weight < 100 * empty
 
 
 if __name__ == "__main__":

@@ -7,7 +7,7 @@ import numpy as np
 import pelmetsavory as pm
 from pelmetsavory._arrays import inputs, output
 from pelmetsavory._library import LIBRARY, checked
-from small import BEGUN, FULL, NONE, addresses, grid, held, other, plus, refused, study, table
+from small import BEGUN, FANS, FULL, NONE, addresses, fan, grid, held, other, plus, refused, study, table
 
 DATA = os.path.join(os.environ.get("PELMETSAVORY_DATA") or os.path.join(os.path.dirname(os.path.abspath(__file__)), "../data"), "")
 lines = []
@@ -112,6 +112,64 @@ say("index", pm.grid_index_from_address((-1, 300, 5), (256, 7, 9)))
 refused(4, lambda: pm.grid_index_from_address((0, 0, 0), (257, 1, 1)))
 say("tables", pm.relative_grid_address(np.eye(3))[1], *pm.relative_grid_address(np.eye(3))[0].ravel(), *pm.all_relative_grid_address().ravel())
 say("generated", *pm.generated_relative_grid_address().ravel())
+
+# tables of the caller's, by both entries: which are accepted, each refusal and two at once
+weights = lambda entry, rows, function="I": entry(grid, rows, [0.5, 1.25], [0, 7, 11], study.frequencies1[:4], [k % 4 for k in range(12)], function)
+statuses = []
+
+
+def judged(want, flat):
+    """The status of a table; the weights under it have the same, and where it is 0 they are those of the call that does not check."""
+    assert LIBRARY.pelmetsavory_check_relative_grid_address(*inputs(flat)) == want
+    statuses.append(want)
+    if flat.size % 12:
+        return
+    rows = flat.reshape(-1, 4, 3)
+    for function in "IJ" if want == 0 else ():
+        assert weights(pm.checked_integration_weights_at_grid_points, rows, function).tobytes() == weights(pm.integration_weights_at_grid_points, rows, function).tobytes()
+    for call in (lambda: pm.check_relative_grid_address(rows), lambda: weights(pm.checked_integration_weights_at_grid_points, rows)):
+        refused(want, call) if want else call()
+
+
+def edited(flat, row, corner, component, by):
+    """The table with one number changed."""
+    rows = flat.copy()
+    rows[12 * row + 3 * corner + component] = by
+    return rows
+
+
+sheared = lambda rows: (rows @ [[1, 1, 0], [0, 1, 0], [0, 0, 1]]).ravel()  # each corner times whole numbers of determinant 1
+skew, six = sheared(pm.all_relative_grid_address()[0]), np.concatenate([fan(three) for three in FANS]).ravel()
+for rows in pm.all_relative_grid_address():
+    judged(0, rows.ravel())
+    judged(0, sheared(rows))
+judged(0, skew.reshape(24, 4, 3)[::-1, [0, 3, 2, 1]].ravel())  # backwards, and each determinant is negated
+for length in 0, 12, 276, 287, 289, 300:
+    judged(7, np.tile(skew, 2)[:length])
+for k, (far, near) in enumerate([(4097, 3), (-4097, -3), (-(2**63), 4096), (2**63 - 1, -4096)]):
+    judged(7, edited(skew, 23, k, k % 3, far))
+    judged(23, edited(skew, 23 * (k % 2), k, 2, near))
+judged(23, np.tile(skew, 2))
+for k in range(3):
+    judged(23, edited(skew, 7, 0, k, 1))
+    judged(23, edited(six, 23, 0, k, -2))
+judged(23, edited(six, 0, 1, 1, 2))  # determinant 2, of the row 0, 1, 0 and 0, 0, 1 and -1, -1, -1
+judged(23, edited(six, 0, 1, 1, 0))  # and 0
+judged(24, np.concatenate([skew[:60], skew[72:84], skew[72:]]))  # a row twice, and a gap
+judged(24, np.concatenate([skew[:60], -skew[60:72], skew[72:]]))  # a row on the other side
+judged(24, np.concatenate([six[:240], six[:48]]))  # a fan twice
+folded = six.reshape(24, 4, 3).copy()
+folded[12:15, 3] *= -1
+judged(24, folded.ravel())  # each face is in two rows, some on the same side
+judged(25, six)
+for want, flat in (7, six[:276]), (23, np.tile(six, 2)), (23, edited(six, 9, 3, 0, 3)), (23, edited(six, 9, 3, 0, -3)), (24, edited(six, 0, 1, 2, 1)):
+    judged(want, flat)  # two at once; the two components leave the determinant as it is
+say("judged", *statuses)
+for function in "IJ":
+    made = weights(pm.checked_integration_weights_at_grid_points, skew.reshape(24, 4, 3), function)
+    assert made.tobytes() != weights(pm.integration_weights_at_grid_points, pm.all_relative_grid_address()[0], function).tobytes()
+    say("checked", *hexed(made))
+
 refused(2, lambda: pm.relative_grid_address(np.full((3, 3), np.inf)))
 say("matvec", *hexed(pm.matvec_di([[0.1, 0.2, 0.3], [1, 2, 3], [-4, 0, 4]], (3, -4, 4096))))
 refused(7, lambda: pm.matvec_di(np.eye(3), (0, 0, 4097)))

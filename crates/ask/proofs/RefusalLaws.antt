@@ -33,26 +33,26 @@ in_order : List Refusal → ℕ → Bool
 in_order [] k = true
 in_order (why ∷ rest) k = eqb (refusal_number why) k && in_order rest (suc k)
 
-at-place : (l : List Refusal) (k n : ℕ) → in_order l k ≡ true → n < length l → refusal_number (get_or l n refusal.Listing) ≡ k + n
+at-place : (l : List Refusal) (k n : ℕ) → in_order l k ≡ true → n < length l → refusal_number (get_or l n refusal.Cones) ≡ k + n
 unfolding in_order
 at-place [] k n e h = absurd (omega (arith, h))
 at-place (why ∷ rest) k zero e h = eqb-true (refusal_number why) k (left (eqb (refusal_number why) k) (in_order rest (suc k)) e) ∙ omega arith
 at-place (why ∷ rest) k (suc n) e h = at-place rest (suc k) n (right (eqb (refusal_number why) k) (in_order rest (suc k)) e) (omega (arith, h)) ∙ omega arith
 
-pub number-back : (n : ℕ) → suc n ≤ 22 → refusal_number (refusal_of (suc n)) ≡ suc n
+pub number-back : (n : ℕ) → suc n ≤ 25 → refusal_number (refusal_of (suc n)) ≡ suc n
 unfolding in_order
 number-back n h = at-place refusals 1 n refl h ∙ omega arith
 
-pub number-is : {A : Type 0} (n : ℕ) (given : A) → n ≤ 22 → number_of (answer_of n given) ≡ n
+pub number-is : {A : Type 0} (n : ℕ) (given : A) → n ≤ 25 → number_of (answer_of n given) ≡ n
 number-is zero given h = refl
 number-is (suc n) given h = number-back n h
 
--- the first no of questions whose numbers are at most 22
-pub first-low : (qs : List Question) → are_numbers qs ≡ true → first_no qs ≤ 22
+-- the first no of questions whose numbers are at most 25
+pub first-low : (qs : List Question) → are_numbers qs ≡ true → first_no qs ≤ 25
 unfolding first_no
 first-low [] e = omega arith
-first-low (asks n true ∷ qs) e = first-low qs (right (leb n 22) (are_numbers qs) e)
-first-low (asks n false ∷ qs) e = leb-true n 22 (left (leb n 22) (are_numbers qs) e)
+first-low (asks n true ∷ qs) e = first-low qs (right (leb n 25) (are_numbers qs) e)
+first-low (asks n false ∷ qs) e = leb-true n 25 (left (leb n 25) (are_numbers qs) e)
 
 -- ---- what an answer says of the first no
 
@@ -96,6 +96,6 @@ given-told zero x given f old e = let p : x ≡ given = cc e in (refl, rw p)
 given-told (suc n) x given f old e = absurd (cc e)
 
 -- the status of a call that is refused, which leaves what was there
-pub refused-told : {A B : Type 0} (n : ℕ) (why : Refusal) (given : A) (new old : B) → n ≤ 22 → Err why ≡ answer_of n given → (refusal_number why ≡ n) × (old ≡ after_call n new old)
+pub refused-told : {A B : Type 0} (n : ℕ) (why : Refusal) (given : A) (new old : B) → n ≤ 25 → Err why ≡ answer_of n given → (refusal_number why ≡ n) × (old ≡ after_call n new old)
 refused-told zero why given new old h e = absurd (cc e)
 refused-told (suc n) why given new old h e = let p : why ≡ refusal_of (suc n) = cc e in (rw p (number-back n h), refl)

@@ -30,6 +30,9 @@ refusal_number refusal.Weights = 19
 refusal_number refusal.TallyFull = 20
 refusal_number refusal.Worker = 21
 refusal_number refusal.Listing = 22
+refusal_number refusal.TableRows = 23
+refusal_number refusal.Faces = 24
+refusal_number refusal.Cones = 25
 
 -- the questions in their order
 abbrev pub refusals : List Refusal
@@ -39,12 +42,13 @@ refusals =
     refusal.Counts ∷ refusal.GridPoints ∷ refusal.Frequencies ∷ refusal.Lengths ∷
     refusal.Marks ∷ refusal.NotOnSheet ∷ refusal.AlreadyAveraged ∷ refusal.UnequalBands ∷
     refusal.DegenerateIds ∷ refusal.NotComputed ∷ refusal.Weights ∷ refusal.TallyFull ∷
-    refusal.Worker ∷ refusal.Listing ∷ []
+    refusal.Worker ∷ refusal.Listing ∷ refusal.TableRows ∷ refusal.Faces ∷
+    refusal.Cones ∷ []
 
--- the question of a number from 1 to 22
+-- the question of a number from 1 to 25
 abbrev pub refusal_of : ℕ → Refusal
 refusal_of zero = refusal.Text
-refusal_of (suc n) = get_or refusals n refusal.Listing
+refusal_of (suc n) = get_or refusals n refusal.Cones
 
 -- what a call gives where every question is answered yes, otherwise the first that is answered no
 abbrev pub answer_of : {A : Type 0} → ℕ → A → Result A Refusal
@@ -56,7 +60,7 @@ abbrev pub number_of : {A : Type 0} → Result A Refusal → ℕ
 number_of (Ok given) = 0
 number_of (Err why) = refusal_number why
 
--- no question has a number past 22
+-- no question has a number past 25
 abbrev pub are_numbers : List Question → Bool
 are_numbers [] = true
-are_numbers (asks n b ∷ qs) = leb n 22 && are_numbers qs
+are_numbers (asks n b ∷ qs) = leb n 25 && are_numbers qs

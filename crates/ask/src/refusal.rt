@@ -48,6 +48,12 @@ pub enum Refusal {
     Worker,
     // 22
     Listing,
+    // 23
+    TableRows,
+    // 24
+    Faces,
+    // 25
+    Cones,
 }
 
 impl Refusal {
@@ -78,6 +84,9 @@ impl Refusal {
             Refusal::TallyFull => 20,
             Refusal::Worker => 21,
             Refusal::Listing => 22,
+            Refusal::TableRows => 23,
+            Refusal::Faces => 24,
+            Refusal::Cones => 25,
         }
     }
 }

@@ -19,11 +19,6 @@ use Rattle.questions.proofs.IrreducibleLaws.{frequencies-held, irreducible-lengt
 use Rattle.question_grids.specs.Steps.{are_grid_points}
 use Rattle.question_grids.proofs.StepLaws.{product-yes}
 use Rattle.bzgrid_lookup.proofs.CallLaws.{sound-grid}
-use Rattle.std.specs.declared.result.Result.{Result}
-use Rattle.std.proofs.Common.{Ok}
-use Rattle.ask.specs.declared.refusal.Refusal.{Refusal}
-use Rattle.ask.specs.Refusals.{answer_of}
-use Rattle.ask.proofs.RefusalLaws.{given-is}
 use Rattle.question_grids.specs.Tables.{rows_in}
 use Rattle.question_grids.proofs.TableLaws.{rows-most}
 use Rattle.grid_point_weights.specs.Weights.{Sound}
@@ -67,16 +62,6 @@ passed g iw z =
       (y.1.1.0, product-yes (length g.grid-points) (length g.points * mag g.bands) iw y.1.1.1.1.0),
     )
 
--- the same of a call that is answered with Ok
-module _ (g : GridPointCall) (iw : ℕ) {r : Result (Unit {0}) Refusal} {x : Unit {0}} (told : r ≡ answer_of (first_no (grid_point_questions g iw)) tt) (ok : r ≡ Ok x) where
-  none : first_no (grid_point_questions g iw) ≡ 0
-  none = (given-is _ x tt (rw ok at told)).0
-
-  pub ok_sound : Sound (mag g.num-ir) (study_of g)
-  ok_sound = (passed g iw none).0
-
-  pub ok_rows : rows_in g.table ≤ 96
-  ok_rows = rows-most g.table (passed g iw none).0.tabled
-
-  pub ok_fits : (are_grid_points (triples_in g.addresses) g.grid-points ≡ true) × (iw ≡ length g.grid-points * (length g.points * mag g.bands))
-  ok_fits = (passed g iw none).1
+-- and its table has few rows
+pub passed-rows : (g : GridPointCall) (iw : ℕ) → first_no (grid_point_questions g iw) ≡ 0 → rows_in g.table ≤ 96
+passed-rows g iw z = rows-most g.table (passed g iw z).0.tabled

@@ -94,7 +94,11 @@ abbrev pub weights_questions : List ℤ → ℤ → List Float → List ℤ → 
 weights_questions table bands points gridPoints p r frequencies irreducible iw =
     asks 7 (is_table table) ∷ points_questions bands points gridPoints p r frequencies irreducible iw
 
--- the same of a call
+-- 9 to 12 of a call
+abbrev pub rest_asked : GridPointCall → ℕ → List Question
+rest_asked g iw = points_questions g.bands g.points g.grid-points (triples_in g.addresses) g.num-ir g.frequencies g.irreducible iw
+
+-- and 7 before them
 abbrev pub points_asked : GridPointCall → ℕ → List Question
 points_asked g iw = weights_questions g.table g.bands g.points g.grid-points (triples_in g.addresses) g.num-ir g.frequencies g.irreducible iw
 

@@ -7,15 +7,13 @@ ghost use Rattle.grid_point_weights.specs.Calls.{call_of, DidWeigh};
 pub use ask::Refusal;
 pub use question_grids::Grid;
 use tetrahedron_method::WeightFunction;
-use tetrahedron_sort::Rows;
 
 mod asks;
 mod band;
 mod corners;
 mod fill;
+pub mod kernel;
 mod tested;
-
-use tested::TestedStudy;
 
 // What the weights at grid points are made from, as a caller lends it; num_ir is R, the count of irreducible points.
 #[derive(Clone, Copy)]
@@ -39,16 +37,6 @@ pub fn integration_weights_at_grid_points(
     ensures { DidWeigh (call_of study.entry grid_points.now) result iw.old iw.new }
 {
     asks::ask_weights(study, grid_points, iw)?;
-    let d_diag = study.grid.d_diag;
-    let rows = Rows {
-        count: study.relative_grid_address.len() / 12,
-    };
-    let tested = TestedStudy {
-        lent: study,
-        grid: bzgrid_lookup::kernel::grid_of(study.grid.bz_grid_type, d_diag),
-        bands: numbers::kernel::magnitude(study.num_band),
-        rows,
-    };
-    fill::fill_all(&tested, grid_points, iw);
+    kernel::weigh(study, grid_points, iw);
     Ok(())
 }

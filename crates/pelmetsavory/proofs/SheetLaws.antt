@@ -26,7 +26,7 @@ called g s seen call same a w f m before after h t status e ew ef em = record {
   leaves = (λ i. sheet (ew i) (ef i) (em i) (t i)) ∙ h.leaves ∙ ap (step g s) same;
 }
 
-no-low : (list answers tallies : ℕ) → list_no list answers tallies ≤ 22
+no-low : (list answers tallies : ℕ) → list_no list answers tallies ≤ 25
 unfolding list_no
 no-low list answers tallies = first-low _ refl
 

@@ -8,6 +8,7 @@ use Rattle.pelmetsavory.specs.declared.Grid.{Grid}
 use Rattle.triplet_iw.specs.Calls.{weights_no, AreFilled}
 use Rattle.bzgrid.specs.Calls.{Around, point_no, found, many_no, all_found}
 use Rattle.grid_point_weights.specs.Calls.{GridPointCall, grid_point_no, weighed}
+use Rattle.customer_tables.specs.Calls.{checked_no, checked_weighed}
 
 -- what a call for weights and flags did: the status, and what it left
 abbrev pub CalledFill : Study → LentMut Float → LentMut ℤ → ℕ → Type 0
@@ -29,3 +30,7 @@ CalledFindAll a points status old new = (status ≡ many_no a points old) × (ne
 -- a call for the weights at grid points
 abbrev pub CalledWeigh : GridPointCall → ℕ → List Float → List Float → Type 0
 CalledWeigh g status old new = (status ≡ grid_point_no g old) × (new ≡ weighed g old)
+
+-- the same under a table of the caller's
+abbrev pub CalledWeighChecked : GridPointCall → ℕ → List Float → List Float → Type 0
+CalledWeighChecked g status old new = (status ≡ checked_no g old) × (new ≡ checked_weighed g old)

@@ -8,15 +8,16 @@ ghost use Rattle.tetrahedron_method.specs.Answer.{weight_questions};
 ghost use Rattle.tetrahedron_method.specs.Weight.{weight_of};
 ghost use Rattle.ask.specs.Ask.{first_no, after_call};
 ghost use Rattle.grid_point_weights.specs.Calls.{call_in};
+ghost use Rattle.table_rules.specs.Questions.{table_questions};
 ghost use Rattle.statuses.specs.Statuses.{function_of};
-ghost use Rattle.pelmetsavory.specs.Calls.{CalledWeigh};
+ghost use Rattle.pelmetsavory.specs.Calls.{CalledWeigh, CalledWeighChecked};
 
 use crate::Grid;
 use crate::grids::lent;
 use ask::kernel::status_of;
 use grid_point_weights::GridPointStudy;
 
-// The parameters of the next function are the C interface: a struct in their place would be another version of it.
+// The parameters of the next two functions are the C interface: a struct in their place would be another version of it.
 
 // The weights of each band at each frequency point, for each grid point; `letter` 'I' (73) asks for the density's weight, any other byte for
 // that of the number of states, J. Questions 3 to 7, 9 to 12.
@@ -49,6 +50,48 @@ pub extern "C" fn pelmetsavory_integration_weights_at_grid_points(
         function: statuses::choice::function_of(letter),
     };
     status_of(grid_point_weights::integration_weights_at_grid_points(study, grid_points, iw))
+}
+
+// The weights at grid points as above under a table of the caller's, which must be one that `pelmetsavory_check_relative_grid_address`
+// accepts. Questions 3 to 7, 23 to 25, 9 to 12.
+#[unsafe(no_mangle)]
+pub extern "C" fn pelmetsavory_checked_integration_weights_at_grid_points(
+    iw: &mut [f64],
+    frequency_points: &[f64],
+    relative_grid_address: &[i64],
+    grid_points: &[i64],
+    frequencies: &[f64],
+    num_band: i64,
+    num_ir: i64,
+    grid: Grid,
+    addresses: &[i64],
+    gp_map: &[i64],
+    gp2irgp_map: &[i64],
+    letter: u8,
+) -> u64
+    ensures { CalledWeighChecked (call_in frequency_points relative_grid_address grid_points frequencies num_band num_ir
+        grid.bz_grid_type grid.d_diag addresses gp_map gp2irgp_map (function_of letter)) result iw.old iw.new }
+{
+    let study = GridPointStudy {
+        grid: lent(grid, addresses, gp_map),
+        relative_grid_address,
+        gp2irgp_map,
+        num_ir,
+        num_band,
+        frequencies,
+        frequency_points,
+        function: statuses::choice::function_of(letter),
+    };
+    status_of(customer_tables::checked_integration_weights_at_grid_points(study, grid_points, iw))
+}
+
+// Whether a table of the caller's is accepted: 24 rows of four corners of three small whole numbers, which close around the point without gap
+// or overlap. Questions 7, 23, 24, 25.
+#[unsafe(no_mangle)]
+pub extern "C" fn pelmetsavory_check_relative_grid_address(relative_grid_address: &[i64]) -> u64
+    ensures { result ≡ first_no (table_questions relative_grid_address.now) }
+{
+    status_of(customer_tables::check_relative_grid_address(relative_grid_address))
 }
 
 // The table whose main diagonal is shortest, the first on a tie, and its number behind `index`. The columns of `rec_lattice` are the edges of

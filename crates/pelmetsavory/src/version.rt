@@ -3,7 +3,7 @@ ghost use Rattle.std.specs.Prelude.{◌≡◌};
 ghost use Rattle.pelmetsavory.specs.Version.{interface_version};
 
 // Raised by every change of an exported signature; foreign/bindings.py sees to it.
-const INTERFACE_VERSION: u64 = 7;
+const INTERFACE_VERSION: u64 = 8;
 
 // The version of the binary interface. A caller made for another one makes no other call.
 #[unsafe(no_mangle)]

@@ -135,7 +135,7 @@ module _ (g : Study) (s : Sheet) (c : Call) where
 
 -- ---- the number of a call's answer
 
-pub verdict-low : (g : Study) (s : Sheet) (c : Call) → verdict g s c ≤ 22
+pub verdict-low : (g : Study) (s : Sheet) (c : Call) → verdict g s c ≤ 25
 unfolding verdict
 verdict-low g s (run worker t b1 b2) = first-low (call_questions g s (run worker t b1 b2)) refl
 verdict-low g s (carry worker) = first-low (call_questions g s (carry worker)) refl

@@ -1,5 +1,5 @@
-// Replays stored answers of the original Rust on the weights at grid points, on normal triplets and on the copies of a neighbour
-// table, and the numbers that a refused call is to give. A record starts with its kind:
+// Replays stored answers of the original Rust on the weights at grid points, under customers' tables too, on normal triplets and on the
+// copies of a neighbour table, and the numbers that a refused call is to give. A record starts with its kind:
 //
 //   1  grid, for the calls after it: kind, mesh, list of addresses, list of the map
 //   2  study, for the calls after it: list of the table, list of the map to irreducible points, list of frequencies, list of points
@@ -7,6 +7,8 @@
 //   4  the same for a grid point repeated, one band: refusal, 0 or 1, R, how many times, grid point, length of the buffer, one weight
 //   5  whether a triplet is normal: refusal, triplet, list of addresses, 0 or 1
 //   6  copies of a table: refusal, type, list of the table, length of the buffer, list of the answer
+//   7  a customer's table alone: refusal, list of the table
+//   8  weights at grid points under a customer's table, that of the study: as 3
 //
 // Refusal 0 is an accepted call. Each block has its own grids and studies.
 
@@ -35,15 +37,19 @@ enum Record {
     RepeatedPoint,
     Normal,
     Copies,
+    CustomerTable,
+    CustomerWeights,
 }
 
-const RECORDS: [(u64, Record); 6] = [
+const RECORDS: [(u64, Record); 8] = [
     (1, Record::Grid),
     (2, Record::Study),
     (3, Record::Weights),
     (4, Record::RepeatedPoint),
     (5, Record::Normal),
     (6, Record::Copies),
+    (7, Record::CustomerTable),
+    (8, Record::CustomerWeights),
 ];
 
 // What is counted.
@@ -52,6 +58,8 @@ struct Counts {
     weights: Cases,
     normal: Cases,
     copies: Cases,
+    customer_tables: Cases,
+    customer_weights: Cases,
 }
 
 impl Counts {
@@ -60,6 +68,8 @@ impl Counts {
             weights: Cases::new("weights", "weights at grid points"),
             normal: Cases::new("normal", "normal triplets"),
             copies: Cases::new("copies", "copies of a table"),
+            customer_tables: Cases::new("customer's table", "customers' tables"),
+            customer_weights: Cases::new("customer's weights", "weights under customers' tables"),
         }
     }
 }
@@ -70,8 +80,11 @@ impl fmt::Display for Counts {
             weights,
             normal,
             copies,
+            customer_tables,
+            customer_weights,
         } = self;
-        write!(f, "{weights}\n{normal}\n{copies}")
+        writeln!(f, "{weights}\n{normal}\n{copies}")?;
+        write!(f, "{customer_tables}\n{customer_weights}")
     }
 }
 
@@ -98,9 +111,17 @@ fn next_study(reader: &mut Reader<'_>, alloc: Global) -> Result<Study, AllocErro
     })
 }
 
+// The call that takes any table, or the one that takes a customer's.
+#[derive(Clone, Copy, Debug, PartialEq, Eq)]
+enum Call {
+    AnyTable,
+    CustomerTable,
+}
+
 // What a call lends beside its grid and its study, and what is stored of its answer.
 #[derive(Drop)]
 struct Asked {
+    call: Call,
     function: WeightFunction,
     num_band: i64,
     num_ir: i64,
@@ -121,7 +142,15 @@ fn weights_called(iw: &mut [f64], grid: &OwnGrid, study: &Study, asked: &Asked) 
         frequency_points: &study.points,
         function: asked.function,
     };
-    status_of(grid_point_weights::integration_weights_at_grid_points(lent, &asked.grid_points, iw))
+    let grid_points = asked.grid_points.as_slice();
+    status_of(match asked.call {
+        Call::AnyTable => {
+            grid_point_weights::integration_weights_at_grid_points(lent, grid_points, iw)
+        }
+        Call::CustomerTable => {
+            customer_tables::checked_integration_weights_at_grid_points(lent, grid_points, iw)
+        }
+    })
 }
 
 // An accepted call is to fill a buffer of the length with the stored weights, a refused one to leave it.
@@ -140,7 +169,7 @@ fn weights_judged(
     Ok(Judged { refusal, agrees })
 }
 
-fn next_weights(reader: &mut Reader<'_>, alloc: Global) -> Result<Asked, AllocError> {
+fn next_weights(reader: &mut Reader<'_>, alloc: Global, call: Call) -> Result<Asked, AllocError> {
     let refusal = reader.next_count();
     let function = function_of(reader.next_count());
     let num_band = reader.next_whole();
@@ -149,6 +178,7 @@ fn next_weights(reader: &mut Reader<'_>, alloc: Global) -> Result<Asked, AllocEr
     let length = reader.next_count() as usize;
     let weights = next_list(reader, alloc)?;
     Ok(Asked {
+        call,
         function,
         num_band,
         num_ir,
@@ -168,6 +198,7 @@ fn next_repeated(reader: &mut Reader<'_>, alloc: Global) -> Result<Asked, AllocE
     let length = reader.next_count() as usize;
     let weights = vec![in alloc; reader.next_real(); length]?;
     Ok(Asked {
+        call: Call::AnyTable,
         function,
         num_band: 1,
         num_ir,
@@ -177,7 +208,7 @@ fn next_repeated(reader: &mut Reader<'_>, alloc: Global) -> Result<Asked, AllocE
     })
 }
 
-// ---- normal triplets and copies of a table
+// ---- normal triplets, copies of a table, customers' tables
 
 fn normal_case(reader: &mut Reader<'_>, alloc: Global) -> Result<Judged, AllocError> {
     let refusal = reader.next_count();
@@ -203,6 +234,16 @@ fn copies_case(reader: &mut Reader<'_>, alloc: Global) -> Result<Judged, AllocEr
     let agrees = status_of(answer) == refusal
         && out.as_slice() == after_call(refusal, &numbers, &before);
     Ok(Judged { refusal, agrees })
+}
+
+fn customer_table_case(reader: &mut Reader<'_>, alloc: Global) -> Result<Judged, AllocError> {
+    let refusal = reader.next_count();
+    let table: Vec<i64> = next_list(reader, alloc)?;
+    let answer = customer_tables::check_relative_grid_address(&table);
+    Ok(Judged {
+        refusal,
+        agrees: status_of(answer) == refusal,
+    })
 }
 
 // The grid and the study of the calls after them.
@@ -235,7 +276,7 @@ impl Replay for Kept {
             Record::Grid => self.grid = Some(next_grid(reader, alloc)?),
             Record::Study => self.study = Some(next_study(reader, alloc)?),
             Record::Weights => {
-                let asked = next_weights(reader, alloc)?;
+                let asked = next_weights(reader, alloc, Call::AnyTable)?;
                 counts.weights.add(rt, self.weights_case(alloc, &asked)?);
             }
             Record::RepeatedPoint => {
@@ -244,6 +285,15 @@ impl Replay for Kept {
             }
             Record::Normal => counts.normal.add(rt, normal_case(reader, alloc)?),
             Record::Copies => counts.copies.add(rt, copies_case(reader, alloc)?),
+            Record::CustomerTable => counts
+                .customer_tables
+                .add(rt, customer_table_case(reader, alloc)?),
+            Record::CustomerWeights => {
+                let asked = next_weights(reader, alloc, Call::CustomerTable)?;
+                counts
+                    .customer_weights
+                    .add(rt, self.weights_case(alloc, &asked)?);
+            }
         }
         Ok(())
     }

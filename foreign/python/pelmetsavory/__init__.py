@@ -24,6 +24,8 @@ from ._functions import (
     all_relative_grid_address,
     answer,
     average_weights_over_degenerate_sets,
+    check_relative_grid_address,
+    checked_integration_weights_at_grid_points,
     fill_neighboring_grid_points,
     generated_relative_grid_address,
     grid_index_from_address,
@@ -43,6 +45,7 @@ from ._listing import read_listing
 from ._loads import fill_frequencies, test_study
 from ._sheet import Sheet, open_count, open_counts
 from ._study import Grid, Shapes, Study
+from ._tables import table_fault
 from .entries import INTERFACE_VERSION, QUESTIONS
 
 __all__ = [
@@ -56,6 +59,8 @@ __all__ = [
     "all_relative_grid_address",
     "answer",
     "average_weights_over_degenerate_sets",
+    "check_relative_grid_address",
+    "checked_integration_weights_at_grid_points",
     "fill_frequencies",
     "fill_neighboring_grid_points",
     "float_mode_ok",
@@ -73,6 +78,7 @@ __all__ = [
     "read_listing",
     "relative_grid_address",
     "set_relative_grid_address",
+    "table_fault",
     "test_study",
     "tetrahedra_integration_weight",
 ]

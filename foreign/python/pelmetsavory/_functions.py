@@ -10,6 +10,7 @@ from numpy.typing import ArrayLike
 from ._arrays import inputs, letter, numbers, output, real, whole
 from ._library import LIBRARY, checked
 from ._study import Grid, Study, arguments
+from ._tables import table_checked
 from .entries import ENTRIES, Triple
 
 _FLOAT = np.dtype(np.float64)
@@ -71,16 +72,48 @@ def _grid(grid: Grid) -> tuple[Any, ...]:
     return (grid._numbers(), *inputs(grid.addresses, grid.gp_map))
 
 
-def integration_weights_at_grid_points(grid: Grid, table: ArrayLike, points: ArrayLike, grid_points: ArrayLike, frequencies: ArrayLike, gp2irgp_map: ArrayLike, function: str = "I") -> np.ndarray:
-    """The weights (grid point, point, band) of frequencies (irreducible points, bands); the map (P,) gives of each address its irreducible point.
-    The function is 'I', the density of states, or 'J', the number of states."""
+def _weights_at_grid_points(entry: Any, grid: Grid, table: ArrayLike, points: ArrayLike, grid_points: ArrayLike, frequencies: ArrayLike, gp2irgp_map: ArrayLike, function: str) -> np.ndarray:
+    """The weights of either entry."""
     p, t = numbers("points", np.float64, points, "n"), numbers("table", np.int64, table, "rows", 4, 3)
     g, m = numbers("grid_points", np.int64, grid_points, "n"), numbers("gp2irgp_map", np.int64, gp2irgp_map, "P")
     f = numbers("frequencies", np.float64, frequencies, "irreducible points", "bands")
     irreducible, bands = f.shape
     out = np.zeros((g.size, p.size, bands))
-    checked(LIBRARY.pelmetsavory_integration_weights_at_grid_points(*output(out, 8), *inputs(p, t, g, f), bands, irreducible, *_grid(grid), *inputs(m), letter(function)))
+    table_checked(entry(*output(out, 8), *inputs(p, t, g, f), bands, irreducible, *_grid(grid), *inputs(m), letter(function)), t)
     return out
+
+
+def integration_weights_at_grid_points(grid: Grid, table: ArrayLike, points: ArrayLike, grid_points: ArrayLike, frequencies: ArrayLike, gp2irgp_map: ArrayLike, function: str = "I") -> np.ndarray:
+    """The weights (grid point, point, band) of frequencies (irreducible points, bands); the map (P,) gives of each address its irreducible point.
+    The function is 'I', the density of states, or 'J', the number of states."""
+    return _weights_at_grid_points(LIBRARY.pelmetsavory_integration_weights_at_grid_points, grid, table, points, grid_points, frequencies, gp2irgp_map, function)
+
+
+def checked_integration_weights_at_grid_points(grid: Grid, table: ArrayLike, points: ArrayLike, grid_points: ArrayLike, frequencies: ArrayLike, gp2irgp_map: ArrayLike, function: str = "I") -> np.ndarray:
+    """The weights of `integration_weights_at_grid_points`, bit for bit, under a table that `check_relative_grid_address` accepts; any other is refused.
+
+    >>> grid, skew = Grid(2, [1, 1, 1], [[0, 0, 0]], [0, 1]), all_relative_grid_address()[0] @ [[1, 1, 0], [0, 1, 0], [0, 0, 1]]
+    >>> checked_integration_weights_at_grid_points(grid, skew, points=[1.0, 2.5], grid_points=[0], frequencies=[[2.0, 3.0]], gp2irgp_map=[0], function="J")
+    array([[[0., 0.],
+            [1., 0.]]])
+    """
+    return _weights_at_grid_points(LIBRARY.pelmetsavory_checked_integration_weights_at_grid_points, grid, table, points, grid_points, frequencies, gp2irgp_map, function)
+
+
+def check_relative_grid_address(table: ArrayLike) -> None:
+    """Accepts a table (rows, 4, 3) of the caller's in place of a built-in one: it has 24 rows, each with corner 0 at zero, components from -2 to 2 and
+    determinant 1 or -1, which close around zero without gap or overlap. Any other is refused by question 7, 23, 24 or 25, and of the last three
+    the message says which row or face is wrong.
+
+    >>> skew = all_relative_grid_address()[0] @ [[1, 1, 0], [0, 1, 0], [0, 0, 1]]  # in a skew basis, in which the step 1, 0, 0 is 1, 1, 0
+    >>> check_relative_grid_address(skew)
+    >>> skew[5] = skew[6]  # a row twice, and a gap
+    >>> check_relative_grid_address(skew)  # doctest: +ELLIPSIS
+    Traceback (most recent call last):
+    pelmetsavory.Refused: question 24 is answered no: Is each face in exactly two rows, on opposite sides? The face (...), (...) is in row... (from 0).
+    """
+    t = numbers("table", np.int64, table, "rows", 4, 3)
+    table_checked(LIBRARY.pelmetsavory_check_relative_grid_address(*inputs(t)), t)
 
 
 def is_n(triplet: ArrayLike, addresses: ArrayLike) -> bool:

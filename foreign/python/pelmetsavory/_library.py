@@ -8,14 +8,16 @@ from .entries import ENTRIES, INTERFACE_VERSION, QUESTIONS
 
 
 class Refused(ValueError):
-    """The first question that is answered no: its `number`, and the question in words. Nothing was written."""
+    """The first question that is answered no: its `number`, and the question in words. Nothing was written. Where 23, 24 or 25 refuses a table, `fault`
+    says which row or face is wrong, and so does the message; otherwise it is None."""
 
-    def __init__(self, number: int) -> None:
-        super().__init__(f"question {number} is answered no: {QUESTIONS.get(number)}")
+    def __init__(self, number: int, fault: str | None = None) -> None:
+        super().__init__(f"question {number} is answered no: {QUESTIONS.get(number)}" + (f" {fault}" if fault else ""))
         self.number = number
+        self.fault = fault
 
     def __reduce__(self):
-        return Refused, (self.number,)
+        return Refused, (self.number, self.fault)
 
 
 Refused.__module__ = "pelmetsavory"  # where callers find it

@@ -2,7 +2,7 @@
 import ctypes
 
 # the interface version that this module was made for
-INTERFACE_VERSION = 7
+INTERFACE_VERSION = 8
 
 
 class Piece(ctypes.Structure):
@@ -68,6 +68,9 @@ QUESTIONS = {
     20: "Does the worker's count stay below 2^63 after all runs of this call?",
     21: "Is the worker 0 to 15?",
     22: "Are the listing's header, lines, field forms and order those of the writer?",
+    23: "Are there 24 rows, each with first corner zero, components -2 to 2 and determinant 1 or -1?",
+    24: "Is each face in exactly two rows, on opposite sides?",
+    25: "Is the direction 1, 100, 10000 strictly inside exactly one row's cone?",
 }
 
 # of each entry: its result, and its arguments as (name, how it crosses, type, count of an array)
@@ -277,6 +280,32 @@ ENTRIES = {
         ("gp2irgp_map", "const", ctypes.c_int64, None),
         ("gp2irgp_map_len", "value", ctypes.c_size_t, None),
         ("letter", "value", ctypes.c_uint8, None),
+    ]),
+    "pelmetsavory_checked_integration_weights_at_grid_points": (ctypes.c_uint64, [
+        ("iw", "mut", ctypes.c_double, None),
+        ("iw_len", "value", ctypes.c_size_t, None),
+        ("frequency_points", "const", ctypes.c_double, None),
+        ("frequency_points_len", "value", ctypes.c_size_t, None),
+        ("relative_grid_address", "const", ctypes.c_int64, None),
+        ("relative_grid_address_len", "value", ctypes.c_size_t, None),
+        ("grid_points", "const", ctypes.c_int64, None),
+        ("grid_points_len", "value", ctypes.c_size_t, None),
+        ("frequencies", "const", ctypes.c_double, None),
+        ("frequencies_len", "value", ctypes.c_size_t, None),
+        ("num_band", "value", ctypes.c_int64, None),
+        ("num_ir", "value", ctypes.c_int64, None),
+        ("grid", "value", Grid, None),
+        ("addresses", "const", ctypes.c_int64, None),
+        ("addresses_len", "value", ctypes.c_size_t, None),
+        ("gp_map", "const", ctypes.c_int64, None),
+        ("gp_map_len", "value", ctypes.c_size_t, None),
+        ("gp2irgp_map", "const", ctypes.c_int64, None),
+        ("gp2irgp_map_len", "value", ctypes.c_size_t, None),
+        ("letter", "value", ctypes.c_uint8, None),
+    ]),
+    "pelmetsavory_check_relative_grid_address": (ctypes.c_uint64, [
+        ("relative_grid_address", "const", ctypes.c_int64, None),
+        ("relative_grid_address_len", "value", ctypes.c_size_t, None),
     ]),
     "pelmetsavory_relative_grid_address": (ctypes.c_uint64, [
         ("rec_lattice", "const", ctypes.c_double, 9),

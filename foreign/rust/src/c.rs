@@ -1,7 +1,7 @@
 // made by foreign/bindings.py from the Rattle source and foreign/questions.txt: do not edit
 
 /// The interface version that this crate was made for: that of the library must be the same.
-pub const INTERFACE_VERSION: u64 = 7;
+pub const INTERFACE_VERSION: u64 = 8;
 
 /// A piece as a caller names it: any numbers.
 #[repr(C)]
@@ -87,6 +87,9 @@ pub const QUESTIONS: &[(u64, &str)] = &[
     (20, "Does the worker's count stay below 2^63 after all runs of this call?"),
     (21, "Is the worker 0 to 15?"),
     (22, "Are the listing's header, lines, field forms and order those of the writer?"),
+    (23, "Are there 24 rows, each with first corner zero, components -2 to 2 and determinant 1 or -1?"),
+    (24, "Is each face in exactly two rows, on opposite sides?"),
+    (25, "Is the direction 1, 100, 10000 strictly inside exactly one row's cone?"),
 ];
 
 /// The interface version of the linked library.
@@ -328,6 +331,32 @@ entries! {
         gp2irgp_map: *const i64,
         gp2irgp_map_len: usize,
         letter: u8,
+    ) -> u64;
+    pub fn pelmetsavory_checked_integration_weights_at_grid_points(
+        iw: *mut f64,
+        iw_len: usize,
+        frequency_points: *const f64,
+        frequency_points_len: usize,
+        relative_grid_address: *const i64,
+        relative_grid_address_len: usize,
+        grid_points: *const i64,
+        grid_points_len: usize,
+        frequencies: *const f64,
+        frequencies_len: usize,
+        num_band: i64,
+        num_ir: i64,
+        grid: Grid,
+        addresses: *const i64,
+        addresses_len: usize,
+        gp_map: *const i64,
+        gp_map_len: usize,
+        gp2irgp_map: *const i64,
+        gp2irgp_map_len: usize,
+        letter: u8,
+    ) -> u64;
+    pub fn pelmetsavory_check_relative_grid_address(
+        relative_grid_address: *const i64,
+        relative_grid_address_len: usize,
     ) -> u64;
     pub fn pelmetsavory_relative_grid_address(
         rec_lattice: *const [f64; 9],

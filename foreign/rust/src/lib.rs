@@ -327,16 +327,44 @@ pub struct Irreducible<'a> {
     pub gp2irgp_map: &'a [i64],
 }
 
+/// Calls an entry for the weights at grid points.
+macro_rules! at_grid_points {
+    ($f:ident, $iw:expr, $points:expr, $table:expr, $grid_points:expr, $at:expr, $g:expr, $function:expr) => {
+        // SAFETY: the entry takes any values; each pair is a live slice, and `iw` is borrowed `&mut`.
+        told(unsafe {
+            c::$f(
+                $iw.as_mut_ptr(), $iw.len(), $points.as_ptr(), $points.len(), $table.as_ptr(), $table.len(),
+                $grid_points.as_ptr(), $grid_points.len(), $at.frequencies.as_ptr(), $at.frequencies.len(), $at.num_band, $at.num_ir,
+                $g.grid, $g.addresses.as_ptr(), $g.addresses.len(), $g.gp_map.as_ptr(), $g.gp_map.len(),
+                $at.gp2irgp_map.as_ptr(), $at.gp2irgp_map.len(), $function.letter(),
+            )
+        })
+    };
+}
+
 /// The weights of each band at each frequency point, for each grid point.
 pub fn integration_weights_at_grid_points(iw: &mut [f64], points: &[f64], table: &[i64], grid_points: &[i64], at: Irreducible, g: BzGrid, function: Function) -> Result<(), Refused> {
-    told(unsafe {
-        c::pelmetsavory_integration_weights_at_grid_points(
-            iw.as_mut_ptr(), iw.len(), points.as_ptr(), points.len(), table.as_ptr(), table.len(),
-            grid_points.as_ptr(), grid_points.len(), at.frequencies.as_ptr(), at.frequencies.len(), at.num_band, at.num_ir,
-            g.grid, g.addresses.as_ptr(), g.addresses.len(), g.gp_map.as_ptr(), g.gp_map.len(),
-            at.gp2irgp_map.as_ptr(), at.gp2irgp_map.len(), function.letter(),
-        )
-    })
+    at_grid_points!(pelmetsavory_integration_weights_at_grid_points, iw, points, table, grid_points, at, g, function)
+}
+
+/// The weights of [`integration_weights_at_grid_points`], bit for bit, under a table that [`check_relative_grid_address`] accepts; any other is refused.
+pub fn checked_integration_weights_at_grid_points(iw: &mut [f64], points: &[f64], table: &[i64], grid_points: &[i64], at: Irreducible, g: BzGrid, function: Function) -> Result<(), Refused> {
+    at_grid_points!(pelmetsavory_checked_integration_weights_at_grid_points, iw, points, table, grid_points, at, g, function)
+}
+
+/// Accepts a table of the caller's in place of a built-in one where it has 24 rows, each with its first corner at zero, components from -2 to 2 and
+/// determinant 1 or -1, which close around zero without gap or overlap. Otherwise 7, 23, 24 or 25.
+///
+/// ```
+/// use pelmetsavory::{check_relative_grid_address, relative_grid_address, Refused};
+/// let (mut table, _) = relative_grid_address(&[1., 0., 0., 0., 1., 0., 0., 0., 1.]).unwrap();
+/// table.chunks_exact_mut(3).for_each(|corner| corner[1] += corner[0]); // a skew basis: one step along x is now one along x and one along y
+/// assert_eq!(check_relative_grid_address(&table), Ok(()));
+/// table.copy_within(..12, 12); // a row twice, and a gap
+/// assert_eq!(check_relative_grid_address(&table), Err(Refused(24)));
+/// ```
+pub fn check_relative_grid_address(table: &[i64]) -> Result<(), Refused> {
+    told(unsafe { c::pelmetsavory_check_relative_grid_address(table.as_ptr(), table.len()) })
 }
 
 /// Whether the three addresses of a triplet add to zero.

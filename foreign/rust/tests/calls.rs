@@ -176,6 +176,7 @@ fn every_entry_and_every_refusal() {
     let (table, index) = relative_grid_address(&unit).unwrap();
     say(&mut out, "tables", vec![text(&[index]), text(&table), text(&all_relative_grid_address())]);
     generated_tables(&mut out);
+    customer_tables(at, g, &mut out);
     unit[4] = f64::INFINITY;
     assert_eq!(relative_grid_address(&unit), Err(Refused(2)));
     let lattice = [0.1, 0.2, 0.3, 1., 2., 3., -4., 0., 4.];
@@ -239,6 +240,109 @@ fn generated_tables(out: &mut String) {
     let around = [[0, 0, 0], [0, 1, 0], [1, 0, 0], [1, 1, 0]]; // along x, y and back along x: on no way
     assert!(!generated.concat().contains(&around));
     say(out, "generated", vec![text(&made)]);
+}
+
+/// Three vectors, and what makes their sum zero, close a fan of four rows, each of three of the four: six fans fill the room around zero six times.
+const FANS: [[[i64; 3]; 3]; 6] = [
+    [[1, 0, 0], [0, 1, 0], [0, 0, 1]], [[1, 0, 0], [0, -1, 0], [0, 0, -1]], [[-1, 0, 0], [0, 1, 0], [0, 0, -1]], [[-1, 0, 0], [0, -1, 0], [0, 0, 1]],
+    [[1, 1, 0], [0, 1, 1], [-1, -1, -1]], [[-1, -1, 0], [0, -1, -1], [1, 1, 1]],
+];
+
+fn fan([a, b, c]: [[i64; 3]; 3]) -> Vec<i64> {
+    let d = [0, 1, 2].map(|k| -a[k] - b[k] - c[k]);
+    [[b, c, d], [a, c, d], [a, b, d], [a, b, c]].map(|[p, q, r]| [[0; 3], p, q, r].concat()).concat()
+}
+
+/// The table with each corner times whole numbers of determinant 1.
+fn sheared(table: &[i64]) -> Vec<i64> {
+    table.chunks_exact(3).flat_map(|corner| [corner[0], corner[1] + corner[0], corner[2]]).collect()
+}
+
+/// The table with one number changed.
+fn edited(table: &[i64], row: usize, corner: usize, component: usize, by: i64) -> Vec<i64> {
+    let mut rows = table.to_vec();
+    rows[12 * row + 3 * corner + component] = by;
+    rows
+}
+
+/// Tables of the caller's, by both entries: which are accepted, each refusal and two at once, and where 7, 23, 24 and 25 stand among the others.
+fn customer_tables(at: Irreducible, g: BzGrid, out: &mut String) {
+    let all = all_relative_grid_address();
+    let (skew, six) = (sheared(&all[..288]), FANS.map(fan).concat());
+    let weights = |table: &[i64], function| {
+        let mut iw = [-7.25; 18];
+        integration_weights_at_grid_points(&mut iw, &[0.5, 1.25], table, &[0, 7, 11], at, g, function).map(|()| hex(&iw))
+    };
+    let weights_checked = |table: &[i64], function| {
+        let mut iw = [-7.25; 18];
+        let told = checked_integration_weights_at_grid_points(&mut iw, &[0.5, 1.25], table, &[0, 7, 11], at, g, function);
+        assert!(told.is_ok() || iw == [-7.25; 18]);
+        told.map(|()| hex(&iw))
+    };
+    let mut statuses = Vec::new();
+    // the status of a table; the weights under it have the same, and where it is 0 they are those of the call that does not check
+    let mut judged = |want: u64, table: &[i64]| {
+        let told = check_relative_grid_address(table);
+        assert_eq!(number(told), want);
+        for function in [Function::I, Function::J] {
+            assert_eq!(weights_checked(table, function), told.and_then(|()| weights(table, function)));
+        }
+        statuses.push(want);
+    };
+    for table in all.chunks_exact(288) {
+        judged(0, table);
+        judged(0, &sheared(table));
+    }
+    let backwards = |row: &[i64]| [&row[..3], &row[9..], &row[6..9], &row[3..6]].concat(); // each determinant is negated
+    judged(0, &skew.rchunks_exact(12).flat_map(backwards).collect::<Vec<_>>());
+    for length in [0, 12, 276, 287, 289, 300] {
+        judged(7, &skew.repeat(2)[..length]);
+    }
+    for (k, (far, near)) in [(4097, 3), (-4097, -3), (i64::MIN, 4096), (i64::MAX, -4096)].into_iter().enumerate() {
+        judged(7, &edited(&skew, 23, k, k % 3, far));
+        judged(23, &edited(&skew, 23 * (k % 2), k, 2, near));
+    }
+    judged(23, &skew.repeat(2));
+    for k in 0..3 {
+        judged(23, &edited(&skew, 7, 0, k, 1));
+        judged(23, &edited(&six, 23, 0, k, -2));
+    }
+    judged(23, &edited(&six, 0, 1, 1, 2)); // determinant 2, of the row 0, 1, 0 and 0, 0, 1 and -1, -1, -1
+    judged(23, &edited(&six, 0, 1, 1, 0)); // and 0
+    judged(24, &[&skew[..60], &skew[72..84], &skew[72..]].concat()); // a row twice, and a gap
+    let turned: Vec<i64> = skew[60..72].iter().map(|x| -x).collect();
+    judged(24, &[&skew[..60], &turned, &skew[72..]].concat()); // a row on the other side
+    judged(24, &[&six[..240], &six[..48]].concat()); // a fan twice
+    let mut folded = six.clone();
+    [12, 13, 14].iter().for_each(|row| folded[12 * row + 9..12 * row + 12].iter_mut().for_each(|x| *x = -*x));
+    judged(24, &folded); // each face is in two rows, some on the same side
+    judged(25, &six);
+    judged(7, &six[..276]); // two at once; the two components leave the determinant as it is
+    judged(23, &six.repeat(2));
+    judged(23, &edited(&six, 9, 3, 0, 3));
+    judged(23, &edited(&six, 9, 3, 0, -3));
+    judged(24, &edited(&six, 0, 1, 2, 1));
+    say(out, "judged", vec![text(&statuses)]);
+    for function in [Function::I, Function::J] {
+        let checked = weights_checked(&skew, function).unwrap();
+        assert!(checked != weights(&all[..288], function).unwrap()); // another table, other weights
+        say(out, "checked", vec![checked]);
+    }
+
+    // 6 is asked before the four, 9 to 12 after them
+    let mut iw = [-7.25; 18];
+    let mut asked = |table: &[i64], length: usize, points: &[i64], num_band, map: usize| {
+        let (at, g) = (Irreducible { num_band, ..at }, BzGrid { gp_map: &g.gp_map[..map], ..g });
+        number(checked_integration_weights_at_grid_points(&mut iw[..length], &[0.5, 1.25], table, points, at, g, Function::I))
+    };
+    let outside = [0, 7, 12];
+    assert_eq!(asked(&six, 17, &outside, 0, 8), 6);
+    assert_eq!(asked(&six, 17, &outside, 0, 9), 25);
+    assert_eq!(asked(&skew, 17, &outside, 0, 9), 9);
+    assert_eq!(asked(&skew, 17, &outside, 2, 9), 10);
+    assert_eq!(asked(&skew, 17, &[0, 7, 11], 2, 9), 11);
+    assert_eq!(asked(&skew, 17, &[0, 7, 11], 3, 9), 12);
+    assert_eq!(iw, [-7.25; 18]);
 }
 
 const IDS: [i64; 6] = [0, 0, 2, 0, 1, 1];

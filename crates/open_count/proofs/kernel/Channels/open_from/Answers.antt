@@ -6,14 +6,10 @@ use native.Mathlib.Omega.{arith}
 use mathlib.Core.Bool.{Bool, false, true}
 use Rattle.std.specs.Int.{from_bool}
 use Rattle.list_laws.specs.Lists.{count_below, one_if}
+use Rattle.list_laws.proofs.CountedLaws.{one-byte}
 use Rattle.list_laws.proofs.MapLaws.{count_next}
 use Rattle.open_count.specs.OpenCount.{is_open, open_from}
 use Rattle.open_count.proofs.kernel.Channels.open_from.Goals as goal
-
--- what std says of a bool as a number, in the words of the count
-one-byte : (b : Bool) → from_bool b ≡ one_if b
-one-byte false = refl
-one-byte true = refl
 
 pub loop-i-init : goal.loop-i-init
 unfolding count_below

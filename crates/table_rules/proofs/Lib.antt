@@ -1,0 +1,4 @@
+-- The laws.
+pub mod DeterminantLaws
+pub mod RowLaws
+pub mod SideLaws
