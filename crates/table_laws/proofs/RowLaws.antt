@@ -4,11 +4,10 @@ use mathlib.Core.Bool.{Bool, true, false, ◌&&◌, ◌||◌}
 use mathlib.Core.List.{List, [], ◌∷◌}
 use mathlib.Core.Logic.{◌⊎◌, inl, inr, ⊎_elim}
 use Prim.Native.Nat.{ℕ, ◌+◌, ◌*◌, ◌<◌}
-use lib.Dec.{eqb}
 use lib.IntN.{ℤ, pos, negsuc}
 use lib.ListN.{length, get_or}
-use borrow.Author.Tests.{eqb-true, eq-eqb, leb-true, le-leb}
-use Rattle.list_laws.specs.Lists.{all_below, at}
+use borrow.Author.Tests.{eq-eqb, leb-true, le-leb}
+use Rattle.list_laws.specs.Lists.{at}
 use Rattle.list_laws.specs.Signed.{eq_z, within}
 use Rattle.list_laws.proofs.BelowLaws.{below_at, below_all}
 use Rattle.list_laws.proofs.BoolLaws.{and_left, and_right, and_both}
@@ -16,6 +15,7 @@ use Rattle.list_laws.proofs.EqualLaws.{equal_is}
 use Rattle.tetrahedron_tables.specs.Tables.{det, row_ok}
 use Rattle.table_rules.specs.Rows.{row_at, are_small, are_unit_rows}
 use Rattle.table_rules.specs.Faces.{corner}
+use Rattle.table_rules.proofs.RowLaws.{unit_length, unit-small, unit-row}
 use Rattle.table_laws.specs.Meaning.{UnitRows}
 
 -- ---- one row
@@ -51,13 +51,8 @@ rows_ok table r = row_ok (row_at table r)
 module _ (table : List ℤ) where
   -- what a yes says
   module _ (e : are_unit_rows table ≡ true) where
-    numbers : (eqb (length table) 288 && are_small table) ≡ true
-    unfolding are_unit_rows
-    numbers = and_left _ (all_below 24 (rows_ok table)) e
-
     row : (r : ℕ) → r < 24 → (is_origin (corner (row_at table r) 0) && is_unit (det (row_at table r))) ≡ true
-    unfolding are_unit_rows
-    row r h = sym (row-is (row_at table r)) ∙ below_at 24 (rows_ok table) (and_right (eqb (length table) 288 && are_small table) _ e) r h
+    row r h = sym (row-is (row_at table r)) ∙ unit-row table e r h
 
     starts : (r : ℕ) → r < 24 → is_origin (corner (row_at table r) 0) ≡ true
     starts r h = and_left _ (is_unit (det (row_at table r))) (row r h)
@@ -65,8 +60,8 @@ module _ (table : List ℤ) where
     pub unit-rows : UnitRows table
     unfolding are_small within is_origin
     unit-rows = record {
-      size = eqb-true _ 288 (and_left _ (are_small table) numbers);
-      small = λ k h. leb-true _ 2 (below_at (length table) (λ k. within 2 (at table k)) (and_right (eqb (length table) 288) _ numbers) k h);
+      size = unit_length table e;
+      small = λ k h. leb-true _ 2 (below_at (length table) (λ k. within 2 (at table k)) (unit-small table e) k h);
       first_corner = λ r h.
           let rest : (eq_z (at table (r * 4 * 3 + 1)) (pos 0) && eq_z (at table (r * 4 * 3 + 2)) (pos 0)) ≡ true = and_right (eq_z (at table (r * 4 * 3)) (pos 0)) _ (starts r h) in
           λ i.
