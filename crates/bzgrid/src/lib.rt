@@ -4,10 +4,11 @@
 
 ghost use Rattle.bzgrid.specs.Calls.{around_of, DidFind, DidFindAll};
 
-use ask::Refusal;
+pub use ask::Refusal;
 use bzgrid_lookup::TestedGrid;
+pub use question_grids::Grid;
+use question_grids::Triples;
 use question_grids::kernel::grid::ask_grid;
-use question_grids::{Grid, Triples};
 
 pub mod kernel;
 

@@ -5,7 +5,7 @@
 ghost use Rattle.std.specs.Prelude.{◌≡◌};
 ghost use Rattle.grgrid.specs.Index.{index_answer};
 
-use ask::Refusal;
+pub use ask::Refusal;
 use numbers::Address;
 
 pub mod kernel;

@@ -2,7 +2,7 @@
 ghost use Rattle.std.specs.Prelude.{◌≡◌, ◌<◌, length};
 ghost use Rattle.std.specs.Int.Signed.{mag};
 ghost use Rattle.list_laws.specs.Lists.{at};
-ghost use Rattle.list_laws.specs.Signed.{eq_z, is_nat, is_below, is_between, within};
+ghost use Rattle.list_laws.specs.Signed.{eq_z, is_nat, is_below, is_between, within, rem_euclid};
 ghost use Rattle.ieee_laws.specs.Magnitude.{absolute};
 ghost use Rattle.numbers.specs.Mesh.{mesh_of, count_of, MeshWithin};
 
@@ -46,6 +46,15 @@ pub fn is_within(n: usize, z: i64) -> bool
     ensures { result ≡ within n z }
 {
     z.unsigned_abs() <= n as u64
+}
+
+// The remainder of `a` by `m` that is never negative, by an unsigned division: std's `rem_euclid` divides signed numbers, and takes no `usize`.
+pub fn rem_euclid(a: i64, m: usize) -> usize
+    requires { 0 < m }
+    ensures { result ≡ rem_euclid a m }
+{
+    let k = magnitude(a);
+    if 0 <= a { k % m } else { (m - 1) - k % m }
 }
 
 // ---- an element of a slice

@@ -6,7 +6,7 @@ ghost use Rattle.triplet_study.specs.Lent.{with_triplet};
 ghost use Rattle.triplet_iw.specs.Calls.{DidFill};
 
 pub use ask::Refusal;
-pub use averaging::average_weights_over_degenerate_sets;
+pub use averaging::{Averaging, average_weights_over_degenerate_sets};
 pub use triplet_study::{Shape, Study};
 pub use triplet_types::TpType;
 

@@ -14,7 +14,7 @@ pub overflow_mul-result-2 : goal.overflow_mul-result-2
 unfolding grid_index count_of
 overflow_mul-result-2 c =
     let f : SFits w64 c.args.a.z = search rules in
-    let e2 : _ = rw (to_z-of_z w64 c.args.a.z f) at c.remainder-r2.ensures in
+    let e2 : _ = rw (to_z-of_z w64 c.args.a.z f) at c.rem_euclid-r2.ensures in
     rw e2 (omega (arith, index-lt c.requires c.args.a, count-le c.requires))
 
 pub overflow_add-result : goal.overflow_add-result
@@ -22,8 +22,8 @@ unfolding grid_index count_of
 overflow_add-result c =
     let f : SFits w64 c.args.a.y = search rules in
     let g : SFits w64 c.args.a.z = search rules in
-    let e1 : _ = rw (to_z-of_z w64 c.args.a.y f) at c.remainder-r1.ensures in
-    let e2 : _ = rw (to_z-of_z w64 c.args.a.z g) at c.remainder-r2.ensures in
+    let e1 : _ = rw (to_z-of_z w64 c.args.a.y f) at c.rem_euclid-r1.ensures in
+    let e2 : _ = rw (to_z-of_z w64 c.args.a.z g) at c.rem_euclid-r2.ensures in
     rw (e1, e2) (omega (arith, index-lt c.requires c.args.a, count-le c.requires))
 
 pub overflow_add-result-2 : goal.overflow_add-result-2
@@ -32,7 +32,7 @@ overflow_add-result-2 c =
     let f : SFits w64 c.args.a.x = search rules in
     let g : SFits w64 c.args.a.y = search rules in
     let h : SFits w64 c.args.a.z = search rules in
-    let e0 : _ = rw (to_z-of_z w64 c.args.a.x f) at c.remainder-r0.ensures in
-    let e1 : _ = rw (to_z-of_z w64 c.args.a.y g) at c.remainder-r1.ensures in
-    let e2 : _ = rw (to_z-of_z w64 c.args.a.z h) at c.remainder-r2.ensures in
+    let e0 : _ = rw (to_z-of_z w64 c.args.a.x f) at c.rem_euclid-r0.ensures in
+    let e1 : _ = rw (to_z-of_z w64 c.args.a.y g) at c.rem_euclid-r1.ensures in
+    let e2 : _ = rw (to_z-of_z w64 c.args.a.z h) at c.rem_euclid-r2.ensures in
     rw (e0, e1, e2) (omega (arith, index-lt c.requires c.args.a, count-le c.requires))
