@@ -1,4 +1,4 @@
-// Marks, read and written.
+// Marks, read through one accessor and written through one setter.
 ghost use Rattle.std.specs.Prelude.{◌≡◌, ◌+◌, ◌*◌, ◌≤◌, ◌<◌, eqb};
 ghost use Rattle.marks.specs.Bytes.{mark_at, patch_marks, places_in, bytes_for, IsMark, FewPieces, Holds};
 ghost use Rattle.marks.specs.Marks.{is_mark_beside, are_marks, is_not_averaged, are_computed, open_pieces, averaged_marks};
@@ -69,15 +69,18 @@ pub fn not_averaged(pairs: usize, marks: &[u8], t: usize) -> bool
     mark_at(marks, t * pairs) != AVERAGED
 }
 
-// Question 18.
+// Question 18. Loops here and below, which go on to the end: as `all` of a chain this took many times as long where all are computed, and `filter` with
+// `count` where open pieces and others are mixed.
 pub fn all_computed(pairs: usize, marks: &[u8], t: usize) -> bool
     requires { t * pairs + pairs ≤ places_in marks.now }
     ensures { result ≡ are_computed pairs marks.now t }
 {
     let base = t * pairs;
-    marks[base..base + pairs]
-        .iter()
-        .all(|mark| *mark == COMPUTED)
+    let mut ok = true;
+    for k in 0..pairs {
+        ok = ok & (mark_at(marks, base + k) == COMPUTED);
+    }
+    ok
 }
 
 // How many pieces are open: so many beside the marks, as for question 13.
@@ -85,7 +88,11 @@ pub fn open_pieces(pieces: usize, marks: &[u8]) -> u64
     requires { Holds pieces marks.now }
     ensures { result ≡ open_pieces pieces marks.now }
 {
-    marks[..pieces].iter().filter(|mark| **mark == OPEN).count() as u64
+    let mut count: u64 = 0;
+    for q in 0..pieces {
+        count = count + u64::from(mark_at(marks, q) == OPEN);
+    }
+    count
 }
 
 // A triplet's marks become 2.
