@@ -3,4 +3,3 @@ pub mod AverageLaws
 pub mod CountLaws
 pub mod RowsLaws
 pub mod TypeLaws
-pub mod FrequencyLaws

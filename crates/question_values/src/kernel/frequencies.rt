@@ -12,23 +12,24 @@ const LEAST_POINT: f64 = 2.0902722826084166e-199;
 
 const GREATEST_POINT: f64 = 2147483648.0;
 
-// Zero, or of a magnitude from low to high. Most values are above zero: those are compared as they are.
-#[tactic(auto, using(crate::proofs::FrequencyLaws::above_zero))]
+// Zero, or of a magnitude from low to high. No branch on the sign: energies around a Fermi level have either.
 pub fn in_range(low: f64, high: f64, x: f64) -> bool
     ensures { result ≡ in_range low high x }
 {
-    if 0.0 < x {
-        return (low <= x) & (x <= high);
-    }
     let magnitude = numbers::kernel::abs(x);
     (x == 0.0) | ((low <= magnitude) & (magnitude <= high))
 }
 
-// Each of a list is.
+// Each of a list is. The tests are joined by `&`, with no branch between them.
+#[tactic(auto, using(list_laws::proofs::BelowLaws::below_none, list_laws::proofs::BelowLaws::below_next), unfolding(crate::specs::Frequencies::are_in_range))]
 pub fn all_in_range(low: f64, high: f64, xs: &[f64]) -> bool
     ensures { result ≡ are_in_range low high xs.now }
 {
-    xs.iter().all(|&x| in_range(low, high, x))
+    let mut ok = true;
+    for x in xs {
+        ok &= in_range(low, high, *x);
+    }
+    ok
 }
 
 // Question 11, of frequencies.
