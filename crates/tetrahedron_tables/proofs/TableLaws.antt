@@ -2,14 +2,16 @@
 use mathlib.Core.Path.{◌≡◌, refl}
 use mathlib.Core.Bool.{true}
 use mathlib.Core.List.{List, [], ◌∷◌, flatten}
-use Prim.Native.Nat.{ℕ, zero, suc, ◌<◌}
+use Prim.Native.Nat.{ℕ, zero, suc, ◌<◌, ◌/◌, ◌%◌}
 use native.Mathlib.Omega.{arith}
-use lib.IntN.{ℤ}
+use lib.IntN.{ℤ, pos}
 use lib.ListN.{get_or}
 use Rattle.std.specs.List.{flat_map}
-use Rattle.list_laws.specs.Lists.{all_below, rows as tables}
-use Rattle.list_laws.proofs.BelowLaws.{below_at}
-use Rattle.tetrahedron_tables.specs.Tables.{table0, table1, table2, table3, table_of, flat, row_ok, det}
+use Rattle.list_laws.specs.Lists.{all_below, tabulate, rows as tables}
+use Rattle.list_laws.specs.Signed.{eq_z}
+use Rattle.list_laws.proofs.BelowLaws.{below_at, below_at2}
+use Rattle.list_laws.proofs.EqualLaws.{equal_is}
+use Rattle.tetrahedron_tables.specs.Tables.{table0, table1, table2, table3, table_of, entry, flat, row_ok, det}
 
 -- the test, of each table
 rows : (t : ℕ) → all_below 24 (λ r. row_ok (get_or (table_of t) r [])) ≡ true
@@ -28,6 +30,27 @@ unfoldable pub twelves : List (List (List ℤ)) → List (List ℤ)
 unfolding flatten
 twelves [] = []
 twelves (r ∷ t) = flatten r ∷ twelves t
+
+-- the test, of each table: place 3c + k of a row of twelve is component k of corner c
+places : (t : ℕ) → all_below 24 (λ r. all_below 12 (λ j. eq_z (get_or (get_or (twelves (table_of t)) r []) j (pos 0)) (entry (table_of t) r j))) ≡ true
+unfolding table_of table0 table1 table2 table3 twelves flatten all_below
+places zero = refl
+places (suc zero) = refl
+places (suc (suc zero)) = refl
+places (suc (suc (suc t))) = refl
+
+-- the same, at each place
+pub place : (t r j : ℕ) → r < 24 → j < 12 → get_or (get_or (twelves (table_of t)) r []) j (pos 0) ≡ entry (table_of t) r j
+place t r j h g =
+    equal_is _ _ (below_at2 24 12 (λ r j. eq_z (get_or (get_or (twelves (table_of t)) r []) j (pos 0)) (entry (table_of t) r j)) (places t) r j h g)
+
+-- the flat list, entry by entry
+pub flat-is : (t : ℕ) → tabulate 288 (λ i. entry (table_of t) (i / 12) (i % 12)) ≡ flat (table_of t)
+unfolding table_of table0 table1 table2 table3 flat flatten tabulate
+flat-is zero = refl
+flat-is (suc zero) = refl
+flat-is (suc (suc zero)) = refl
+flat-is (suc (suc (suc t))) = refl
 
 -- the four tables in rows of twelve
 abbrev pub all_twelves : List (List (List ℤ))

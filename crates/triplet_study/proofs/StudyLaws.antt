@@ -1,5 +1,5 @@
 -- What the questions tell of a study, of its counts and of the lent lists. Assumes nothing.
-use mathlib.Core.Path.{◌≡◌, refl, sym, ◌∙◌}
+use mathlib.Core.Path.{◌≡◌, refl, sym, ap, ◌∙◌, subst⁻¹}
 use mathlib.Core.Bool.{true, ◌&&◌}
 use mathlib.Core.List.{List, ◌++◌}
 use Prim.Native.Nat.{ℕ, ◌*◌, ◌%◌, ◌≤◌}
@@ -25,8 +25,9 @@ use Rattle.question_values.proofs.RowsLaws.{table-rows}
 use Rattle.question_values.proofs.CountLaws.{bands1-low, bands1-high, bands2-low, bands2-high, points-low, points-high, many-high}
 use Rattle.bzgrid_lookup.proofs.CallLaws.{sound-grid}
 use Rattle.triplet_types.proofs.TypeLaws.{channel-count-le}
+use Rattle.triplet_study.specs.declared.Shape.{Shape}
 use Rattle.triplet_study.specs.declared.Sizes.{Sizes}
-use Rattle.triplet_study.specs.Study.{Study, tp_in, grid_in, bands1_in, bands2_in, triplet_count, sizes_by, sizes_of}
+use Rattle.triplet_study.specs.Study.{Study, study, tp_in, grid_in, bands1_in, bands2_in, triplet_count, sizes_by, sizes_of}
 use Rattle.triplet_study.specs.Questions.{triplets_in, are_triplets, hold_frequencies, are_study_frequencies, table_questions, value_questions, study_questions, are_lengths}
 use Rattle.triplet_study.specs.Tested.{Tested, Counted, Ready}
 
@@ -190,3 +191,17 @@ ready-counted r = rw r.counts (counted r.tested)
 
 -- by one name, for the attributes of functions
 pub ruleset counts_laws = (counts-say)
+
+-- the counts keep the numbers as given
+pub study-shaped : (s : Study) (z : Sizes) → z ≡ sizes_of s
+    → study z.shape s.addresses s.gp-map s.steps s.frequencies1 s.frequencies2 s.points s.triplets ≡ s
+unfolding sizes_by
+study-shaped s z c =
+    ap (λ (h : Shape). study h s.addresses s.gp-map s.steps s.frequencies1 s.frequencies2 s.points s.triplets) (shape_is s z c)
+  where
+    shape_is : (s : Study) (z : Sizes) → z ≡ sizes_of s → z.shape ≡ s.shape
+    shape_is s z c = rw c
+
+pub ready-shaped : {s : Study} {z : Sizes} {w f : ℕ} → Ready s z w f
+    → Ready (study z.shape s.addresses s.gp-map s.steps s.frequencies1 s.frequencies2 s.points s.triplets) z w f
+ready-shaped {s} {z} {w} {f} r = subst⁻¹ (λ (y : Study). Ready y z w f) (study-shaped s z r.counts) r
