@@ -29,13 +29,13 @@ pub fn ask_copies(
     Ok(tp)
 }
 
-// The first copy as the table is, then the second.
+// The first copy as the table is, then the second. The first by the same loop: `copy_from_slice` would have the archive ask for `memmove`.
 pub fn fill_copies(out: &mut [i64], table: Triples, negated: bool)
     requires { length out.old ≡ 2 * length table.numbers.now }
     ensures { out.new ≡ copies_of negated table.entry.numbers.now }
 {
     let n = table.numbers.len();
     let end = out.len();
-    out[..n].copy_from_slice(table.numbers);
+    fill_copy(&mut out[..n], table, false);
     fill_copy(&mut out[n..end], table, negated);
 }
