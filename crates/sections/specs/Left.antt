@@ -1,5 +1,5 @@
 -- The lines of a text and the fields of a line that are left, and what the answers of their readers stand for.
-use Rattle.std.specs.Prelude.{ℕ, List, drop, Option, Some, None}
+use Rattle.std.specs.Prelude.{ℕ, List, take, drop, Option, Some, None}
 use Rattle.std.specs.Borrow.{Bor}
 use Rattle.text.specs.Pieces.{ended, split_from}
 use Rattle.sections.specs.Lines.{Part, told_part}
@@ -18,6 +18,10 @@ parts f = split_from 9 f.line.now f.next
 abbrev pub told_tagged : Option Fields → List (List ℕ) → Option (List (List ℕ) × List (List ℕ))
 told_tagged None ls = None
 told_tagged (Some f) ls = Some (parts f, ls)
+
+-- of `fill_rows`, with what is then in its buffer
+abbrev pub told_filled : {A : Type 0} → Option ℕ → List A → List (List ℕ) → Part (List A)
+told_filled r out = told_part r (λ count. take count out)
 
 -- of `rows`
 abbrev pub told_rows : {A : Type 0} → Option (Bor (List A)) → List (List ℕ) → Part (List A)

@@ -2,22 +2,22 @@
 ghost use Rattle.std.specs.Prelude.{◌+◌, ◌<◌, ◌≤◌, ◌≡◌, eqb, length, IfNone, IfSome};
 ghost use Rattle.text.specs.Pieces.{ended, split_from};
 ghost use Rattle.sections.specs.Lines.{once, rows, tagged, told, values};
-ghost use Rattle.sections.specs.Left.{left, parts, told_one, told_rows, told_tagged};
+ghost use Rattle.sections.specs.Left.{left, parts, told_filled, told_one, told_rows, told_tagged};
 
 use text::Field;
 use text::kernel::cut;
 
 // The fields of a line that are left from index next on; none behind its end.
 #[derive(Clone, Copy)]
-struct Fields<'a> {
-    line: &'a [u8],
-    next: usize,
+pub struct Fields<'a> {
+    pub line: &'a [u8],
+    pub next: usize,
 }
 
 impl<'a> Fields<'a> {
     // Whether they are as many values as row has places. These are then in row.
     #[tactic(auto, using(crate::proofs::RowLaws::row_laws))]
-    fn read<T: Field>(self, row: &mut [T]) -> Option<()>
+    pub fn read<T: Field>(self, row: &mut [T]) -> Option<()>
         ensures { values T.spelled (length row.new) (parts self.entry) ≡ told result row.new }
     {
         let line = self.line;
@@ -61,7 +61,7 @@ impl<'a> Lines<'a> {
     }
 
     // The values of the next line, where it bears the tag: the line is then read. None where it has another tag, or where no line is left.
-    fn tagged(&mut self, tag: &[u8]) -> Option<Fields<'a>>
+    pub fn tagged(&mut self, tag: &[u8]) -> Option<Fields<'a>>
         ensures line { tagged tag.now (left self.old) ≡ told_tagged result (left self.new) }
         ensures stays { IfNone result (self.new ≡ self.old) }
         ensures bytes { IfSome result (λ f. self.old.next + length (parts f) < self.new.next) }
@@ -94,10 +94,11 @@ impl<'a> Lines<'a> {
         self.tagged(tag)?.read(row)
     }
 
-    // The next lines that bear the tag, n values each: their values, which are then at the start of out.
-    pub fn rows<'b, T: Field>(&mut self, tag: &[u8], n: usize, out: &'b mut [T]) -> Option<&'b [T]>
+    // The next lines that bear the tag, n values each: how many values, which are then at the start of out.
+    pub fn fill_rows<T: Field>(&mut self, tag: &[u8], n: usize, out: &mut [T]) -> Option<usize>
         requires { length self.old.text.now + n ≤ length out.old }
-        ensures section { rows T.spelled tag.now n (left self.old) ≡ told_rows result (left self.new) }
+        ensures section { rows T.spelled tag.now n (left self.old) ≡ told_filled result out.new (left self.new) }
+        ensures within { IfSome result (λ count. count ≤ length out.new) }
         ensures same { self.new.text ≡ self.old.text }
     {
         let mut count = 0;
@@ -106,6 +107,16 @@ impl<'a> Lines<'a> {
             fields.read(&mut out[count..count + n])?;
             count += n;
         }
+        Some(count)
+    }
+
+    // The same lines: their values, where they are then in out.
+    pub fn rows<'b, T: Field>(&mut self, tag: &[u8], n: usize, out: &'b mut [T]) -> Option<&'b [T]>
+        requires { length self.old.text.now + n ≤ length out.old }
+        ensures section { rows T.spelled tag.now n (left self.old) ≡ told_rows result (left self.new) }
+        ensures same { self.new.text ≡ self.old.text }
+    {
+        let count = self.fill_rows(tag, n, out)?;
         Some(&out[..count])
     }
 }

@@ -3,9 +3,11 @@
 #![tactic(auto)]
 
 mod buffers;
+mod counts;
 pub mod kernel;
 
 pub use buffers::StudyBuffers;
+pub use counts::{FloatsCounts, GridCounts, StudyCounts};
 pub use study_head::Head;
 
 // The sections `addr` and `map` of a text.

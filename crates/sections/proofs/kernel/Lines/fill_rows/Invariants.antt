@@ -1,11 +1,11 @@
--- `sections::kernel::Lines::rows` meets its contract: the values stored, and what the lines that are left hold, are the section's.
+-- `sections::kernel::Lines::fill_rows` meets its contract: the values stored, and what the lines that are left hold, are the section's.
 use Prim.Native.Nat.{◌-◌, ◌≤◌}
 use mathlib.Core.Path.{◌≡◌}
 use lib.ListN.{length, take}
 use Rattle.std.specs.Prelude.{Some}
 use Rattle.sections.specs.Left.{left}
 use Rattle.sections.specs.Lines.{joined, rows}
-use Rattle.sections.proofs.kernel.Lines.rows.Given as goal
+use Rattle.sections.proofs.kernel.Lines.fill_rows.Given as goal
 
 abbrev pub invariant-loop-fields : goal.invariant-loop-fields
 invariant-loop-fields g l =

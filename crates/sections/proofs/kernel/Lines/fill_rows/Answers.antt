@@ -1,4 +1,4 @@
--- `sections::kernel::Lines::rows` meets its contract.
+-- `sections::kernel::Lines::fill_rows` meets its contract.
 use Prim.Native.Nat.{◌+◌, ◌-◌, ◌≤◌}
 use mathlib.Core.Path.{◌≡◌, refl, ap, ◌∙◌}
 use native.Mathlib.Omega.{arith}
@@ -7,9 +7,9 @@ use lib.Seq.{length-take-le}
 use Rattle.sections.specs.Left.{parts}
 use Rattle.sections.specs.Lines.{values, told}
 use Rattle.sections.proofs.LineLaws.{joined-nil, place-kept, row-placed, rows_end, rows-broken, rows_row, values_fit}
-use Rattle.sections.proofs.kernel.Lines.rows.Given.{Over}
-use Rattle.sections.proofs.kernel.Lines.rows.Goals.{After-read}
-use Rattle.sections.proofs.kernel.Lines.rows.Goals as goal
+use Rattle.sections.proofs.kernel.Lines.fill_rows.Given.{Over}
+use Rattle.sections.proofs.kernel.Lines.fill_rows.Goals.{After-read}
+use Rattle.sections.proofs.kernel.Lines.fill_rows.Goals as goal
 
 pub loop-fields-init : goal.loop-fields-init
 loop-fields-init g c = (omega arith, omega arith, refl, joined-nil g.T.Field.spelled _)

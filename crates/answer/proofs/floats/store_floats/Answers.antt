@@ -1,4 +1,4 @@
--- `answer::floats::fill_floats` meets its contract.
+-- `answer::floats::store_floats` meets its contract.
 use Prim.Native.Nat.{ℕ}
 use lib.Ieee.{binary64, of_bits}
 use lib.ListN.{get_or, length, take}
@@ -7,7 +7,7 @@ use native.Mathlib.Omega.{arith}
 use Rattle.answer.specs.Texts.{floats_of}
 use Rattle.list_laws.proofs.FillLaws.{fill-next, fill_none}
 use Rattle.list_laws.specs.Lists.{tabulate}
-use Rattle.answer.proofs.floats.fill_floats.Goals as goal
+use Rattle.answer.proofs.floats.store_floats.Goals as goal
 
 pub loop-k-init : goal.loop-k-init
 loop-k-init c = fill_none (λ k. of_bits binary64 (get_or c.args.patterns.now k 0)) c.args.out.now
