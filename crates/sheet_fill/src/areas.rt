@@ -17,6 +17,7 @@ pub struct Work<'a> {
 
 impl<'a> Work<'a> {
     // Areas that keep the corners of no triplet.
+    #[inline(always)]
     pub fn new(prepared: PreparedStudy<'a>) -> Work<'a>
         ensures { result.prepared ≡ prepared.entry }
     {

@@ -31,11 +31,15 @@ pub fn tally_add(tally: &mut [u64; 16], worker: i64, runs: u64) -> u64
     ensures value { result ≡ first_no (tally_questions tally.old worker runs) }
     ensures tally_after { tally.new ≡ after_call (first_no (tally_questions tally.old worker runs)) (with_runs tally.old worker runs) tally.old }
 {
-    let before = *tally;
-    let mut counted = Tally { runs: before };
-    let sum = counted.add(worker, runs);
-    let status = counted.settle(sum);
-    let counts = counted.runs;
-    *tally = counts;
-    status
+    // not by `settle`, which would have the counts moved once more
+    let counts = *tally;
+    let before = Tally { runs: counts };
+    match before.add(worker, runs) {
+        Ok(sum) => {
+            let after = sum.runs;
+            *tally = after;
+            0
+        }
+        Err(why) => why.number(),
+    }
 }

@@ -18,9 +18,9 @@ returns-in_err-tested-clause-did c =
     let told : _ = rw (c.marks.ensures, c.in_err-tested.was) at c.ask_common.ensures.asked in
     rw (handed-on _ c.from_residual.ensures.1) (common-refused (study_of c.args.study) (start (goal.at.returns-in_err-tested-clause-did c).Start) (carry c.args.worker) _ told)
 
-pub carry_asked-requires : goal.carry_asked-requires
-carry_asked-requires c =
+pub carry_tested-requires : goal.carry_tested-requires
+carry_tested-requires c =
     let same : c.in_ok-tested.tested.study ≡ c.args.study = rw c.in_ok-tested.was at c.ask_common.ensures.same in
     let told : _ = rw (c.marks.ensures, c.in_ok-tested.was) at c.ask_common.ensures.asked in
-    let yes : _ = tested-yes c.in_ok-tested.tested same (start (goal.at.carry_asked-requires c).Start) (given-is _ _ tt told).0 in
-    record { common = rw (c.new-work.ensures, c.new-prepared.ensures) yes }
+    let yes : _ = tested-yes c.in_ok-tested.tested same (start (goal.at.carry_tested-requires c).Start) (given-is _ _ tt told).0 in
+    record { common = yes }

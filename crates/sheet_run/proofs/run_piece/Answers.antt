@@ -43,12 +43,12 @@ returns-in_err-ask_run-clause-did c =
     let own : _ = rw (to_z-of_z w64 c.args.worker c.ranges.worker, c.marks-2.ensures, c.counted_sizes.ensures, c.in_err-ask_run.was) at c.ask_run.ensures in
     rw (handed-on _ c.from_residual-in_err-ask_run.ensures.1) (tested-did c.in_ok-tested.tested (same asked) (start (goal.at.returns-in_err-ask_run-clause-did c).Start) (run-no (study_of c.in_ok-tested.tested.study) (start (goal.at.returns-in_err-ask_run-clause-did c).Start) (yes asked) c.in_ok-tested.tested.counts c.args.worker c.args.piece.triplet c.args.piece.b1 c.args.piece.b2 _ own))
 
-pub run_accepted-requires-clause-common : goal.run_accepted-requires-clause-common
-run_accepted-requires-clause-common c =
-    let asked : In_ok-tested = (goal.at.run_accepted-requires-clause-common c).In_ok-tested in
-    rw (c.new-work.ensures, c.new-prepared.ensures) (yes asked)
+pub run_tested-requires-clause-common : goal.run_tested-requires-clause-common
+run_tested-requires-clause-common c =
+    let asked : In_ok-tested = (goal.at.run_tested-requires-clause-common c).In_ok-tested in
+    yes asked
 
-pub run_accepted-requires-clause-own : goal.run_accepted-requires-clause-own
-run_accepted-requires-clause-own c =
+pub run_tested-requires-clause-own : goal.run_tested-requires-clause-own
+run_tested-requires-clause-own c =
     let own : _ = rw (c.marks-2.ensures, c.counted_sizes.ensures, c.in_ok-ask_run.was) at c.ask_run.ensures in
-    rw (c.new-work.ensures, c.new-prepared.ensures) (given-is _ _ tt own).0
+    (given-is _ _ tt own).0
