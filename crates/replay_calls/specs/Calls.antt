@@ -54,25 +54,29 @@ IsAverage one two m n text at (Average triplet ids1 ids2) next =
     (triplet ≡ whole_at text at) × (one ids1 ≡ wholes_at text m second) × (two ids2 ≡ wholes_at text n third) × (next ≡ after_wholes text n third)
 IsAverage one two m n text at (Play list ids answers) next = ⊥
 
--- a list of calls: its numbers, the list of ids, and how many answers, no more than the text has room for
-unfoldable pub IsPlay : {L : Type 0} → (L → List ℤ) → (L → List ℤ) → ℕ → ℕ → List ℕ → ℕ → Call L → ℕ → Type 0
-IsPlay one two m n text at (RunPiece worker piece) next = ⊥
-IsPlay one two m n text at (CarryOn worker) next = ⊥
-IsPlay one two m n text at (Average triplet ids1 ids2) next = ⊥
-IsPlay one two m n text at (Play list ids answers) next =
+-- a list of calls: its numbers, the list of ids, and how many answers, k at most
+unfoldable pub IsPlayWithin : {L : Type 0} → (L → List ℤ) → (L → List ℤ) → ℕ → ℕ → ℕ → List ℕ → ℕ → Call L → ℕ → Type 0
+IsPlayWithin one two m n k text at (RunPiece worker piece) next = ⊥
+IsPlayWithin one two m n k text at (CarryOn worker) next = ⊥
+IsPlayWithin one two m n k text at (Average triplet ids1 ids2) next = ⊥
+IsPlayWithin one two m n k text at (Play list ids answers) next =
     let second = after_wholes text m at in
     let third = after_wholes text n second in
-    (one list ≡ wholes_at text m at) × (two ids ≡ wholes_at text n second) × (answers ≡ min (count_at text third) (length text / 16))
+    (one list ≡ wholes_at text m at) × (two ids ≡ wholes_at text n second) × (answers ≡ min (count_at text third) k)
     × (next ≡ after_count text third)
 
--- a call of a kind; an open count, which is none of a list's calls, is read as an averaging
-unfoldable pub IsCall : {L : Type 0} → (L → List ℤ) → (L → List ℤ) → ℕ → ℕ → CallKind → List ℕ → ℕ → Call L → ℕ → Type 0
-unfolding IsRun IsCarryOn IsAverage IsPlay
-IsCall one two m n kind.RunPiece text at call next = IsRun text at call next
-IsCall one two m n kind.CarryOn text at call next = IsCarryOn text at call next
-IsCall one two m n kind.Average text at call next = IsAverage one two m n text at call next
-IsCall one two m n kind.OpenCount text at call next = IsAverage one two m n text at call next
-IsCall one two m n kind.Play text at call next = IsPlay one two m n text at call next
+-- a call of a kind, a list of calls with k answers at most; an open count, which is none of a list's calls, is read as an averaging
+unfoldable pub IsCallWithin : {L : Type 0} → (L → List ℤ) → (L → List ℤ) → ℕ → ℕ → ℕ → CallKind → List ℕ → ℕ → Call L → ℕ → Type 0
+unfolding IsRun IsCarryOn IsAverage IsPlayWithin
+IsCallWithin one two m n k kind.RunPiece text at call next = IsRun text at call next
+IsCallWithin one two m n k kind.CarryOn text at call next = IsCarryOn text at call next
+IsCallWithin one two m n k kind.Average text at call next = IsAverage one two m n text at call next
+IsCallWithin one two m n k kind.OpenCount text at call next = IsAverage one two m n text at call next
+IsCallWithin one two m n k kind.Play text at call next = IsPlayWithin one two m n k text at call next
+
+-- the same with no more answers than the text has room for
+abbrev pub IsCall : {L : Type 0} → (L → List ℤ) → (L → List ℤ) → ℕ → ℕ → CallKind → List ℕ → ℕ → Call L → ℕ → Type 0
+IsCall one two m n kind text = IsCallWithin one two m n (length text / 16) kind text
 
 -- how many answers a call is to give into a room of its own: those of a list of calls
 abbrev pub answers_of : {L : Type 0} → Call L → ℕ

@@ -6,7 +6,7 @@ ghost use Rattle.sheet_tally.specs.Tallies.{runs_after};
 ghost use Rattle.triplet_study.specs.Lent.{study_of};
 ghost use Rattle.sheet_step.specs.Lent.{sheet_of, SameBuffers};
 ghost use Rattle.sheet_play.specs.Outcomes.{outcome};
-ghost use Rattle.replay_calls.specs.Calls.{IsAverage, IsPlay, IsRun, IsCall, SaysSame, Makes, answers_of, wholes_at, after_wholes};
+ghost use Rattle.replay_calls.specs.Calls.{IsAverage, IsPlayWithin, IsRun, IsCall, IsCallWithin, SaysSame, Makes, answers_of, wholes_at, after_wholes};
 
 use replay_input::kernel::at_most;
 use replay_input::reader::{Reader, length_within};
@@ -18,7 +18,7 @@ use sheet_list::Calls;
 use std::alloc::{AllocError, Global};
 
 // A call, what it names, and the lists that it lends; a kind more than the calls of a list have, and lists that can be its own. A list of calls has its numbers, the lists of ids, and how many answers it has.
-#[derive(Drop)]
+#[derive(Clone, Copy, Drop)]
 pub enum Call<L> {
     RunPiece { worker: i64, piece: NamedPiece },
     CarryOn { worker: i64 },
@@ -54,24 +54,22 @@ fn next_average(reader: &mut Reader<'_>, alloc: Global) -> Result<Call<Vec<i64>>
     })
 }
 
-// How many answers a list of calls is to give.
-fn next_size(reader: &mut Reader<'_>) -> usize
-    ensures value { result ≡ min (count_at reader.old.text.now reader.old.at) (length reader.old.text.now / 16) }
-    ensures next { reader.new ≡ record reader.old { at = after_count reader.old.text.now reader.old.at } }
+// The most answers of a list of calls that a text has room for: each has sixteen counts and a number in it.
+fn answers_of_text(reader: &Reader<'_>) -> usize
+    ensures { result ≡ length reader.now.text.now / 16 }
 {
-    // each answer has sixteen counts and a number in the text
-    let most = reader.text.len() / 16;
-    at_most(reader.next_count(), most)
+    reader.text.len() / 16
 }
 
-#[tactic(auto, unfolding(crate::specs::Calls::IsPlay, replay_study::specs::Records::list_at))]
+#[tactic(auto, unfolding(crate::specs::Calls::IsPlayWithin, replay_study::specs::Records::list_at))]
 fn next_played(reader: &mut Reader<'_>, alloc: Global) -> Result<Call<Vec<i64>>, AllocError>
     ensures same_text { reader.new.text ≡ reader.old.text }
-    ensures play { IfOk result (λ call. IsPlay (λ list. list.items) (λ ids. ids.items) (length reader.old.text.now) (length reader.old.text.now) reader.old.text.now reader.old.at call reader.new.at) }
+    ensures play { IfOk result (λ call. IsPlayWithin (λ list. list.items) (λ ids. ids.items) (length reader.old.text.now) (length reader.old.text.now) (length reader.old.text.now / 16) reader.old.text.now reader.old.at call reader.new.at) }
 {
+    let most_answers = answers_of_text(reader);
     let list = next_list(reader, alloc)?;
     let ids = next_list(reader, alloc)?;
-    let answers = next_size(reader);
+    let answers = at_most(reader.next_count(), most_answers);
     Ok(Call::Play { list, ids, answers })
 }
 
@@ -89,19 +87,20 @@ fn list_in<'b>(reader: &mut Reader<'_>, room: &'b mut [i64]) -> &'b [i64]
 }
 
 // What a call names: worker, triplet and bands of a run, the worker of a carry-on, the triplet of an averaging; then its lists, each to the
-// start of a lent room and cut to it.
+// start of a lent room and cut to it, and no more answers of a list of calls than its caller has room for.
 // Beside `next_call`, which takes memory and can fail for want of it: this one cannot.
-#[tactic(auto, unfolding(crate::specs::Calls::IsCall, crate::specs::Calls::IsCarryOn, crate::specs::Calls::IsAverage, crate::specs::Calls::IsPlay))]
-pub fn read_call<'b>(
+#[tactic(auto, unfolding(crate::specs::Calls::IsCallWithin, crate::specs::Calls::IsCarryOn, crate::specs::Calls::IsAverage, crate::specs::Calls::IsPlayWithin))]
+pub fn read_call_within<'b>(
     reader: &mut Reader<'_>,
     kind: CallKind,
     first: &'b mut [i64],
     second: &'b mut [i64],
+    most_answers: usize,
 ) -> Call<&'b [i64]>
     ensures same_text { reader.new.text ≡ reader.old.text }
-    ensures call { IsCall (λ list. list.now) (λ ids. ids.now) (length first.old) (length second.old) kind reader.old.text.now reader.old.at result reader.new.at }
+    ensures call { IsCallWithin (λ list. list.now) (λ ids. ids.now) (length first.old) (length second.old) most_answers kind reader.old.text.now reader.old.at result reader.new.at }
 {
-    // kind is an enum: CallKind::try_from has read its number
+    // kind is an enum: CallKind::told gives one for every number
     match kind {
         CallKind::RunPiece => next_run(reader),
         CallKind::CarryOn => Call::CarryOn {
@@ -110,7 +109,7 @@ pub fn read_call<'b>(
         CallKind::Play => {
             let list = list_in(reader, first);
             let ids = list_in(reader, second);
-            let answers = next_size(reader);
+            let answers = at_most(reader.next_count(), most_answers);
             Call::Play { list, ids, answers }
         }
         CallKind::Average | CallKind::OpenCount => {
@@ -126,8 +125,22 @@ pub fn read_call<'b>(
     }
 }
 
+// The same with no more answers than the text has room for.
+pub fn read_call<'b>(
+    reader: &mut Reader<'_>,
+    kind: CallKind,
+    first: &'b mut [i64],
+    second: &'b mut [i64],
+) -> Call<&'b [i64]>
+    ensures same_text { reader.new.text ≡ reader.old.text }
+    ensures call { IsCall (λ list. list.now) (λ ids. ids.now) (length first.old) (length second.old) kind reader.old.text.now reader.old.at result reader.new.at }
+{
+    let most_answers = answers_of_text(reader);
+    read_call_within(reader, kind, first, second, most_answers)
+}
+
 // The same with lists as long as the record has them.
-#[tactic(auto, unfolding(crate::specs::Calls::IsCall, crate::specs::Calls::IsCarryOn))]
+#[tactic(auto, unfolding(crate::specs::Calls::IsCallWithin, crate::specs::Calls::IsCarryOn))]
 pub fn next_call(
     reader: &mut Reader<'_>,
     alloc: Global,
@@ -156,7 +169,7 @@ pub fn answered(sheet: &mut Sheet, answer: Result<Tally, Refusal>) -> u64
     sheet.tally.settle(answer)
 }
 
-impl Call<Vec<i64>> {
+impl<L> Call<L> {
     // How many answers it is to give: those of a list of calls.
     pub fn answers(&self) -> usize
         ensures { result ≡ answers_of self.now }
@@ -166,7 +179,9 @@ impl Call<Vec<i64>> {
             _ => 0,
         }
     }
+}
 
+impl Call<Vec<i64>> {
     // The call as it is lent, variant by variant: no derive lends the lists of an enum.
     pub fn lent(&self) -> Call<&[i64]>
         ensures { SaysSame (λ list. list.items) (λ list. list.now) self.now result }

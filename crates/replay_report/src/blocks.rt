@@ -65,8 +65,8 @@ fn replay_block<R: Replay>(
     Ok(())
 }
 
-// Replays the blocks of the input, a thousand at most, and prints what is counted. No contract: it reads the input and prints, of which a
-// contract can say nothing; each program's stdout is compared.
+// Replays the blocks of the input, a thousand at most, and prints what is counted; a program whose output is not taken ends as any other. No
+// contract: it reads the input and prints, of which a contract can say nothing; each program's stdout is compared.
 pub fn replay_blocks<R: Replay>(
     rt: &impl Print,
     alloc: Global,
@@ -79,6 +79,6 @@ pub fn replay_blocks<R: Replay>(
         };
         replay_block::<R>(rt, alloc, block, &mut counts)?;
     }
-    println!(rt; "{counts}")?;
+    let _ = println!(rt; "{counts}");
     Ok(())
 }

@@ -2,3 +2,4 @@
 pub mod Content
 pub mod Open
 pub mod Counted
+pub mod Kinds

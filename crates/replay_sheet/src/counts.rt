@@ -2,6 +2,7 @@
 ghost use Rattle.std.specs.Prelude.{◌≡◌, cond, replicate};
 ghost use Rattle.replay_report.specs.Report.{one_more};
 ghost use Rattle.replay_sheet.specs.Counted.{counted};
+ghost use Rattle.replay_sheet.specs.Kinds.{call_kind};
 
 use replay_report::cases::one_more;
 use replay_report::kinds::kind_of;
@@ -53,6 +54,18 @@ impl TryFrom<u64> for CallKind {
     }
 }
 
+impl CallKind {
+    // The kind of a call of a list, whatever its number: that of an averaging where none of theirs has it; 4 is counted with the open counts.
+    pub fn told(number: u64) -> CallKind
+        ensures { result ≡ call_kind number }
+    {
+        if number == 4 {
+            return CallKind::OpenCount;
+        }
+        kind_of(&CALLS, number).unwrap_or(CallKind::Average)
+    }
+}
+
 impl fmt::Display for CallKind {
     fn fmt<W: fmt::Write>(&self, f: &mut fmt::Formatter<W>) -> fmt::Result {
         f.write_str(match self {
@@ -80,6 +93,14 @@ impl AnswerCounts {
             by_kind: [[0; 30]; 5],
             differences: 0,
         }
+    }
+
+    // One difference more, of an answer that has no place among the counted ones.
+    pub fn add_difference(&mut self)
+        ensures { self.new ≡ record self.old { differences = one_more self.old.differences } }
+    {
+        let more = one_more(self.differences);
+        self.differences = more;
     }
 
     // One answer more; none where its own answers are not the stored ones, so that it differs. What becomes of by_kind the contract

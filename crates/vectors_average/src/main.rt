@@ -9,74 +9,104 @@
 
 use anyhow::Result;
 use averaging::{Averaging, average_weights_over_degenerate_sets};
-use replay_compare::kernel::agree;
+use numbers::kernel::magnitude;
+use replay_compare::kernel::Compared;
+use replay_input::kernel::at_most;
 use replay_input::reader::{Field, Reader};
 use replay_report::blocks::{Case, Only, replay_blocks};
 use replay_report::cases::{Cases, Judged, stored};
-use replay_study::owned::next_list;
 use std::alloc::{AllocError, Global};
 
-// What is stored of one buffer.
-#[derive(Debug, Drop)]
-struct Stored<T> {
+// More numbers than any list of a record has.
+const MOST: usize = 4200;
+
+// More weights or flags than any buffer has.
+const ROOM: usize = 12300;
+
+// What is stored of one buffer: its length, the list that it is filled with, and its runs afterwards.
+#[derive(Drop)]
+struct Stored<'a, T> {
     room: u64,
-    given: Vec<T>,
-    lengths: Vec<i64>,
-    values: Vec<T>,
+    given: &'a mut [T],
+    lengths: &'a mut [i64],
+    values: &'a mut [T],
 }
 
-fn next_stored<T: Field + Default>(
+// A list, to the start of a room and cut to it.
+fn next_in<'a, T: Field>(reader: &mut Reader<'_>, room: &'a mut [T]) -> &'a mut [T] {
+    let count = reader.fill_list(room);
+    &mut room[..count]
+}
+
+fn next_stored<'a, T: Field>(
     reader: &mut Reader<'_>,
-    alloc: Global,
-) -> Result<Stored<T>, AllocError> {
+    given: &'a mut [T],
+    lengths: &'a mut [i64],
+    values: &'a mut [T],
+) -> Stored<'a, T> {
     let room = reader.next_count();
-    let given = next_list(reader, alloc)?;
-    let lengths = next_list(reader, alloc)?;
-    let values = next_list(reader, alloc)?;
-    Ok(Stored {
+    let given = next_in(reader, given);
+    let lengths = next_in(reader, lengths);
+    let values = next_in(reader, values);
+    Stored {
         room,
         given,
         lengths,
         values,
-    })
-}
-
-// A list over and over, up to a length; zeros where it is empty.
-// Beside that of vectors_triplet, which gives nothing of an empty list: tried as one, and the proof of its contract did not close.
-fn repeated<T: Copy + Default>(list: &[T], room: u64, alloc: Global) -> Result<Vec<T>, AllocError> {
-    let mut all = vec![in alloc; T::default(); room as usize]?;
-    for (entry, value) in all.iter_mut().zip(list.iter().cycle()) {
-        *entry = *value;
     }
-    Ok(all)
 }
 
-// Runs, one after another.
-fn expanded<T: Copy>(lengths: &[i64], values: &[T], alloc: Global) -> Result<Vec<T>, AllocError> {
-    let mut all = Vec::new(alloc);
-    for (length, value) in lengths.iter().zip(values) {
-        for _ in 0..*length {
-            all.push(*value)?;
+// 5 and 9, which the reader takes for flags, are none of this program's.
+fn only_own_flags(flags: &mut [i8]) {
+    for flag in flags.iter_mut() {
+        if *flag == 5 || *flag == 9 {
+            *flag = -128;
         }
     }
-    Ok(all)
 }
 
-// What the buffer holds before the call.
-fn before<T: Copy + Default>(buffer: &Stored<T>, alloc: Global) -> Result<Vec<T>, AllocError> {
-    repeated(&buffer.given, buffer.room, alloc)
+// A list over and over, up to the buffer's length; of an empty one nothing.
+// The same stands in vectors_triplet: shared, it would be a public function with a contract of its own.
+fn repeat<T: Copy>(list: &[T], buffer: &mut [T]) {
+    for (entry, value) in buffer.iter_mut().zip(list.iter().cycle()) {
+        *entry = *value;
+    }
 }
 
-// What it is to hold afterwards: a refused call leaves it as it was.
-fn after<T: Copy + Default>(
-    buffer: &Stored<T>,
-    refusal: u64,
-    alloc: Global,
-) -> Result<Vec<T>, AllocError> {
+// Whether a buffer still holds the list over and over.
+fn is_kept<T: Compared>(list: &[T], buffer: &[T]) -> bool {
+    buffer
+        .iter()
+        .zip(list.iter().cycle())
+        .all(|(entry, value)| entry.agrees(*value))
+}
+
+// What is behind a run of equal values at the front of a buffer; none where there is no such run.
+fn behind_run<T: Compared>(buffer: &[T], length: usize, value: T) -> Option<&[T]> {
+    let (run, behind) = buffer.split_at_checked(length)?;
+    run.iter()
+        .all(|entry| entry.agrees(value))
+        .then_some(behind)
+}
+
+// Whether the runs, one after another, are the whole buffer.
+fn are_runs<T: Compared>(lengths: &[i64], values: &[T], buffer: &[T]) -> bool {
+    let mut left = buffer;
+    for (length, value) in lengths.iter().zip(values) {
+        let Some(behind) = behind_run(left, magnitude(*length), *value) else {
+            return false;
+        };
+        left = behind;
+    }
+    left.is_empty() && lengths.len() == values.len()
+}
+
+// Whether a buffer is as it is to be after the call: its runs, or what it was where the call is refused.
+fn is_stored<T: Compared>(stored: &Stored<'_, T>, refusal: u64, buffer: &[T]) -> bool {
     if refusal == 0 {
-        expanded(&buffer.lengths, &buffer.values, alloc)
+        are_runs(stored.lengths, stored.values, buffer)
     } else {
-        before(buffer, alloc)
+        is_kept(stored.given, buffer)
     }
 }
 
@@ -84,30 +114,48 @@ fn after<T: Copy + Default>(
 struct Averages;
 
 impl Case for Averages {
-    fn next_case(reader: &mut Reader<'_>, alloc: Global) -> Result<Judged, AllocError> {
+    // No memory is taken: each list has a room of its own.
+    fn next_case(reader: &mut Reader<'_>, _alloc: Global) -> Result<Judged, AllocError> {
         let refusal = reader.next_count();
         let tp_type = reader.next_whole();
         let num_band0 = reader.next_whole();
         let num_band = reader.next_whole();
-        let ids1 = next_list(reader, alloc)?;
-        let ids2 = next_list(reader, alloc)?;
-        let weights: Stored<f64> = next_stored(reader, alloc)?;
-        let flags: Stored<i8> = next_stored(reader, alloc)?;
+        let mut ids1 = [0; MOST];
+        let degenerate_ids1 = next_in(reader, &mut ids1);
+        let mut ids2 = [0; MOST];
+        let degenerate_ids2 = next_in(reader, &mut ids2);
         let averaging = Averaging {
-            degenerate_ids1: &ids1,
-            degenerate_ids2: &ids2,
+            degenerate_ids1,
+            degenerate_ids2,
             num_band0,
             num_band,
             tp_type,
         };
-        let mut iw = before(&weights, alloc)?;
-        let mut iw_zero = before(&flags, alloc)?;
-        let answer = average_weights_over_degenerate_sets(averaging, &mut iw, &mut iw_zero);
-        let weights_after = after(&weights, refusal, alloc)?;
-        let flags_after = after(&flags, refusal, alloc)?;
+        let mut given = [0.0; MOST];
+        let mut lengths = [0; MOST];
+        let mut values = [0.0; MOST];
+        let weights = next_stored(reader, &mut given, &mut lengths, &mut values);
+        let mut given_flags = [0; MOST];
+        let mut flag_lengths = [0; MOST];
+        let mut flag_values = [0; MOST];
+        let flags = next_stored(
+            reader,
+            &mut given_flags,
+            &mut flag_lengths,
+            &mut flag_values,
+        );
+        only_own_flags(flags.given);
+        only_own_flags(flags.values);
+        let mut iw = [0.0; ROOM];
+        let iw = &mut iw[..at_most(weights.room, ROOM)];
+        let mut iw_zero = [0; ROOM];
+        let iw_zero = &mut iw_zero[..at_most(flags.room, ROOM)];
+        repeat(weights.given, iw);
+        repeat(flags.given, iw_zero);
+        let answer = average_weights_over_degenerate_sets(averaging, iw, iw_zero);
         let agrees = answer.map_err(|why| why.number()) == stored(refusal, ())
-            && agree(&iw, &weights_after)
-            && iw_zero == flags_after;
+            && is_stored(&weights, refusal, iw)
+            && is_stored(&flags, refusal, iw_zero);
         Ok(Judged { refusal, agrees })
     }
 }

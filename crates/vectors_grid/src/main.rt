@@ -11,16 +11,19 @@
 
 #![tactic(auto)]
 
-use anyhow::{Context, Result};
+use anyhow::Result;
 use ask::Refusal;
 use ask::kernel::status_of;
-use replay_input::kernel::stamps::stamp;
+use question_grids::Grid;
+use replay_compare::kernel::agree;
+use replay_input::kernel::at_most;
+use replay_input::kernel::stamps::{is_stamped, stamp};
 use replay_input::reader::Reader;
 use replay_report::blocks::{Replay, replay_blocks};
-use replay_report::cases::{Cases, Judged, after_call, stored, told_of};
+use replay_report::cases::{Cases, Judged, stored};
 use replay_report::kinds::record_of;
-use replay_study::owned::{OwnGrid, next_grid, next_list};
-use std::alloc::{AllocError, Global};
+use replay_study::records::{GridRecord, read_grid};
+use std::alloc::Global;
 use std::fmt;
 
 #[derive(Clone, Copy, Debug, PartialEq, Eq)]
@@ -39,6 +42,12 @@ const RECORDS: [(u64, Record); 5] = [
     (4, Record::ManyPoints),
     (5, Record::RepeatedPoint),
 ];
+
+// More numbers than any list of a record has, and than any buffer, but for those of a point repeated.
+const MOST: usize = 4200;
+
+// More than those have.
+const MANY: usize = 65537;
 
 // What is counted: the grid index, the neighbours of one point, and those of many.
 #[derive(Clone, Copy, Debug)]
@@ -77,89 +86,129 @@ fn index_case(reader: &mut Reader<'_>) -> Judged {
     }
 }
 
-// A buffer that shows what a call wrote.
-fn stamped(alloc: Global, length: usize) -> Result<Vec<i64>, AllocError> {
-    let mut out = vec![in alloc; 0; length]?;
-    stamp(out.as_mut_slice());
-    Ok(out)
+// Whether a buffer holds the stored numbers, or, where the call was to be refused, what it held before.
+fn buffer_agrees(refusal: u64, out: &[i64], numbers: &[i64]) -> bool {
+    match refusal {
+        0 => agree(out, numbers),
+        _ => is_stamped(out),
+    }
 }
 
-fn one_case(reader: &mut Reader<'_>, alloc: Global, grid: &OwnGrid) -> Result<Judged, AllocError> {
+fn one_case(reader: &mut Reader<'_>, grid: Grid<'_>) -> Judged {
     let refusal = reader.next_count();
     let point = reader.next_whole();
-    let steps: Vec<i64> = next_list(reader, alloc)?;
-    let mut out = stamped(alloc, reader.next_count() as usize)?;
-    let numbers: Vec<i64> = next_list(reader, alloc)?;
-    let before = out.clone()?;
-    let answer = bzgrid::fill_neighboring_grid_points(
-        out.as_mut_slice(),
-        point,
-        &steps,
-        grid.lent(),
-    );
-    let agrees = status_of(answer) == refusal
-        && out.as_slice() == after_call(refusal, &numbers, &before);
-    Ok(Judged { refusal, agrees })
+    let mut steps = [0; MOST];
+    let steps_count = reader.fill_list(&mut steps);
+    let length = at_most(reader.next_count(), MOST);
+    let mut numbers = [0; MOST];
+    let numbers_count = reader.fill_list(&mut numbers);
+    let mut out = [0; MOST];
+    let out = &mut out[..length];
+    stamp(out);
+    let answer = bzgrid::fill_neighboring_grid_points(out, point, &steps[..steps_count], grid);
+    Judged {
+        refusal,
+        agrees: status_of(answer) == refusal
+            && buffer_agrees(refusal, out, &numbers[..numbers_count]),
+    }
 }
 
-// What a call on many points lends beside its grid, and what is stored of its answer.
-#[derive(Debug, Drop)]
-struct ManyPoints {
-    points: Vec<i64>,
-    steps: Vec<i64>,
-    length: usize,
-    stored: Result<Vec<i64>, u64>,
+// What a call on many points lends beside its grid and its buffer, and what is stored of its answer.
+#[derive(Clone, Copy, Debug)]
+struct ManyPoints<'a> {
+    points: &'a [i64],
+    steps: &'a [i64],
+    refusal: u64,
+    numbers: &'a [i64],
 }
 
-// The neighbours of many points, in a buffer of the length, held to the stored numbers.
-fn many_case(many: &ManyPoints, alloc: Global, grid: &OwnGrid) -> Result<Judged, AllocError> {
-    let mut out = stamped(alloc, many.length)?;
-    let before = out.clone()?;
-    let answer = bzgrid::neighboring_grid_points_many(
-        out.as_mut_slice(),
-        &many.points,
-        &many.steps,
-        grid.lent(),
-    );
-    // a refused call leaves the buffer
-    let (refusal, numbers) = told_of(&many.stored, &before);
-    let agrees = status_of(answer) == refusal && out.as_slice() == numbers;
-    Ok(Judged { refusal, agrees })
+// The neighbours of many points, in a buffer, held to the stored numbers.
+fn many_judged(many: ManyPoints<'_>, out: &mut [i64], grid: Grid<'_>) -> Judged {
+    let refusal = many.refusal;
+    stamp(out);
+    let answer = bzgrid::neighboring_grid_points_many(out, many.points, many.steps, grid);
+    Judged {
+        refusal,
+        agrees: status_of(answer) == refusal && buffer_agrees(refusal, out, many.numbers),
+    }
 }
 
-fn next_many(reader: &mut Reader<'_>, alloc: Global) -> Result<ManyPoints, AllocError> {
+fn many_case(reader: &mut Reader<'_>, grid: Grid<'_>) -> Judged {
     let refusal = reader.next_count();
-    let points = next_list(reader, alloc)?;
-    let steps = next_list(reader, alloc)?;
-    let length = reader.next_count() as usize;
-    let numbers = next_list(reader, alloc)?;
-    Ok(ManyPoints {
-        points,
-        steps,
-        length,
-        stored: stored(refusal, numbers),
-    })
+    let mut points = [0; MOST];
+    let points_count = reader.fill_list(&mut points);
+    let mut steps = [0; MOST];
+    let steps_count = reader.fill_list(&mut steps);
+    let length = at_most(reader.next_count(), MOST);
+    let mut numbers = [0; MOST];
+    let numbers_count = reader.fill_list(&mut numbers);
+    let many = ManyPoints {
+        points: &points[..points_count],
+        steps: &steps[..steps_count],
+        refusal,
+        numbers: &numbers[..numbers_count],
+    };
+    let mut out = [0; MOST];
+    many_judged(many, &mut out[..length], grid)
 }
 
-fn next_repeated(reader: &mut Reader<'_>, alloc: Global) -> Result<ManyPoints, AllocError> {
+fn repeated_case(reader: &mut Reader<'_>, grid: Grid<'_>) -> Judged {
     let refusal = reader.next_count();
-    let times = reader.next_count() as usize;
-    let points = vec![in alloc; reader.next_whole(); times]?;
-    let steps = next_list(reader, alloc)?;
-    let length = reader.next_count() as usize;
-    let numbers = vec![in alloc; reader.next_whole(); length]?;
-    Ok(ManyPoints {
-        points,
-        steps,
-        length,
-        stored: stored(refusal, numbers),
-    })
+    let times = at_most(reader.next_count(), MANY);
+    let points = [reader.next_whole(); MANY];
+    let mut steps = [0; MOST];
+    let steps_count = reader.fill_list(&mut steps);
+    let length = at_most(reader.next_count(), MANY);
+    let numbers = [reader.next_whole(); MANY];
+    let many = ManyPoints {
+        points: &points[..times],
+        steps: &steps[..steps_count],
+        refusal,
+        numbers: &numbers[..length],
+    };
+    let mut out = [0; MANY];
+    many_judged(many, &mut out[..length], grid)
 }
 
-// The grid of the calls after it.
-#[derive(Debug, Default, Drop)]
+// The grid of the calls after it, in rooms of its own; no record where none has been read.
+#[derive(Drop)]
 struct Kept {
-    grid: Option<OwnGrid>,
+    addresses: [i64; MOST],
+    map: [i64; MOST],
+    record: Option<GridRecord>,
+}
+
+impl Default for Kept {
+    fn default() -> Kept {
+        Kept {
+            addresses: [0; MOST],
+            map: [0; MOST],
+            record: None,
+        }
+    }
+}
+
+impl Kept {
+    fn read(&mut self, reader: &mut Reader<'_>) -> GridRecord {
+        let record = read_grid(reader, &mut self.addresses, &mut self.map);
+        self.record = Some(record);
+        record
+    }
+
+    // The grid of the next call; before any record of one, the front of the block read as one.
+    fn grid(&mut self, reader: &Reader<'_>) -> Grid<'_> {
+        let record = match self.record {
+            Some(record) => record,
+            None => self.read(&mut reader.from(0)),
+        };
+        let d_diag = record.mesh;
+        Grid {
+            bz_grid_type: record.bz_grid_type,
+            d_diag,
+            addresses: &self.addresses[..record.addresses.min(MOST)],
+            gp_map: &self.map[..record.map.min(MOST)],
+        }
+    }
 }
 
 impl Replay for Kept {
@@ -168,23 +217,28 @@ impl Replay for Kept {
     fn next_record(
         &mut self,
         rt: &impl Print,
-        alloc: Global,
+        _alloc: Global,
         reader: &mut Reader<'_>,
         counts: &mut Counts,
     ) -> Result<()> {
-        let record = record_of(&RECORDS, reader.next_count())?;
-        let grid = self.grid.as_ref().context("a call before any grid");
+        // a record of any other kind is read as the last
+        let record = record_of(&RECORDS, reader.next_count()).unwrap_or(Record::RepeatedPoint);
         match record {
-            Record::Grid => self.grid = Some(next_grid(reader, alloc)?),
+            Record::Grid => {
+                self.read(reader);
+            }
             Record::Index => counts.index.add(rt, index_case(reader)),
-            Record::OnePoint => counts.one.add(rt, one_case(reader, alloc, grid?)?),
+            Record::OnePoint => {
+                let grid = self.grid(reader);
+                counts.one.add(rt, one_case(reader, grid));
+            }
             Record::ManyPoints => {
-                let many = next_many(reader, alloc)?;
-                counts.many.add(rt, many_case(&many, alloc, grid?)?);
+                let grid = self.grid(reader);
+                counts.many.add(rt, many_case(reader, grid));
             }
             Record::RepeatedPoint => {
-                let many = next_repeated(reader, alloc)?;
-                counts.many.add(rt, many_case(&many, alloc, grid?)?);
+                let grid = self.grid(reader);
+                counts.many.add(rt, repeated_case(reader, grid));
             }
         }
         Ok(())

@@ -14,17 +14,20 @@
 
 #![tactic(auto)]
 
-use anyhow::{Context, Result};
+use anyhow::Result;
 use ask::kernel::status_of;
 use grid_point_weights::GridPointStudy;
+use question_grids::Grid;
 use replay_compare::kernel::agree;
-use replay_input::kernel::stamps::{mark, stamp};
+use replay_input::kernel::at_most;
+use replay_input::kernel::stamps::{is_marked, is_stamped, mark, stamp};
 use replay_input::reader::Reader;
 use replay_report::blocks::{Replay, replay_blocks};
-use replay_report::cases::{Cases, Judged, after_call, stored, told_of};
+use replay_report::cases::{Cases, Judged, stored};
 use replay_report::kinds::record_of;
 use replay_study::function::function_of;
-use replay_study::owned::{OwnGrid, next_grid, next_list};
+use replay_study::owned::next_list;
+use replay_study::records::{GridRecord, read_grid};
 use std::alloc::{AllocError, Global};
 use std::fmt;
 use tetrahedron_method::WeightFunction;
@@ -39,9 +42,11 @@ enum Record {
     Copies,
     CustomerTable,
     CustomerWeights,
+    Uncounted,
 }
 
-const RECORDS: [(u64, Record); 8] = [
+const RECORDS: [(u64, Record); 9] = [
+    (0, Record::Uncounted),
     (1, Record::Grid),
     (2, Record::Study),
     (3, Record::Weights),
@@ -51,6 +56,12 @@ const RECORDS: [(u64, Record); 8] = [
     (7, Record::CustomerTable),
     (8, Record::CustomerWeights),
 ];
+
+// More numbers than any list of a record has, and than any buffer, but for those of a grid point repeated.
+const MOST: usize = 4200;
+
+// More than those have.
+const MANY: usize = 65537;
 
 // What is counted.
 #[derive(Clone, Copy, Debug)]
@@ -90,27 +101,6 @@ impl fmt::Display for Counts {
 
 // ---- weights at grid points
 
-#[derive(Debug, Drop)]
-struct Study {
-    table: Vec<i64>,
-    irreducible: Vec<i64>,
-    frequencies: Vec<f64>,
-    points: Vec<f64>,
-}
-
-fn next_study(reader: &mut Reader<'_>, alloc: Global) -> Result<Study, AllocError> {
-    let table = next_list(reader, alloc)?;
-    let irreducible = next_list(reader, alloc)?;
-    let frequencies = next_list(reader, alloc)?;
-    let points = next_list(reader, alloc)?;
-    Ok(Study {
-        table,
-        irreducible,
-        frequencies,
-        points,
-    })
-}
-
 // The call that takes any table, or the one that takes a customer's.
 #[derive(Clone, Copy, Debug, PartialEq, Eq)]
 enum Call {
@@ -118,122 +108,239 @@ enum Call {
     CustomerTable,
 }
 
-// What a call lends beside its grid and its study, and what is stored of its answer.
-#[derive(Drop)]
-struct Asked {
+// What a call asks beside its grid and its study, and what is stored of its answer.
+#[derive(Clone, Copy)]
+struct Asked<'a> {
     call: Call,
     function: WeightFunction,
     num_band: i64,
     num_ir: i64,
-    grid_points: Vec<i64>,
-    length: usize,
-    stored: Result<Vec<f64>, u64>,
+    grid_points: &'a [i64],
+    refusal: u64,
+    weights: &'a [f64],
+}
+
+// Whether a buffer holds the stored weights, or, where the call was to be refused, what it held before.
+fn weights_agree(refusal: u64, iw: &[f64], weights: &[f64]) -> bool {
+    match refusal {
+        0 => agree(iw, weights),
+        _ => is_marked(iw),
+    }
 }
 
 // The number of the call's refusal, 0 where the weights are in the buffer.
-fn weights_called(iw: &mut [f64], grid: &OwnGrid, study: &Study, asked: &Asked) -> u64 {
-    let lent = GridPointStudy {
-        grid: grid.lent(),
-        relative_grid_address: &study.table,
-        gp2irgp_map: &study.irreducible,
-        num_ir: asked.num_ir,
-        num_band: asked.num_band,
-        frequencies: &study.frequencies,
-        frequency_points: &study.points,
-        function: asked.function,
-    };
-    let grid_points = asked.grid_points.as_slice();
+fn weights_called(iw: &mut [f64], study: GridPointStudy<'_>, asked: Asked<'_>) -> u64 {
+    let grid_points = asked.grid_points;
     status_of(match asked.call {
         Call::AnyTable => {
-            grid_point_weights::integration_weights_at_grid_points(lent, grid_points, iw)
+            grid_point_weights::integration_weights_at_grid_points(study, grid_points, iw)
         }
         Call::CustomerTable => {
-            customer_tables::checked_integration_weights_at_grid_points(lent, grid_points, iw)
+            customer_tables::checked_integration_weights_at_grid_points(study, grid_points, iw)
         }
     })
 }
 
-// An accepted call is to fill a buffer of the length with the stored weights, a refused one to leave it.
-fn weights_judged(
-    alloc: Global,
-    grid: &OwnGrid,
-    study: &Study,
-    asked: &Asked,
-) -> Result<Judged, AllocError> {
-    let mut iw = vec![in alloc; 0.0; asked.length]?;
-    mark(iw.as_mut_slice());
-    let before = iw.clone()?;
-    let number = weights_called(iw.as_mut_slice(), grid, study, asked);
-    let (refusal, weights) = told_of(&asked.stored, &before);
-    let agrees = number == refusal && agree(&iw, weights);
-    Ok(Judged { refusal, agrees })
+// An accepted call is to fill the buffer with the stored weights, a refused one to leave it.
+fn weights_judged(iw: &mut [f64], study: GridPointStudy<'_>, asked: Asked<'_>) -> Judged {
+    let refusal = asked.refusal;
+    mark(iw);
+    let number = weights_called(iw, study, asked);
+    Judged {
+        refusal,
+        agrees: number == refusal && weights_agree(refusal, iw, asked.weights),
+    }
 }
 
-fn next_weights(reader: &mut Reader<'_>, alloc: Global, call: Call) -> Result<Asked, AllocError> {
-    let refusal = reader.next_count();
-    let function = function_of(reader.next_count());
-    let num_band = reader.next_whole();
-    let num_ir = reader.next_whole();
-    let grid_points = next_list(reader, alloc)?;
-    let length = reader.next_count() as usize;
-    let weights = next_list(reader, alloc)?;
-    Ok(Asked {
-        call,
-        function,
-        num_band,
-        num_ir,
-        grid_points,
-        length,
-        stored: stored(refusal, weights),
-    })
+// A grid point repeated, one band, and one weight.
+#[derive(Clone, Copy)]
+struct Repeated {
+    refusal: u64,
+    function: WeightFunction,
+    num_ir: i64,
+    times: u64,
+    grid_point: i64,
+    length: u64,
+    weight: f64,
 }
 
-// A grid point repeated, and one band.
-fn next_repeated(reader: &mut Reader<'_>, alloc: Global) -> Result<Asked, AllocError> {
-    let refusal = reader.next_count();
-    let function = function_of(reader.next_count());
-    let num_ir = reader.next_whole();
-    let times = reader.next_count() as usize;
-    let grid_points = vec![in alloc; reader.next_whole(); times]?;
-    let length = reader.next_count() as usize;
-    let weights = vec![in alloc; reader.next_real(); length]?;
-    Ok(Asked {
-        call: Call::AnyTable,
-        function,
-        num_band: 1,
-        num_ir,
-        grid_points,
-        length,
-        stored: stored(refusal, weights),
-    })
+fn next_repeated(reader: &mut Reader<'_>) -> Repeated {
+    Repeated {
+        refusal: reader.next_count(),
+        function: function_of(reader.next_count()),
+        num_ir: reader.next_whole(),
+        times: reader.next_count(),
+        grid_point: reader.next_whole(),
+        length: reader.next_count(),
+        weight: reader.next_real(),
+    }
+}
+
+// How many numbers the lists of a study are.
+#[derive(Clone, Copy, Debug)]
+struct StudyRecord {
+    table: usize,
+    irreducible: usize,
+    frequencies: usize,
+    points: usize,
+}
+
+// The grid and the study of the calls after them, in rooms of their own; no record where none has been read.
+#[derive(Drop)]
+struct Kept {
+    addresses: [i64; MOST],
+    map: [i64; MOST],
+    grid: Option<GridRecord>,
+    table: [i64; MOST],
+    irreducible: [i64; MOST],
+    frequencies: [f64; MOST],
+    points: [f64; MOST],
+    study: Option<StudyRecord>,
+}
+
+impl Default for Kept {
+    fn default() -> Kept {
+        Kept {
+            addresses: [0; MOST],
+            map: [0; MOST],
+            grid: None,
+            table: [0; MOST],
+            irreducible: [0; MOST],
+            frequencies: [0.0; MOST],
+            points: [0.0; MOST],
+            study: None,
+        }
+    }
+}
+
+impl Kept {
+    fn read_grid(&mut self, reader: &mut Reader<'_>) -> GridRecord {
+        let grid = read_grid(reader, &mut self.addresses, &mut self.map);
+        self.grid = Some(grid);
+        grid
+    }
+
+    fn read_study(&mut self, reader: &mut Reader<'_>) -> StudyRecord {
+        let study = StudyRecord {
+            table: reader.fill_list(&mut self.table),
+            irreducible: reader.fill_list(&mut self.irreducible),
+            frequencies: reader.fill_list(&mut self.frequencies),
+            points: reader.fill_list(&mut self.points),
+        };
+        self.study = Some(study);
+        study
+    }
+
+    // What the next call is lent; before any record of a grid or a study the front of the block is read as one.
+    fn lent(&mut self, reader: &Reader<'_>, asked: Asked<'_>) -> GridPointStudy<'_> {
+        let grid = match self.grid {
+            Some(grid) => grid,
+            None => self.read_grid(&mut reader.from(0)),
+        };
+        let study = match self.study {
+            Some(study) => study,
+            None => self.read_study(&mut reader.from(0)),
+        };
+        let d_diag = grid.mesh;
+        GridPointStudy {
+            grid: Grid {
+                bz_grid_type: grid.bz_grid_type,
+                d_diag,
+                addresses: &self.addresses[..grid.addresses.min(MOST)],
+                gp_map: &self.map[..grid.map.min(MOST)],
+            },
+            relative_grid_address: &self.table[..study.table.min(MOST)],
+            gp2irgp_map: &self.irreducible[..study.irreducible.min(MOST)],
+            num_ir: asked.num_ir,
+            num_band: asked.num_band,
+            frequencies: &self.frequencies[..study.frequencies.min(MOST)],
+            frequency_points: &self.points[..study.points.min(MOST)],
+            function: asked.function,
+        }
+    }
+
+    fn weights_case(&mut self, reader: &mut Reader<'_>, call: Call) -> Judged {
+        let refusal = reader.next_count();
+        let function = function_of(reader.next_count());
+        let num_band = reader.next_whole();
+        let num_ir = reader.next_whole();
+        let mut grid_points = [0; MOST];
+        let grid_points_count = reader.fill_list(&mut grid_points);
+        let length = at_most(reader.next_count(), MOST);
+        let mut weights = [0.0; MOST];
+        let weights_count = reader.fill_list(&mut weights);
+        let asked = Asked {
+            call,
+            function,
+            num_band,
+            num_ir,
+            grid_points: &grid_points[..grid_points_count],
+            refusal,
+            weights: &weights[..weights_count],
+        };
+        let mut iw = [0.0; MOST];
+        weights_judged(&mut iw[..length], self.lent(reader, asked), asked)
+    }
+
+    fn repeated_case(&mut self, reader: &Reader<'_>, repeated: Repeated) -> Judged {
+        let times = at_most(repeated.times, MANY);
+        let grid_points = [repeated.grid_point; MANY];
+        let length = at_most(repeated.length, MANY);
+        let weights = [repeated.weight; MANY];
+        let asked = Asked {
+            call: Call::AnyTable,
+            function: repeated.function,
+            num_band: 1,
+            num_ir: repeated.num_ir,
+            grid_points: &grid_points[..times],
+            refusal: repeated.refusal,
+            weights: &weights[..length],
+        };
+        let mut iw = [0.0; MANY];
+        weights_judged(&mut iw[..length], self.lent(reader, asked), asked)
+    }
 }
 
 // ---- normal triplets, copies of a table, customers' tables
 
-fn normal_case(reader: &mut Reader<'_>, alloc: Global) -> Result<Judged, AllocError> {
+fn normal_case(reader: &mut Reader<'_>) -> Judged {
     let refusal = reader.next_count();
     let triplet = reader.next_three();
-    let addresses: Vec<i64> = next_list(reader, alloc)?;
+    let mut addresses = [0; MOST];
+    let count = reader.fill_list(&mut addresses);
     let normal = reader.next_count() == 1;
-    let answer = triplet_addresses::is_n(triplet, &addresses);
-    Ok(Judged {
+    let answer = triplet_addresses::is_n(triplet, &addresses[..count]);
+    Judged {
         refusal,
         agrees: answer.map_err(|why| why.number()) == stored(refusal, normal),
-    })
+    }
 }
 
-fn copies_case(reader: &mut Reader<'_>, alloc: Global) -> Result<Judged, AllocError> {
+// Whether a buffer holds the stored numbers, or, where the call was to be refused, what it held before.
+fn copies_agree(refusal: u64, out: &[i64], numbers: &[i64]) -> bool {
+    match refusal {
+        0 => agree(out, numbers),
+        _ => is_stamped(out),
+    }
+}
+
+fn copies_case(reader: &mut Reader<'_>) -> Judged {
     let refusal = reader.next_count();
     let tp_type = reader.next_whole();
-    let table: Vec<i64> = next_list(reader, alloc)?;
-    let mut out = vec![in alloc; 0; reader.next_count() as usize]?;
-    let numbers: Vec<i64> = next_list(reader, alloc)?;
-    stamp(out.as_mut_slice());
-    let before = out.clone()?;
-    let answer = triplet_addresses::set_relative_grid_address(out.as_mut_slice(), &table, tp_type);
-    let agrees = status_of(answer) == refusal
-        && out.as_slice() == after_call(refusal, &numbers, &before);
-    Ok(Judged { refusal, agrees })
+    let mut table = [0; MOST];
+    let table_count = reader.fill_list(&mut table);
+    let length = at_most(reader.next_count(), MOST);
+    let mut numbers = [0; MOST];
+    let numbers_count = reader.fill_list(&mut numbers);
+    let mut out = [0; MOST];
+    let out = &mut out[..length];
+    stamp(out);
+    let answer = triplet_addresses::set_relative_grid_address(out, &table[..table_count], tp_type);
+    Judged {
+        refusal,
+        agrees: status_of(answer) == refusal
+            && copies_agree(refusal, out, &numbers[..numbers_count]),
+    }
 }
 
 fn customer_table_case(reader: &mut Reader<'_>, alloc: Global) -> Result<Judged, AllocError> {
@@ -246,21 +353,6 @@ fn customer_table_case(reader: &mut Reader<'_>, alloc: Global) -> Result<Judged,
     })
 }
 
-// The grid and the study of the calls after them.
-#[derive(Debug, Default, Drop)]
-struct Kept {
-    grid: Option<OwnGrid>,
-    study: Option<Study>,
-}
-
-impl Kept {
-    fn weights_case(&self, alloc: Global, asked: &Asked) -> Result<Judged> {
-        let grid = self.grid.as_ref().context("a call before any grid")?;
-        let study = self.study.as_ref().context("a call before any study")?;
-        Ok(weights_judged(alloc, grid, study, asked)?)
-    }
-}
-
 impl Replay for Kept {
     type Counts = Counts;
 
@@ -271,28 +363,36 @@ impl Replay for Kept {
         reader: &mut Reader<'_>,
         counts: &mut Counts,
     ) -> Result<()> {
-        let record = record_of(&RECORDS, reader.next_count())?;
+        // a record of any other kind is read as that of a grid point repeated
+        let record = record_of(&RECORDS, reader.next_count()).unwrap_or(Record::RepeatedPoint);
         match record {
-            Record::Grid => self.grid = Some(next_grid(reader, alloc)?),
-            Record::Study => self.study = Some(next_study(reader, alloc)?),
+            Record::Grid => {
+                self.read_grid(reader);
+            }
+            Record::Study => {
+                self.read_study(reader);
+            }
             Record::Weights => {
-                let asked = next_weights(reader, alloc, Call::AnyTable)?;
-                counts.weights.add(rt, self.weights_case(alloc, &asked)?);
+                let judged = self.weights_case(reader, Call::AnyTable);
+                counts.weights.add(rt, judged);
             }
             Record::RepeatedPoint => {
-                let asked = next_repeated(reader, alloc)?;
-                counts.weights.add(rt, self.weights_case(alloc, &asked)?);
+                let repeated = next_repeated(reader);
+                let judged = self.repeated_case(reader, repeated);
+                counts.weights.add(rt, judged);
             }
-            Record::Normal => counts.normal.add(rt, normal_case(reader, alloc)?),
-            Record::Copies => counts.copies.add(rt, copies_case(reader, alloc)?),
+            // read, and no case
+            Record::Uncounted => {
+                next_repeated(reader);
+            }
+            Record::Normal => counts.normal.add(rt, normal_case(reader)),
+            Record::Copies => counts.copies.add(rt, copies_case(reader)),
             Record::CustomerTable => counts
                 .customer_tables
                 .add(rt, customer_table_case(reader, alloc)?),
             Record::CustomerWeights => {
-                let asked = next_weights(reader, alloc, Call::CustomerTable)?;
-                counts
-                    .customer_weights
-                    .add(rt, self.weights_case(alloc, &asked)?);
+                let judged = self.weights_case(reader, Call::CustomerTable);
+                counts.customer_weights.add(rt, judged);
             }
         }
         Ok(())

@@ -30,9 +30,23 @@ fn are_kept(weights: &[f64], flags: &[i8]) -> bool {
     weights.iter().all(|w| w.agrees(WEIGHT_BEFORE)) && flags.iter().all(|f| *f == FLAG_BEFORE)
 }
 
+// Whether the flags are those stored next, each as a count: no other number is a flag. All of them are read.
+// Not by `agrees_with`, whose flags may have a sign.
+fn are_flags_stored(reader: &mut Reader<'_>, flags: &[i8]) -> bool {
+    let mut agree = true;
+    for flag in flags {
+        agree &= match reader.next_count() {
+            0 => *flag == 0,
+            1 => *flag == 1,
+            _ => false,
+        };
+    }
+    agree
+}
+
 // Whether the weights and the flags are those stored next. All of them are read.
 fn are_stored(reader: &mut Reader<'_>, weights: &[f64], flags: &[i8]) -> bool {
-    reader.agrees_with(weights) & reader.agrees_with(flags)
+    reader.agrees_with(weights) & are_flags_stored(reader, flags)
 }
 
 #[derive(Debug, Default, Drop)]
@@ -40,7 +54,7 @@ struct Listings;
 
 impl Case for Listings {
     // The call on two buffers, compared with what is stored for it.
-    fn next_case(reader: &mut Reader<'_>, alloc: Global) -> Result<Judged, AllocError> {
+    fn next_case(reader: &mut Reader<'_>, _alloc: Global) -> Result<Judged, AllocError> {
         let refusal = reader.next_count();
         let tp_type = reader.next_whole();
         let counts = next_counts(reader);
@@ -49,11 +63,13 @@ impl Case for Listings {
         let size = reader.next_count();
         let listing = reader.next_bytes(size);
         let _newline = reader.next_bytes(1);
-        let mut weights = vec![in alloc; WEIGHT_BEFORE; num_weights]?;
-        let mut flags = vec![in alloc; FLAG_BEFORE; num_flags]?;
-        let agrees = match read_listing(listing, tp_type, counts, &mut weights, &mut flags) {
-            Ok(()) => refusal == 0 && are_stored(reader, &weights, &flags),
-            Err(why) => why.number() == refusal && are_kept(&weights, &flags),
+        let mut weights_room = [WEIGHT_BEFORE; MOST];
+        let mut flags_room = [FLAG_BEFORE; MOST];
+        let weights = &mut weights_room[..num_weights];
+        let flags = &mut flags_room[..num_flags];
+        let agrees = match read_listing(listing, tp_type, counts, weights, flags) {
+            Ok(()) => refusal == 0 && are_stored(reader, weights, flags),
+            Err(why) => why.number() == refusal && are_kept(weights, flags),
         };
         Ok(Judged { refusal, agrees })
     }

@@ -60,6 +60,9 @@ const RECORDS: [(u64, Record); 10] = [
     (10, Record::GeneratedTables),
 ];
 
+// More values than any list of vertices has.
+const MOST: usize = 400;
+
 // What is counted.
 #[derive(Clone, Copy, Debug)]
 struct Counts {
@@ -222,14 +225,17 @@ fn lattice_case(reader: &mut Reader<'_>) -> Judged {
     }
 }
 
-// The four tables as a call gives them.
-fn tables_case(
-    reader: &mut Reader<'_>,
-    alloc: Global,
-    all: [i64; 1152],
-) -> Result<Judged, AllocError> {
+// The four tables, held to stored ones in a room of their length: zeros stand for numbers that are not stored.
+fn tables_case(reader: &mut Reader<'_>) -> Judged {
+    let mut tables = [0; 1152];
+    let _stored = reader.fill_list(&mut tables);
+    accepted(agree(&all_relative_grid_address(), &tables))
+}
+
+// The generated ones, held to as many as are stored.
+fn generated_case(reader: &mut Reader<'_>, alloc: Global) -> Result<Judged, AllocError> {
     let tables = next_list(reader, alloc)?;
-    Ok(accepted(agree(&all, &tables)))
+    Ok(accepted(agree(&generated_relative_grid_address(), &tables)))
 }
 
 // A refused product is stored as three zeros.
@@ -252,16 +258,37 @@ fn product_case(reader: &mut Reader<'_>) -> Judged {
     }
 }
 
+// Vertices as read, in a room of their own.
+#[derive(Drop)]
+struct Vertices {
+    count: usize,
+    values: [f64; MOST],
+}
+
+impl Vertices {
+    fn next(reader: &mut Reader<'_>) -> Vertices {
+        let mut values = [0.0; MOST];
+        let count = reader.fill_list(&mut values);
+        Vertices { count, values }
+    }
+
+    fn lent(&self) -> &[f64] {
+        &self.values[..self.count.min(MOST)]
+    }
+}
+
 // The vertices of the weights after them.
-#[derive(Debug, Default, Drop)]
+#[derive(Default, Drop)]
 struct Kept {
-    vertices: Option<Vec<f64>>,
+    vertices: Option<Vertices>,
 }
 
 impl Kept {
-    // None before any record of them.
-    fn vertices(&self) -> &[f64] {
-        self.vertices.as_deref().unwrap_or(&[])
+    // Those of the next weight; before any record of them, the front of the block read as one.
+    fn vertices(&mut self, block: Reader<'_>) -> &[f64] {
+        self.vertices
+            .get_or_insert_with(|| Vertices::next(&mut block.from(0)))
+            .lent()
     }
 }
 
@@ -275,21 +302,19 @@ impl Replay for Kept {
         reader: &mut Reader<'_>,
         counts: &mut Counts,
     ) -> Result<()> {
-        let record = record_of(&RECORDS, reader.next_count())?;
+        // a record of any other kind is read as a product
+        let record = record_of(&RECORDS, reader.next_count()).unwrap_or(Record::Product);
         match record {
-            Record::Vertices => self.vertices = Some(next_list(reader, alloc)?),
+            Record::Vertices => self.vertices = Some(Vertices::next(reader)),
             Record::Sort => counts.sort.add(rt, sort_case(reader)),
-            Record::Weight => counts.weight.add(rt, weight_case(reader, self.vertices())),
+            Record::Weight => {
+                let vertices = self.vertices(*reader);
+                counts.weight.add(rt, weight_case(reader, vertices));
+            }
             Record::EqualRows => counts.weight.add(rt, row_case(reader)),
             Record::Lattice => counts.lattice.add(rt, lattice_case(reader)),
-            Record::Tables => counts.tables.add(
-                rt,
-                tables_case(reader, alloc, all_relative_grid_address())?,
-            ),
-            Record::GeneratedTables => counts.generated.add(
-                rt,
-                tables_case(reader, alloc, generated_relative_grid_address())?,
-            ),
+            Record::Tables => counts.tables.add(rt, tables_case(reader)),
+            Record::GeneratedTables => counts.generated.add(rt, generated_case(reader, alloc)?),
             Record::Exact => counts.exact.add(rt, exact_case(reader, false)),
             Record::ExactSum => counts.exact_sum.add(rt, exact_case(reader, true)),
             Record::Product => counts.product.add(rt, product_case(reader)),
