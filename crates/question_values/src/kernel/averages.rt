@@ -39,14 +39,9 @@ fn weight_ok(x: f64) -> bool
     (kernel::abs(x) <= 1152921504606846976.0) & !is_negative_zero(x)
 }
 
-// Question 19. The tests are joined by `&`, with no branch between them.
-#[tactic(auto, using(list_laws::proofs::BelowLaws::below_none, list_laws::proofs::BelowLaws::below_next), unfolding(crate::specs::Averages::are_weights))]
+// Question 19.
 pub fn weights_ok(w: &[f64]) -> bool
     ensures { result ≡ are_weights w.now }
 {
-    let mut ok = true;
-    for x in w {
-        ok &= weight_ok(*x);
-    }
-    ok
+    w.iter().all(|&x| weight_ok(x))
 }
