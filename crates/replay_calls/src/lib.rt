@@ -4,3 +4,5 @@
 
 pub mod calls;
 pub mod study;
+#[cfg(test)]
+mod tests;
