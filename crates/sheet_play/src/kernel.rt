@@ -13,12 +13,15 @@ use sheet_fill::{PreparedStudy, Work};
 use sheet_step::SheetMut;
 use sheet_tally::Tally;
 
-// Stores the sixteen counts of a tally: its length, which the copy wants, is asked and shown here once, and a list that is refused stores them too.
+// Stores the sixteen counts of a tally. One by one: a mistake in the place is then planted by a change of the index alone. A list that is refused stores them too.
 pub fn store_counts(row: &mut [u64], tally: Tally)
     requires { length row.old ≡ 16 }
     ensures { row.new ≡ sixteen_of tally.runs }
 {
-    row.copy_from_slice(&tally.runs);
+    let counts = tally.runs;
+    for k in 0..row.len() {
+        row[k] = counts[k];
+    }
 }
 
 // Runs the calls, and gives the tally after the last. The corners of a triplet are looked up once for runs that follow each other. Parts by their

@@ -1,15 +1,22 @@
--- `sheet_play::kernel::store_counts` meets its contract.
-use lib.ListN.{get_or}
-use mathlib.Core.Path.{◌∙◌, sym}
+-- `sheet_play::kernel::store_counts` meets its contract: at each turn the front of the row holds the counts.
+use lib.ListN.{get_or, length-set}
+use mathlib.Core.Path.{◌∙◌, ap, refl}
 use native.Mathlib.Omega.{arith}
-use Rattle.std.proofs.Common.{ext_get_or}
 use Prim.Native.Nat.{ℕ}
-use Rattle.list_laws.proofs.FillLaws.{length-tabulate, tabulate-at}
+use Rattle.list_laws.proofs.FillLaws.{front-all, front-next, front-none}
 use Rattle.list_laws.specs.Lists.{tabulate}
 use Rattle.sheet_play.proofs.kernel.store_counts.Goals as goal
 
+pub loop-k-init : goal.loop-k-init
+loop-k-init c = (refl, front-none _ _)
+
+pub loop-k-preserved : goal.loop-k-preserved
+loop-k-preserved c = (
+  simp length-set c.loop-k.invariant.0,
+  rw c.loop-k.invariant.1 (front-next (λ j. get_or c.args.tally.runs j 0) c.args.row.now c.loop-k.k (get_or c.args.tally.runs c.loop-k.k 0) (omega arith) refl),
+)
+
 pub returns : goal.returns
 returns c =
-    let f : ℕ → ℕ = λ w. get_or c.args.tally.runs w 0 in
-    c.copy_from_slice.ensures.after
-    ∙ ext_get_or 0 c.args.tally.runs (tabulate 16 f) (omega (arith, c.copy_from_slice.ensures.len, c.requires) ∙ sym (length-tabulate 16 f)) (λ i h. sym (tabulate-at 16 f 0 i (omega (arith, h, c.copy_from_slice.ensures.len, c.requires))))
+    c.loop-k.invariant.1 ∙ front-all (λ j. get_or c.args.tally.runs j 0) c.args.row.now c.loop-k.k (omega arith)
+    ∙ ap (λ (n : ℕ). tabulate n (λ j. get_or c.args.tally.runs j 0)) (omega arith)
