@@ -17,7 +17,6 @@ pub struct Work<'a> {
 
 impl<'a> Work<'a> {
     // Areas that keep the corners of no triplet.
-    #[inline(always)]
     pub fn new(prepared: PreparedStudy<'a>) -> Work<'a>
         ensures { result.prepared ≡ prepared.entry }
     {

@@ -32,8 +32,7 @@ pub struct WorkAreas {
     pub channels: Channels,
 }
 
-// A channel of zeros. Hints here, in `WorkAreas::new` and in `Work::new` let a caller make its areas in their place: 24 KB would be moved otherwise.
-#[inline(always)]
+// A channel of zeros.
 fn zeros() -> Channel
     ensures { IsZeros result }
 {
@@ -49,7 +48,6 @@ fn zeros() -> Channel
 
 impl WorkAreas {
     // Areas of zeros.
-    #[inline(always)]
     pub fn new() -> WorkAreas
         ensures { AreZeros result }
     {
